@@ -1,0 +1,32 @@
+// Datagrams and the records that are handed out, in lent bytes. Their types; specs/ says what they mean.
+use store::{End, OtherHeight, OwnHeight, Timeout};
+
+// What the host says of the call: this ledger's height and time, the client's latest height of the other ledger,
+// the caller's port, and whether the connection is open.
+pub struct Context {
+    pub height: OwnHeight,
+    pub time: u64,
+    pub client: OtherHeight,
+    pub port: u16,
+    pub connected: bool,
+}
+
+pub struct Packet {
+    pub sequence: u64,
+    pub timeout: Timeout,
+    pub source: End,
+    pub destination: End,
+    pub digest: [u8; 32],
+}
+
+// What the host's light client found of the other ledger, at a block's height and time there.
+// Claim: 1 commitment present, 2 acknowledgement present, 3 receipt absent, 4 next receive equals the sequence.
+pub struct Verdict {
+    pub claim: u16,
+    pub height: OtherHeight,
+    pub time: u64,
+    pub end: End,
+    pub sequence: u64,
+    pub timeout: Timeout,
+    pub digest: [u8; 32],
+}

@@ -1,0 +1,7 @@
+pub mod Verdict
+pub mod Ordering
+pub mod Refusals
+pub mod Acceptance
+pub mod Call
+pub mod Cases
+pub mod Promise
