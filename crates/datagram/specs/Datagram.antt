@@ -37,23 +37,34 @@ kindIn d = field 4 2 d
 unfoldable pub contextIn : List ℕ → Context
 contextIn d =
     record {
-      height = ownHeight (field 6 8 d); time = field 14 8 d; client = otherHeight (field 22 8 d); port = field 30 2 d;
-      connected = eqb (getD d 32 0) 1 }
+      height = ownHeight (field 6 8 d);
+      time = field 14 8 d;
+      client = otherHeight (field 22 8 d);
+      port = field 30 2 d;
+      connected = eqb (getD d 32 0) 1;
+    }
 
 unfoldable pub packetIn : (from : ℕ) → List ℕ → Packet
 packetIn i d =
     record {
-      sequence = field i 8 d; timeout = record { height = field (i + 8) 8 d; time = field (i + 16) 8 d };
+      sequence = field i 8 d;
+      timeout = record { height = field (i + 8) 8 d; time = field (i + 16) 8 d };
       source = record { port = field (i + 24) 2 d; channel = field (i + 26) 4 d };
       destination = record { port = field (i + 30) 2 d; channel = field (i + 32) 4 d };
-      digest = part (i + 36) digestSize d }
+      digest = part (i + 36) digestSize d;
+    }
 
 unfoldable pub verdictIn : (from : ℕ) → List ℕ → Verdict
 verdictIn i d =
     record {
-      claim = field i 2 d; height = otherHeight (field (i + 2) 8 d); time = field (i + 10) 8 d;
-      end = record { port = field (i + 18) 2 d; channel = field (i + 20) 4 d }; sequence = field (i + 24) 8 d;
-      timeout = record { height = field (i + 32) 8 d; time = field (i + 40) 8 d }; digest = part (i + 48) digestSize d }
+      claim = field i 2 d;
+      height = otherHeight (field (i + 2) 8 d);
+      time = field (i + 10) 8 d;
+      end = record { port = field (i + 18) 2 d; channel = field (i + 20) 4 d };
+      sequence = field (i + 24) 8 d;
+      timeout = record { height = field (i + 32) 8 d; time = field (i + 40) 8 d };
+      digest = part (i + 48) digestSize d;
+    }
 
 -- THE BODY by kind
 -- 1: channel, timeouts, digest. 2 and 5: packet, verdict. 3: channel, sequence, digest. 4: packet, digest, verdict
@@ -98,8 +109,15 @@ pub record Datagram : Type 0 where
 unfoldable pub datagramIn : List ℕ → Datagram
 datagramIn d =
     record {
-      kind = kindIn d; context = contextIn d; channel = channelFrom (kindIn d) d; sequence = sequenceFrom d;
-      timeout = timeoutFrom d; packet = packetFrom d; digest = digestFrom (kindIn d) d; verdict = verdictFrom (kindIn d) d }
+      kind = kindIn d;
+      context = contextIn d;
+      channel = channelFrom (kindIn d) d;
+      sequence = sequenceFrom d;
+      timeout = timeoutFrom d;
+      packet = packetFrom d;
+      digest = digestFrom (kindIn d) d;
+      verdict = verdictFrom (kindIn d) d;
+    }
 
 -- the kinds that carry a packet and a verdict
 unfoldable pub isProved : (kind : ℕ) → Bool

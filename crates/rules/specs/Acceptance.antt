@@ -27,12 +27,22 @@ effect c e bs = record { end = c; edit = e; emitted = bs }
 unfoldable pub sentPacket : Channel → Datagram → Packet
 sentPacket c d =
     record {
-      sequence = c .next .send; timeout = d .timeout; source = c .own; destination = c .counterparty; digest = d .digest }
+      sequence = c .next .send;
+      timeout = d .timeout;
+      source = c .own;
+      destination = c .counterparty;
+      digest = d .digest;
+    }
 
 unfoldable pub commitment : Packet → Record
 commitment p =
     record {
-      kind = 1; channel = p .source .channel; sequence = p .sequence; timeout = p .timeout; digest = p .digest }
+      kind = 1;
+      channel = p .source .channel;
+      sequence = p .sequence;
+      timeout = p .timeout;
+      digest = p .digest;
+    }
 
 unfoldable pub sends : Channel → Datagram → Effect
 sends c d =
@@ -46,7 +56,7 @@ receives c p = effect (receivedEnd c) (receivedEdit c (p .sequence)) (framed 0x0
 unfoldable pub writesAcknowledgement : Channel → (sequence : ℕ) → (digest : List ℕ) → Effect
 writesAcknowledgement c n a =
     effect c (writes (plainRecord 3 (c .own .channel) n a))
-      (framed 0x0103 (little 2 (c .own .port) ++ little 4 (c .own .channel) ++ little 8 n ++ a))
+    (framed 0x0103 (little 2 (c .own .port) ++ little 4 (c .own .channel) ++ little 8 n ++ a))
 
 -- ACKNOWLEDGE: the commitment becomes free; ordered, next acknowledge rises by 1
 unfoldable pub acknowledges : Channel → Packet → (digest : List ℕ) → Effect
@@ -74,4 +84,8 @@ edited (frees k) rs = remove k rs
 unfoldable pub applied : Store → Context → Effect → Store
 applied s x e =
     record {
-      height = x .height; time = x .time; channels = withChannel (e .end) (s .channels); records = edited (e .edit) (s .records) }
+      height = x .height;
+      time = x .time;
+      channels = withChannel (e .end) (s .channels);
+      records = edited (e .edit) (s .records);
+    }

@@ -142,12 +142,12 @@ pub record SamePacket (c e : Call) : Type 0 where
 -- the rules'; else nothing changed
 pub record Answered (c : Call) : Type 0 where
   pub accepts : (c .told .number ≡ 0) ↔
-    Every (λ l. given (datagramIn (c .datagram) .kind) l ≡ 0) (refusals (c .store) (length (c .output)) (c .datagram))
+      Every (λ l. given (datagramIn (c .datagram) .kind) l ≡ 0) (refusals (c .store) (length (c .output)) (c .datagram))
   pub store : c .told .number ≡ 0 → c .storeLeft ≡ bytesOf (nextStore (storeIn (c .store)) (datagramIn (c .datagram)))
   pub record′ : c .told .number ≡ 0 → emitted c ≡ effectIn (storeIn (c .store)) (datagramIn (c .datagram)) .emitted
   pub rest : c .told .number ≡ 0 → drop (c .told .size) (c .outputLeft) ≡ drop (c .told .size) (c .output)
   pub refuses : (c .told .number ≡ 0 → ⊥) →
-    (c .told .size ≡ 0) × (c .storeLeft ≡ c .store) × (c .outputLeft ≡ c .output)
+      (c .told .size ≡ 0) × (c .storeLeft ≡ c .store) × (c .outputLeft ≡ c .output)
 
 -- THE SUMS, for each end on its own store: sends are acknowledged, timed out, or commitments still in the table
 abbrev pub isBy : Side → (channel : ℕ) → (Call → Bool) → Call → Bool

@@ -58,8 +58,12 @@ goesBack s x =
 unfoldable pub noChannel : Channel
 noChannel =
     record {
-      state = 0; order = 0; own = record { port = 0; channel = 0 }; counterparty = record { port = 0; channel = 0 };
-      next = record { send = 0; receive = 0; acknowledge = 0 } }
+      state = 0;
+      order = 0;
+      own = record { port = 0; channel = 0 };
+      counterparty = record { port = 0; channel = 0 };
+      next = record { send = 0; receive = 0; acknowledge = 0 };
+    }
 
 abbrev pub orNone : Option Channel → Channel
 orNone none = noChannel

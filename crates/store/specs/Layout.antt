@@ -69,16 +69,22 @@ bytesOf s =
 unfoldable pub channelIn : List ℕ → Channel
 channelIn bs =
     record {
-      state = getD bs 2 0; order = getD bs 3 0;
+      state = getD bs 2 0;
+      order = getD bs 3 0;
       own = record { port = field 8 2 bs; channel = field 4 4 bs };
       counterparty = record { port = field 10 2 bs; channel = field 12 4 bs };
-      next = record { send = field 16 8 bs; receive = field 24 8 bs; acknowledge = field 32 8 bs } }
+      next = record { send = field 16 8 bs; receive = field 24 8 bs; acknowledge = field 32 8 bs };
+    }
 
 unfoldable pub recordIn : List ℕ → Record
 recordIn bs =
     record {
-      kind = field 0 2 bs; channel = field 4 4 bs; sequence = field 8 8 bs;
-      timeout = record { height = field 16 8 bs; time = field 24 8 bs }; digest = part 32 digestSize bs }
+      kind = field 0 2 bs;
+      channel = field 4 4 bs;
+      sequence = field 8 8 bs;
+      timeout = record { height = field 16 8 bs; time = field 24 8 bs };
+      digest = part 32 digestSize bs;
+    }
 
 unfoldable pub slotIn : {A : Type 0} → (List ℕ → A) → List ℕ → Option A
 slotIn f bs = pick (areZero bs) none (some (f bs))
@@ -89,6 +95,8 @@ tableIn f n bs = map (slotIn f) (pieces slotSize n bs)
 unfoldable pub storeIn : List ℕ → Store
 storeIn bs =
     record {
-      height = ownHeight (field 8 8 bs); time = field 16 8 bs;
+      height = ownHeight (field 8 8 bs);
+      time = field 16 8 bs;
       channels = tableIn channelIn channelLimit (drop headerSize bs);
-      records = tableIn recordIn (roomIn (length bs)) (drop recordsFrom bs) }
+      records = tableIn recordIn (roomIn (length bs)) (drop recordsFrom bs);
+    }

@@ -32,10 +32,12 @@ allOpeningsFit (o ∷ os) = openingFits o and allOpeningsFit os
 unfoldable pub openingOf : List ℕ → Channel
 openingOf o =
     record {
-      state = 3; order = getD o 18 0;
+      state = 3;
+      order = getD o 18 0;
       own = record { port = field 6 2 o; channel = field 8 4 o };
       counterparty = record { port = field 12 2 o; channel = field 14 4 o };
-      next = record { send = 1; receive = 1; acknowledge = 1 } }
+      next = record { send = 1; receive = 1; acknowledge = 1 };
+    }
 
 unfoldable pub endsOf : List ℕ → List (Option Channel)
 endsOf bs = map (λ o. some (openingOf o)) (openingsIn bs)
@@ -52,8 +54,11 @@ makeNumber n bs =
 unfoldable pub madeStore : (size : ℕ) → (openings : List ℕ) → Store
 madeStore n bs =
     record {
-      height = ownHeight 0; time = 0; channels = endsOf bs ++ replicate (channelLimit - length bs / openingSize) none;
-      records = replicate (roomIn n) none }
+      height = ownHeight 0;
+      time = 0;
+      channels = endsOf bs ++ replicate (channelLimit - length bs / openingSize) none;
+      records = replicate (roomIn n) none;
+    }
 
 -- what the maker answers, and what it leaves in the slice
 abbrev pub makeTold : (store openings : List ℕ) → ℕ

@@ -2,6 +2,7 @@
 
 // A height of this ledger, and a height of the other one. Neither can stand where the other is meant.
 pub struct OwnHeight(pub u64);
+
 pub struct OtherHeight(pub u64);
 
 // A port and a channel of it.
@@ -46,6 +47,8 @@ pub struct Store;
 
 impl Store {
     pub const CHANNELS: usize = 16;
+
     pub const RECORDS: usize = 512;
+
     pub const OUTPUT: usize = 106;
 }

@@ -6,7 +6,6 @@ use lib.Dec.{leb}
 
 infixl 30 _or_
 infixl 35 _and_
-
 unfoldable pub _and_ : Bool → Bool → Bool
 true and b = b
 false and b = false

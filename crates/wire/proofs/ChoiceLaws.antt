@@ -1,0 +1,54 @@
+-- Tests as facts. Assumes nothing.
+use mathlib.Core.Path.{_≡_, refl}
+use mathlib.Core.Bool.{Bool, true, false, not}
+use mathlib.Core.Option.{Option, none, some}
+use mathlib.Core.Logic.{_⊎_, inl, inr}
+use Prim.Native.Nat.{ℕ, suc}
+use native.Mathlib.Omega.{arith}
+use Rattle.wire.specs.Choice.{_and_, _or_, pick, isSome}
+
+pub and-both : {a b : Bool} → (a and b) ≡ true → (a ≡ true) × (b ≡ true)
+unfolding _and_
+and-both {a = true} {b} h = (refl, h)
+and-both {a = false} {b} h = (h, cc)
+
+pub both-and : {a b : Bool} → a ≡ true → b ≡ true → (a and b) ≡ true
+unfolding _and_
+both-and {a} {b} p q = cc
+
+pub or-either : {a b : Bool} → (a or b) ≡ true → (a ≡ true) ⊎ (b ≡ true)
+unfolding _or_
+or-either {a = true} {b} h = inl refl
+or-either {a = false} {b} h = inr h
+
+pub or-neither : {a b : Bool} → (a or b) ≡ false → (a ≡ false) × (b ≡ false)
+unfolding _or_
+or-neither {a = true} {b} h = (h, cc)
+or-neither {a = false} {b} h = (refl, h)
+
+pub clash {ℓ} : {A : Type ℓ} {b : Bool} → b ≡ true → b ≡ false → A
+clash {A} {b} p q =
+    let z : _≡_ {A = ℕ} 0 1 = cc in
+    absurd (omega arith)
+
+-- by the two values of a test, each with its equation
+pub cases : {A : Type 0} (b : Bool) → (b ≡ true → A) → (b ≡ false → A) → A
+cases true p q = p refl
+cases false p q = q refl
+
+-- of a choice, by its test
+pub of-pick : {A : Type 0} (P : A → Type 0) (b : Bool) (x y : A) → (b ≡ true → P x) → (b ≡ false → P y) → P (pick b x y)
+of-pick P true x y p q = p refl
+of-pick P false x y p q = q refl
+
+pub not-some : {A : Type 0} (x : Option A) → not (isSome x) ≡ true → x ≡ none
+not-some none h = refl
+not-some (some a) h = cc
+
+pub none-if : {A : Type 0} (x : Option A) → ((a : A) → x ≡ some a → ⊥) → x ≡ none
+none-if none h = refl
+none-if (some a) h = absurd (h a refl)
+
+pub some-if : {A : Type 0} (x : Option A) → isSome x ≡ true → (a : A) × (x ≡ some a)
+some-if none h = clash {b = false} h refl
+some-if (some a) h = (a, refl)
