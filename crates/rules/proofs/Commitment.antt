@@ -1,0 +1,169 @@
+-- One accepted call and the commitments: each stems from a send, a sequence that is used is never used again, and to
+-- finish a packet takes its commitment and removes it. Assumes nothing.
+use mathlib.Core.Path.{_≡_, refl, sym, ap, subst, _∙_}
+use mathlib.Core.Bool.{Bool, true, false}
+use mathlib.Core.List.{List}
+use mathlib.Core.Logic.{_⊎_, inl, inr, ⊎-elim}
+use mathlib.Core.Option.{Option, none, some}
+use Prim.Native.Nat.{ℕ, _+_, _≤_, _<_}
+use native.Mathlib.Omega.{arith}
+use lib.Dec.{eqb}
+use Rattle.wire.specs.Choice.{_and_, pick, isSome}
+use Rattle.wire.proofs.ChoiceLaws.{cases}
+use Rattle.store.specs.declared.Channel.{Channel}
+use Rattle.store.specs.declared.Record.{Record}
+use Rattle.store.specs.Table.{Key, commitmentKey, keyOf, lookup, remove, commitments, isCommitmentOn, channelAt}
+use Rattle.store.specs.Layout.{Store}
+use Rattle.store.proofs.RecordLaws.{Single, insert-from, remove-from, lookup-remove, commitments-insert, commitments-remove}
+use Rattle.store.proofs.FitRecordLaws.{committed-end}
+use Rattle.datagram.specs.Datagram.{Datagram}
+use Rattle.rules.specs.Ordering.{Edit, keeps, writes, frees, plainRecord, raisesReceive, receivedEdit}
+use Rattle.rules.specs.Refusals.{isCommitted}
+use Rattle.rules.specs.Acceptance.{Effect, sentPacket, commitment, sends, receives, writesAcknowledgement, acknowledges, timesOut, edited}
+use Rattle.rules.proofs.Step.{How, sending, receiving, writing, acknowledging, timing, Step, Grown, Later, Legal, keeping, adding, freeing, legal, single, later, records-left, own-number, own-found, committed-there}
+
+-- a sequence that was used: below next send of its end
+pub record Used (s : Store) (n m : ℕ) : Type 0 where
+  pub channel : Channel
+  pub found : channelAt n (s .channels) ≡ some channel
+  pub below : m < channel .next .send
+
+pub committed-used : (s : Store) (d : Datagram) (t : Store) (n m : ℕ) (r : Record) → Step s d t → lookup (commitmentKey n m) (s .records) ≡ some r → Used s n m
+committed-used s d t n m r st h =
+    let a = committed-end s n m r (st .fits) h in
+    record { channel = a .0; found = a .1; below = a .2 }
+
+-- an end that was there is there, grown
+pub later-some : (x y : Option Channel) (c : Channel) → Later x y → x ≡ some c → (e : Channel) × (y ≡ some e) × Grown c e
+later-some none y c l h = let z : _≡_ {A = ℕ} 0 1 = cc in absurd (omega arith)
+later-some (some a) none c l h = absurd l
+later-some (some a) (some e) c l h = let z : a ≡ c = cc in (e, refl, subst (λ (v : Channel). Grown v e) z l)
+
+pub used-stays : (s : Store) (d : Datagram) (t : Store) (n m : ℕ) → Step s d t → Used s n m → Used t n m
+used-stays s d t n m st u =
+    let l = later-some (channelAt n (s .channels)) (channelAt n (t .channels)) (u .channel) (later s d t st n) (u .found) in
+    let b = u .below in
+    let g = l .2 .send in
+    record { channel = l .0; found = l .1; below = omega arith }
+
+-- the one edit that writes a commitment is a send's
+written-by : (s : Store) (d : Datagram) (c : Channel) (e : Effect) (r : Record) → How s d c e → e .edit ≡ writes r → r .kind ≡ 1 →
+    (d .kind ≡ 1) × (r ≡ commitment (sentPacket c d))
+unfolding sends receives writesAcknowledgement acknowledges timesOut receivedEdit plainRecord
+written-by s d c e r (sending k ok) w h = (k, cc)
+written-by s d c e r (receiving k ok) w h =
+    let z : _≡_ {A = ℕ} 1 2 = cases (raisesReceive c) (λ q. cc) (λ q. cc) in
+    absurd (omega arith)
+written-by s d c e r (writing k ok) w h = let z : _≡_ {A = ℕ} 1 3 = cc in absurd (omega arith)
+written-by s d c e r (acknowledging k ok) w h = let z : _≡_ {A = ℕ} 1 2 = cc in absurd (omega arith)
+written-by s d c e r (timing k ok) w h = let z : _≡_ {A = ℕ} 1 2 = cc in absurd (omega arith)
+
+-- this call sent it
+pub record SentNow (d : Datagram) (c : Channel) (n m : ℕ) (r : Record) : Type 0 where
+  pub kind : d .kind ≡ 1
+  pub committed : r ≡ commitment (sentPacket c d)
+  pub channel : c .own .channel ≡ n
+  pub sequence : c .next .send ≡ m
+
+-- a commitment that is there was there, or this call sent it
+pub stems : (s : Store) (d : Datagram) (t : Store) (n m : ℕ) (r : Record) (st : Step s d t) → lookup (commitmentKey n m) (t .records) ≡ some r →
+    (lookup (commitmentKey n m) (s .records) ≡ some r) ⊎ SentNow d (st .channel) n m r
+unfolding edited commitment sentPacket
+stems s d t n m r st h =
+    go (st .effect .edit) refl (legal s d t st) (ap (λ (rs : List (Option Record)). lookup (commitmentKey n m) rs) (sym (records-left s d t st)) ∙ h)
+  where
+    go : (e : Edit) → st .effect .edit ≡ e → Legal (s .records) e → lookup (commitmentKey n m) (edited e (s .records)) ≡ some r →
+      (lookup (commitmentKey n m) (s .records) ≡ some r) ⊎ SentNow d (st .channel) n m r
+    go e w keeping l = inl l
+    go e w (adding {r = x} room new) l =
+        elim (insert-from (s .records) (single s d t st) x room new (commitmentKey n m) r l) [
+          inl q ↦
+            let k = q .0 in
+            let b = written-by s d (st .channel) (st .effect) x (st .how) w (ap (λ (y : Key). y .kind) k) in
+            let y = b .1 in
+            inr (record {
+              kind = b .0; committed = q .1 ∙ y; channel = ap (λ (v : Record). v .channel) (sym y) ∙ ap (λ (v : Key). v .channel) k;
+              sequence = ap (λ (v : Record). v .sequence) (sym y) ∙ ap (λ (v : Key). v .sequence) k })
+        | inr q ↦ inl q ]
+    go e w (freeing {c = c} {n = k} there) l = inl (remove-from (s .records) (single s d t st) (commitmentKey c k) (commitmentKey n m) r l)
+
+-- so a used sequence's commitment was there
+pub used-from : (s : Store) (d : Datagram) (t : Store) (n m : ℕ) (r : Record) → Step s d t → Used s n m → lookup (commitmentKey n m) (t .records) ≡ some r →
+    lookup (commitmentKey n m) (s .records) ≡ some r
+used-from s d t n m r st u h =
+    elim (stems s d t n m r st h) [
+      inl q ↦ q
+    | inr q ↦
+      let f = u .found in
+      let g : channelAt n (s .channels) ≡ some (st .channel) = ap (λ (k : ℕ). channelAt k (s .channels)) (sym (q .channel)) ∙ own-found s d t st in
+      let e : u .channel ≡ st .channel = cc in
+      let b : m < st .channel .next .send = subst (λ (c : Channel). m < c .next .send) e (u .below) in
+      let a = q .sequence in
+      absurd (omega arith) ]
+
+-- TO FINISH
+module _ (s : Store) (d : Datagram) (t : Store) (st : Step s d t) (k : (d .kind ≡ 4) ⊎ (d .kind ≡ 5)) where
+  abbrev key : Key
+  key = commitmentKey (d .packet .source .channel) (d .packet .sequence)
+
+  finishing : (isCommitted (s .records) (d .packet) ≡ true) × (st .effect .edit ≡ frees (commitmentKey (st .channel .own .channel) (d .packet .sequence)))
+  unfolding acknowledges timesOut
+  finishing = go (st .effect) (st .how)
+    where
+      not-k : (n : ℕ) → d .kind ≡ n → n < 4 → ⊥
+      not-k n e l = ⊎-elim (λ q. omega arith) (λ q. omega arith) k
+      go : (e : Effect) → How s d (st .channel) e →
+        (isCommitted (s .records) (d .packet) ≡ true) × (e .edit ≡ frees (commitmentKey (st .channel .own .channel) (d .packet .sequence)))
+      go e (sending q ok) = absurd (not-k 1 q (omega arith))
+      go e (receiving q ok) = absurd (not-k 2 q (omega arith))
+      go e (writing q ok) = absurd (not-k 3 q (omega arith))
+      go e (acknowledging q ok) = (ok .committed, refl)
+      go e (timing q ok) = (ok .committed, refl)
+
+  pub finish-source : st .channel .own .channel ≡ d .packet .source .channel
+  finish-source = own-number s d t st ∙ st .shape .fromSource k
+
+  -- the commitment was there
+  pub finish-needs : isSome (lookup key (s .records)) ≡ true
+  finish-needs = committed-there (s .records) (d .packet) (finishing .0)
+
+  pub finish-left : t .records ≡ remove key (s .records)
+  unfolding edited
+  finish-left =
+      records-left s d t st ∙ ap (λ (e : Edit). edited e (s .records)) (finishing .1) ∙
+      ap (λ (n : ℕ). remove (commitmentKey n (d .packet .sequence)) (s .records)) finish-source
+
+  -- and is gone
+  pub finish-removes : lookup key (t .records) ≡ none
+  finish-removes = ap (λ (rs : List (Option Record)). lookup key rs) finish-left ∙ lookup-remove (s .records) (single s d t st) key
+
+-- THE SUM: what a call adds to and takes from the commitments of a channel
+wrote : (rs : List (Option Record)) (r : Record) → Single rs → Legal rs (writes r) → (n : ℕ) →
+    commitments n (edited (writes r) rs) ≡ pick (isCommitmentOn n r) 1 0 + commitments n rs
+unfolding edited
+wrote rs r s (adding room new) n = commitments-insert rs s r room new n
+
+module _ (s : Store) (d : Datagram) (t : Store) (st : Step s d t) (n : ℕ) where
+  abbrev tally : (kind : ℕ) → ℕ
+  tally k = pick (eqb (d .kind) k and eqb (st .channel .own .channel) n) 1 0
+
+  finished-sum : (k : (d .kind ≡ 4) ⊎ (d .kind ≡ 5)) →
+      commitments n (s .records) ≡ pick (eqb (st .channel .own .channel) n) 1 0 + commitments n (t .records)
+  finished-sum k =
+      commitments-remove (d .packet .source .channel) (d .packet .sequence) n (s .records) (finish-needs s d t st k) ∙
+      (rw (finish-left s d t st k, ← (finish-source s d t st k)) refl)
+
+  pub sum : tally 1 + commitments n (s .records) ≡ tally 4 + tally 5 + commitments n (t .records)
+  unfolding sends receives writesAcknowledgement receivedEdit edited isCommitmentOn commitment sentPacket plainRecord _and_
+  sum = go (st .effect) (st .how) (legal s d t st) (records-left s d t st)
+    where
+      go : (e : Effect) → How s d (st .channel) e → Legal (s .records) (e .edit) → t .records ≡ edited (e .edit) (s .records) →
+        tally 1 + commitments n (s .records) ≡ tally 4 + tally 5 + commitments n (t .records)
+      go e (sending k ok) l w = rw (k, w) (omega (arith, wrote (s .records) _ (single s d t st) l n))
+      go e (receiving k ok) l w =
+          cases (raisesReceive (st .channel))
+            (λ q. rw (k, w, q) (omega arith))
+            (λ q. rw (k, w, q) (omega (arith, wrote (s .records) _ (single s d t st) (rw (receivedEdit, q) at l) n)))
+      go e (writing k ok) l w = rw (k, w) (omega (arith, wrote (s .records) _ (single s d t st) l n))
+      go e (acknowledging k ok) l w = let q = finished-sum (inl k) in rw k (omega arith)
+      go e (timing k ok) l w = let q = finished-sum (inr k) in rw k (omega arith)
