@@ -6,3 +6,4 @@ pub mod VerdictLaws
 pub mod OrderingLaws
 pub mod Commitment
 pub mod Receipt
+pub mod FitStep

@@ -38,6 +38,11 @@ receive-absent rs c n r h =
     let e : isSome (lookup (receiptKey (c .own .channel) n) rs) ≡ false = cc in
     not-some (lookup (receiptKey (c .own .channel) n) rs) (ap not e)
 
+-- a receipt is written on an unordered end
+pub receipt-unordered : (c : Channel) → raisesReceive c ≡ false → isOrdered (receivedEnd c) ≡ false
+unfolding raisesReceive receivedEnd
+receipt-unordered c h = cc
+
 -- it was not received before
 pub receive-new : (rs : List (Option Record)) (c : Channel) (n : ℕ) → receivesInOrder c n ≡ true → isReceiptThere rs c n ≡ false →
     isReceived rs c n ≡ false
