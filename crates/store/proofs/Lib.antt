@@ -1,3 +1,4 @@
 pub mod TableLaws
 pub mod RecordLaws
 pub mod ChannelLaws
+pub mod LayoutLaws

@@ -2,15 +2,13 @@
 use mathlib.Core.Path.{_≡_, refl, ap, _∙_}
 use mathlib.Core.Bool.{true, false}
 use mathlib.Core.List.{List, [], _∷_}
-use Prim.Native.Nat.{ℕ, zero, suc, _+_, _*_, _/_, _%_, _^_, _≤_, _<_}
+use Prim.Native.Nat.{ℕ, zero, suc, _+_, _*_, _/_, _^_, _≤_, _<_}
 use native.Mathlib.Omega.{arith}
-use lib.Dec.{eqb}
-use lib.ListN.{length, take, drop, length-take, length-drop}
+use lib.ListN.{length, take, drop, replicate, length-take, length-drop}
 use borrow.Author.Tests.{eqb-true, eq-eqb}
-use Rattle.wire.specs.Choice.{_and_}
 use Rattle.wire.specs.Bytes.{Every, Bytes, same, little, numberOf, part, field, pieces}
 use Rattle.wire.proofs.ChoiceLaws.{and-both, both-and, clash}
-use Rattle.wire.proofs.EveryLaws.{every-take, every-drop}
+use Rattle.wire.proofs.EveryLaws.{every-take, every-drop, every-replicate}
 
 -- what each byte is, for the laws of `Every`
 abbrev pub Byte : ℕ → Type 0
@@ -51,6 +49,9 @@ unfolding little
 bytes-little zero x = tt
 bytes-little (suc n) x = (omega arith, bytes-little n (x / 256))
 
+pub bytes-zeros : (n : ℕ) → Bytes (replicate n 0)
+bytes-zeros n = every-replicate Byte n 0 (omega arith)
+
 take-below : (n : ℕ) (bs : List ℕ) → Bytes bs → numberOf (take n bs) < 256 ^ n
 unfolding numberOf
 take-below zero bs h = omega arith
@@ -86,5 +87,5 @@ every-pieces k zero bs l h = tt
 every-pieces k (suc n) bs l h =
     let a : k + k * n ≤ length bs = omega arith in
     let b : k * n ≤ length (drop k bs) = omega (arith, length-drop k bs) in
-    ((length-take k bs ∙ omega arith, every-take Byte k bs h),
-      every-pieces k n (drop k bs) b (every-drop Byte k bs h))
+    let p : (length (take k bs) ≡ k) × Bytes (take k bs) = (length-take k bs ∙ omega arith, every-take Byte k bs h) in
+    (p, every-pieces k n (drop k bs) b (every-drop Byte k bs h))
