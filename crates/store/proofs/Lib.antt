@@ -2,3 +2,4 @@ pub mod TableLaws
 pub mod RecordLaws
 pub mod ChannelLaws
 pub mod LayoutLaws
+pub mod FitLaws
