@@ -163,7 +163,7 @@ record-kept r h =
         }
 
 -- THE WHOLE
-pub room-for : (n : ℕ) → roomIn (sizeFor n) ≡ n
+room-for : (n : ℕ) → roomIn (sizeFor n) ≡ n
 unfolding roomIn
 room-for n = omega arith
 

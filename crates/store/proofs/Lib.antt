@@ -3,3 +3,4 @@ pub mod RecordLaws
 pub mod ChannelLaws
 pub mod LayoutLaws
 pub mod FitLaws
+pub mod MakerLaws

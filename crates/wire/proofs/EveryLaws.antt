@@ -10,6 +10,10 @@ module _ {A : Type 0} where
   every-map f (x ∷ xs) h = (f x (h .0), every-map f xs (h .1))
 
   module _ (P : A → Type 0) where
+    pub every-of : ((x : A) → P x) → (xs : List A) → Every P xs
+    every-of f [] = tt
+    every-of f (x ∷ xs) = (f x, every-of f xs)
+
     pub every-append : (xs ys : List A) → Every P xs → Every P ys → Every P (xs ++ ys)
     every-append [] ys h k = k
     every-append (x ∷ xs) ys h k = (h .0, every-append xs ys (h .1) k)
