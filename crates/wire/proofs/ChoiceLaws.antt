@@ -52,3 +52,8 @@ none-if (some a) h = absurd (h a refl)
 pub some-if : {A : Type 0} (x : Option A) → isSome x ≡ true → (a : A) × (x ≡ some a)
 some-if none h = clash {b = false} h refl
 some-if (some a) h = (a, refl)
+
+-- a list of tests, each with its number, comes to 0 if none passes
+pub pick-zero : (b : Bool) (n m : ℕ) → pick b (suc n) m ≡ 0 → (b ≡ false) × (m ≡ 0)
+pick-zero true n m h = let z : suc n ≡ 0 = h in absurd (omega arith)
+pick-zero false n m h = (refl, h)

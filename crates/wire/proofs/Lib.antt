@@ -1,1 +1,3 @@
 pub mod ChoiceLaws
+pub mod EveryLaws
+pub mod BytesLaws
