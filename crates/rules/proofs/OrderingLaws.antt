@@ -14,6 +14,7 @@ use Rattle.wire.proofs.ChoiceLaws.{and-both, clash, cases, of-pick, not-some}
 use Rattle.store.specs.declared.End.{End}
 use Rattle.store.specs.declared.Channel.{Channel}
 use Rattle.store.specs.declared.Record.{Record}
+use Rattle.store.specs.Limits.{top}
 use Rattle.store.specs.Height.{noTimeout}
 use Rattle.store.specs.Table.{receiptKey, lookup, hasFree, channelAt}
 use Rattle.store.specs.Layout.{Store}
@@ -22,7 +23,7 @@ use Rattle.store.proofs.RecordLaws.{Single, lookup-insert}
 use Rattle.datagram.specs.declared.Packet.{Packet}
 use Rattle.datagram.specs.declared.Verdict.{Verdict}
 use Rattle.rules.specs.Verdict.{firstDifference, claimHolds}
-use Rattle.rules.specs.Ordering.{keeps, writes, plainRecord, counted, receivesInOrder, isReceiptThere, raisesReceive, receivedEnd, receivedEdit, absenceClaim, absenceSequence, timesOutInOrder, needsRecord, raisedReceive}
+use Rattle.rules.specs.Ordering.{keeps, writes, plainRecord, counted, receivesInOrder, isReceiptThere, raisesReceive, receivedEnd, receivedEdit, absenceClaim, absenceSequence, timesOutInOrder, raisesAcknowledge, isAtTop, needsRecord, raisedReceive}
 use Rattle.rules.specs.Acceptance.{edited}
 use Rattle.rules.proofs.VerdictLaws.{About, about, claim-absent, claim-next}
 
@@ -42,6 +43,15 @@ receive-absent rs c n r h =
 pub receipt-unordered : (c : Channel) → raisesReceive c ≡ false → isOrdered (receivedEnd c) ≡ false
 unfolding raisesReceive receivedEnd
 receipt-unordered c h = cc
+
+-- a counter that rises was not at its top
+pub receive-below : (c : Channel) → raisesReceive c ≡ true → isAtTop 2 c ≡ false → eqb (c .next .receive) top ≡ false
+unfolding isAtTop _and_
+receive-below c r h = cc
+
+pub acknowledge-below : (c : Channel) → raisesAcknowledge c ≡ true → isAtTop 4 c ≡ false → eqb (c .next .acknowledge) top ≡ false
+unfolding isAtTop _and_
+acknowledge-below c r h = cc
 
 -- it was not received before
 pub receive-new : (rs : List (Option Record)) (c : Channel) (n : ℕ) → receivesInOrder c n ≡ true → isReceiptThere rs c n ≡ false →

@@ -19,7 +19,7 @@ use Rattle.store.specs.Table.{commitmentKey, receiptKey, lookup, channelAt}
 use Rattle.store.specs.Layout.{Store}
 use Rattle.datagram.specs.declared.Verdict.{Verdict}
 use Rattle.rules.specs.Verdict.{firstDifference, hasValues, holdsOn, claimHolds}
-use Rattle.rules.proofs.Same.{same-eq}
+use Rattle.wire.proofs.BytesLaws.{same-eq}
 
 pub record About (v : Verdict) (k : ℕ) (e : End) (n : ℕ) (t : Timeout) (d : List ℕ) : Type 0 where
   pub claim : v .claim ≡ k

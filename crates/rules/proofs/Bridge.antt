@@ -1,0 +1,92 @@
+-- From bytes to stores: an accepted call is a step, what it leaves is bytes and is read back; a refused one changes
+-- nothing. Assumes nothing.
+use mathlib.Core.Path.{_≡_, refl, sym, ap, subst, _∙_}
+use mathlib.Core.Bool.{Bool, true, false, not}
+use mathlib.Core.List.{List, [], _∷_, _++_}
+use mathlib.Core.Logic.{_⊎_, inl, inr, ⊎-elim}
+use mathlib.Core.Option.{Option, none, some}
+use Prim.Native.Nat.{ℕ, suc, _+_, _≤_, _<_, _^_}
+use native.Mathlib.Omega.{arith}
+use lib.Dec.{eqb}
+use lib.ListN.{length, take, drop}
+use lib.Seq.{take-append-seam, drop-append-seam}
+use borrow.Author.Tests.{eqb-true, eqb-false, eq-eqb, not-false}
+use Rattle.wire.specs.Choice.{_or_, pick, isSome}
+use Rattle.wire.specs.Bytes.{Bytes, little, noDigest, digestSize}
+use Rattle.wire.proofs.ChoiceLaws.{cases, of-pick, some-if, clash}
+use Rattle.wire.proofs.EveryLaws.{every-append, every-drop}
+use Rattle.wire.proofs.BytesLaws.{Byte, bytes-little, bytes-zeros}
+use Rattle.store.specs.declared.Channel.{Channel}
+use Rattle.store.specs.declared.Counters.{Counters}
+use Rattle.store.specs.declared.Record.{Record}
+use Rattle.store.specs.Limits.{top}
+use Rattle.store.specs.Table.{Key, isNumbered, hasKey, channelAt}
+use Rattle.store.specs.Layout.{Store, storeIn, bytesOf}
+use Rattle.store.specs.Fit.{isFit}
+use Rattle.store.proofs.TableLaws.{Each, each-find, each-insert, each-replace, length-insert, length-replace}
+use Rattle.store.proofs.LayoutLaws.{EndFields, TimeoutFields, CounterFields, ChannelFields, RecordFields, StoreFields, bytes-of, read-back}
+use Rattle.store.proofs.FitLaws.{fit-fields, fit-store}
+use Rattle.datagram.specs.declared.Packet.{Packet}
+use Rattle.datagram.specs.Datagram.{Datagram, datagramIn, kindIn, contextIn, packetFrom, channelFrom, isProved, isSound, packetSize}
+use Rattle.datagram.specs.Emitted.{framed, packetBytes, emittedPacket}
+use Rattle.datagram.proofs.DatagramLaws.{Sound, sound-is, PacketFields, packet-fields, timeout-fields, sequence-below, length-digest, bytes-digest, height-below, time-below}
+use Rattle.datagram.proofs.EmittedLaws.{kind-framed, bytes-framed, length-packet, bytes-packet, packet-framed, packet-framed-alone}
+use Rattle.rules.specs.Ordering.{Edit, keeps, writes, frees, plainRecord, counted, closed, raisedSend, raisedReceive, raisedAcknowledge, raisesReceive, raisesAcknowledge, receivedEnd, receivedEdit, acknowledgedEnd, timedOutEnd}
+use Rattle.rules.specs.Refusals.{lowest, table, refusals, orNone, endFor}
+use Rattle.rules.specs.Acceptance.{Effect, sentPacket, commitment, sends, receives, writesAcknowledgement, acknowledges, timesOut, edited, applied}
+use Rattle.rules.specs.Call.{answerTo, effectIn, nextStore, called}
+use Rattle.rules.proofs.RefusalLaws.{givenAt, silent, not-given}
+use Rattle.rules.proofs.OrderingLaws.{receive-below, acknowledge-below}
+use Rattle.rules.proofs.Step.{How, sending, receiving, writing, acknowledging, timing, how, Shape, Step}
+
+-- WHAT FITS ITS FIELDS stays so
+raised : (n : ℕ) → n < 256 ^ 8 → eqb n top ≡ false → n + 1 < 256 ^ 8
+raised n h e = let z = eqb-false n top e in omega arith
+
+counted-fields : (c : Channel) (n : Counters) → ChannelFields c → CounterFields n → ChannelFields (counted c n)
+unfolding counted
+counted-fields c n h k = record { state = h .state; order = h .order; own = h .own; counterparty = h .counterparty; next = k }
+
+closed-fields : (c : Channel) → ChannelFields c → ChannelFields (closed c)
+unfolding closed
+closed-fields c h = record { state = omega arith; order = h .order; own = h .own; counterparty = h .counterparty; next = h .next }
+
+end-fields : (s : Store) (d : Datagram) (c : Channel) (e : Effect) → ChannelFields c → How s d c e → ChannelFields (e .end)
+unfolding sends receives writesAcknowledgement acknowledges timesOut receivedEnd acknowledgedEnd timedOutEnd
+end-fields s d c e h (sending k ok) =
+    counted-fields c (raisedSend (c .next)) h
+      (record { send = raised (c .next .send) (h .next .send) (ok .below); receive = h .next .receive; acknowledge = h .next .acknowledge })
+end-fields s d c e h (receiving k ok) =
+    of-pick ChannelFields (raisesReceive c) (counted c (raisedReceive (c .next))) c
+      (λ q. counted-fields c (raisedReceive (c .next)) h
+        (record { send = h .next .send; receive = raised (c .next .receive) (h .next .receive) (receive-below c q (ok .below)); acknowledge = h .next .acknowledge }))
+      (λ q. h)
+end-fields s d c e h (writing k ok) = h
+end-fields s d c e h (acknowledging k ok) =
+    of-pick ChannelFields (raisesAcknowledge c) (counted c (raisedAcknowledge (c .next))) c
+      (λ q. counted-fields c (raisedAcknowledge (c .next)) h
+        (record { send = h .next .send; receive = h .next .receive; acknowledge = raised (c .next .acknowledge) (h .next .acknowledge) (acknowledge-below c q (ok .below)) }))
+      (λ q. h)
+end-fields s d c e h (timing k ok) = of-pick ChannelFields _ (closed c) c (λ q. closed-fields c h) (λ q. h)
+
+plain-fields : (k n m : ℕ) (a : List ℕ) → 1 ≤ k → k ≤ 3 → n < 256 ^ 4 → m < 256 ^ 8 → length a ≡ digestSize → Bytes a → RecordFields (plainRecord k n m a)
+unfolding plainRecord
+plain-fields k n m a l u p q z b =
+    record {
+      low = l; high = u; channel = p; sequence = q; timeout = record { height = omega arith; time = omega arith }; size = z; bytes = b }
+
+module _ (s : Store) (b : List ℕ) (c : Channel) (fields : StoreFields s) (bytes : Bytes b) (sound : Sound b)
+    (found : channelAt (datagramIn b .channel) (s .channels) ≡ some c) where
+  channel-fields : ChannelFields c
+  channel-fields = each-find ChannelFields (isNumbered (datagramIn b .channel)) (s .channels) c (fields .channels) found
+
+  sent-fields : PacketFields (sentPacket c (datagramIn b))
+  unfolding sentPacket datagramIn
+  sent-fields =
+      record {
+        sequence = channel-fields .next .send; timeout = timeout-fields b bytes; source = channel-fields .own;
+        destination = channel-fields .counterparty; size = length-digest b sound; bytes = bytes-digest (kindIn b) b bytes }
+
+  carried-fields : isProved (datagramIn b .kind) ≡ true → PacketFields (datagramIn b .packet)
+  unfolding datagramIn
+  carried-fields h = packet-fields b bytes sound h
