@@ -22,6 +22,7 @@ use Rattle.store.specs.declared.Record.{Record}
 use Rattle.store.specs.Limits.{top}
 use Rattle.store.specs.Table.{Key, isNumbered, hasKey, channelAt}
 use Rattle.store.specs.Layout.{Store, storeIn, bytesOf}
+use Rattle.store.specs.Ordering.{isOrdered}
 use Rattle.store.specs.Fit.{isFit}
 use Rattle.store.proofs.TableLaws.{Each, each-find, each-insert, each-replace, length-insert, length-replace}
 use Rattle.store.proofs.LayoutLaws.{EndFields, TimeoutFields, CounterFields, ChannelFields, RecordFields, StoreFields, bytes-of, read-back}
@@ -67,13 +68,17 @@ end-fields s d c e h (acknowledging k ok) =
       (λ q. counted-fields c (raisedAcknowledge (c .next)) h
         (record { send = h .next .send; receive = h .next .receive; acknowledge = raised (c .next .acknowledge) (h .next .acknowledge) (acknowledge-below c q (ok .below)) }))
       (λ q. h)
-end-fields s d c e h (timing k ok) = of-pick ChannelFields _ (closed c) c (λ q. closed-fields c h) (λ q. h)
+end-fields s d c e h (timing k ok) = of-pick ChannelFields (isOrdered c) (closed c) c (λ q. closed-fields c h) (λ q. h)
 
 plain-fields : (k n m : ℕ) (a : List ℕ) → 1 ≤ k → k ≤ 3 → n < 256 ^ 4 → m < 256 ^ 8 → length a ≡ digestSize → Bytes a → RecordFields (plainRecord k n m a)
 unfolding plainRecord
 plain-fields k n m a l u p q z b =
     record {
       low = l; high = u; channel = p; sequence = q; timeout = record { height = omega arith; time = omega arith }; size = z; bytes = b }
+
+proved-two : {k : ℕ} → k ≡ 2 → isProved k ≡ true
+unfolding isProved _or_
+proved-two {k} e = cc
 
 module _ (s : Store) (b : List ℕ) (c : Channel) (fields : StoreFields s) (bytes : Bytes b) (sound : Sound b)
     (found : channelAt (datagramIn b .channel) (s .channels) ≡ some c) where
@@ -90,3 +95,87 @@ module _ (s : Store) (b : List ℕ) (c : Channel) (fields : StoreFields s) (byte
   carried-fields : isProved (datagramIn b .kind) ≡ true → PacketFields (datagramIn b .packet)
   unfolding datagramIn
   carried-fields h = packet-fields b bytes sound h
+
+  written-fields : RecordFields (plainRecord 3 (c .own .channel) (datagramIn b .sequence) (datagramIn b .digest))
+  unfolding datagramIn
+  written-fields =
+      plain-fields 3 (c .own .channel) _ _ (omega arith) (omega arith) (channel-fields .own .channel) (sequence-below b bytes)
+        (length-digest b sound) (bytes-digest (kindIn b) b bytes)
+
+  new-fields : (e : Effect) (r : Record) → How s (datagramIn b) c e → e .edit ≡ writes r → RecordFields r
+  unfolding sends receives writesAcknowledgement acknowledges timesOut receivedEdit commitment sentPacket
+  new-fields e r (sending k ok) q =
+      let f = sent-fields in
+      let z : commitment (sentPacket c (datagramIn b)) ≡ r = cc in
+      subst RecordFields z (record {
+        low = omega arith; high = omega arith; channel = f .source .channel; sequence = f .sequence; timeout = f .timeout;
+        size = f .size; bytes = f .bytes })
+  new-fields e r (receiving k ok) q =
+      cases (raisesReceive c) (λ p. let z : _≡_ {A = ℕ} 0 1 = cc in absurd (omega arith))
+        (λ p.
+          let z : plainRecord 2 (c .own .channel) (datagramIn b .packet .sequence) noDigest ≡ r = cc in
+          subst RecordFields z (plain-fields 2 (c .own .channel) (datagramIn b .packet .sequence) noDigest (omega arith) (omega arith)
+            (channel-fields .own .channel) (carried-fields (proved-two k) .sequence) refl (bytes-zeros digestSize)))
+  new-fields e r (writing k ok) q =
+      let z : plainRecord 3 (c .own .channel) (datagramIn b .sequence) (datagramIn b .digest) ≡ r = cc in
+      subst RecordFields z written-fields
+  new-fields e r (acknowledging k ok) q = let z : _≡_ {A = ℕ} 0 1 = cc in absurd (omega arith)
+  new-fields e r (timing k ok) q = let z : _≡_ {A = ℕ} 0 1 = cc in absurd (omega arith)
+
+  next-fields : (e : Effect) → How s (datagramIn b) c e → StoreFields (applied s (datagramIn b .context) e)
+  unfolding applied datagramIn edited
+  next-fields e h =
+      let r = records (e .edit) refl in
+      let l = fields .low in
+      let u = fields .high in
+      let w = r .0 in
+      record {
+        height = height-below b bytes; time = time-below b bytes; slots = length-replace _ _ (s .channels) ∙ fields .slots;
+        low = omega arith; high = omega arith;
+        channels = each-replace ChannelFields _ (some (e .end)) (s .channels) (end-fields s (datagramIn b) c e channel-fields h, tt) (fields .channels);
+        records = r .1 }
+    where
+      records : (x : Edit) → e .edit ≡ x → (length (edited x (s .records)) ≡ length (s .records)) × Each RecordFields (edited x (s .records))
+      records keeps q = (refl, fields .records)
+      records (writes r) q = (length-insert r (s .records), each-insert RecordFields r (s .records) (new-fields e r h q) (fields .records))
+      records (frees k) q = (length-replace (hasKey k) none (s .records), each-replace RecordFields (hasKey k) none (s .records) tt (fields .records))
+
+-- ACCEPTED: a step, to a store whose fields fit
+shape : (b : List ℕ) → Sound b → Shape (datagramIn b)
+unfolding datagramIn channelFrom _or_
+shape b h =
+    record {
+      toDestination = λ k. cc; fromSource = ⊎-elim (λ k. cc) (λ k. cc); received = λ k. h .numbered (proved-two k);
+      written = h .written }
+
+pub record Acceptance (bs b : List ℕ) : Type 0 where
+  pub fit : isFit bs ≡ true
+  pub sound : Sound b
+  pub step : Step (storeIn bs) (datagramIn b) (nextStore (storeIn bs) (datagramIn b))
+  pub effect : step .effect ≡ effectIn (storeIn bs) (datagramIn b)
+  pub fields : StoreFields (nextStore (storeIn bs) (datagramIn b))
+  pub sent : PacketFields (sentPacket (step .channel) (datagramIn b))
+  pub carried : isProved (datagramIn b .kind) ≡ true → PacketFields (datagramIn b .packet)
+
+or-found : (x : Option Channel) → isSome x ≡ true → x ≡ some (orNone x)
+or-found none h = clash {b = false} h refl
+or-found (some c) h = refl
+
+pub accepted-step : (bs o b : List ℕ) → Bytes bs → Bytes b → answerTo bs o b ≡ 0 → Acceptance bs b
+unfolding answerTo effectIn nextStore table givenAt datagramIn
+accepted-step bs o b p q h =
+    let s : Store = storeIn bs in
+    let d : Datagram = datagramIn b in
+    let ls = refusals bs (length o) b in
+    let fit = not-false (isFit bs) (not-given _ 0 (silent 1 (d .kind) ls h)) in
+    let sound = sound-is b (not-false (isSound b) (not-given _ 2 (silent 3 (d .kind) ls h))) in
+    let found = or-found (endFor s d) (not-false (isSome (endFor s d)) (not-given _ 4 (silent 5 (d .kind) ls h))) in
+    let c = orNone (endFor s d) in
+    let fields = fit-fields bs p fit in
+    let w = how bs (length o) b s d c (d .kind) refl (sound .low) (sound .high) h in
+    record {
+      fit = fit; sound = sound;
+      step = record {
+        fits = fit-store bs fit; shape = shape b sound; channel = c; found = found; effect = effectIn s d; how = w; left = refl };
+      effect = refl; fields = next-fields s b c fields q sound found (effectIn s d) w; sent = sent-fields s b c fields q sound found;
+      carried = carried-fields s b c fields q sound found }

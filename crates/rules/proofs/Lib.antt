@@ -7,3 +7,4 @@ pub mod Commitment
 pub mod Receipt
 pub mod FitStep
 pub mod Bridge
+pub mod Acted

@@ -1,0 +1,159 @@
+-- An accepted call as its caller saw it: a step from the store that it got to the store that it left, and what its
+-- emitted record says. A refused call changes nothing. Assumes nothing.
+use mathlib.Core.Path.{_≡_, refl, sym, ap, subst, _∙_}
+use mathlib.Core.Bool.{Bool, true, false}
+use mathlib.Core.List.{List, [], _++_, append-nil}
+use mathlib.Core.Logic.{_⊎_, inl, inr}
+use Prim.Native.Nat.{ℕ, _+_, _≤_, _<_}
+use native.Mathlib.Omega.{arith}
+use lib.Dec.{eqb}
+use lib.ListN.{length, take, drop}
+use lib.Seq.{take-append-seam, drop-append-seam}
+use borrow.Author.Tests.{eqb-true, eqb-false, ne-eqb}
+use Rattle.wire.specs.Choice.{_and_, _or_, pick}
+use Rattle.wire.specs.Bytes.{Bytes, little}
+use Rattle.wire.proofs.ChoiceLaws.{and-both, or-either, cases}
+use Rattle.store.specs.declared.Channel.{Channel}
+use Rattle.store.specs.Layout.{Store, storeIn, bytesOf}
+use Rattle.store.proofs.LayoutLaws.{bytes-of, read-back}
+use Rattle.datagram.specs.declared.Packet.{Packet}
+use Rattle.datagram.specs.Datagram.{Datagram, datagramIn, kindIn, isProved, packetSize}
+use Rattle.datagram.specs.Emitted.{framed, packetBytes, emittedPacket}
+use Rattle.datagram.proofs.DatagramLaws.{PacketFields}
+use Rattle.datagram.proofs.EmittedLaws.{kind-framed, length-packet, packet-framed, packet-framed-alone}
+use Rattle.rules.specs.declared.Told.{Told}
+use Rattle.rules.specs.Acceptance.{Effect, sentPacket, sends, receives, writesAcknowledgement, acknowledges, timesOut}
+use Rattle.rules.specs.Call.{Answer, answerTo, effectIn, nextStore, accepted, refused, called}
+use Rattle.rules.specs.Promise.{Call, Met, isAccepted, emitted, packetOf}
+use Rattle.rules.proofs.Step.{How, sending, receiving, writing, acknowledging, timing, Step}
+use Rattle.rules.proofs.Bridge.{Acceptance, accepted-step}
+
+-- THE ANSWER, by whether a line of the table gave a number
+called-accepted : (bs o b : List ℕ) → called bs o b .told .number ≡ 0 →
+    (answerTo bs o b ≡ 0) × (called bs o b ≡ accepted (nextStore (storeIn bs) (datagramIn b)) (effectIn (storeIn bs) (datagramIn b) .emitted) o)
+unfolding called
+called-accepted bs o b h =
+    cases (eqb (answerTo bs o b) 0) (λ e. (eqb-true (answerTo bs o b) 0 e, rw (called, e) refl))
+      (λ e. let z : answerTo bs o b ≡ 0 = cc in absurd (eqb-false (answerTo bs o b) 0 e z))
+
+called-refused : (bs o b : List ℕ) → (called bs o b .told .number ≡ 0 → ⊥) → called bs o b ≡ refused (answerTo bs o b) bs o
+unfolding called
+called-refused bs o b h =
+    cases (eqb (answerTo bs o b) 0) (λ e. absurd (h (cc))) (λ e. rw (called, e) refl)
+
+-- WHAT IS EMITTED: a packet, with the acknowledgement's digest for 4, but for 3
+abbrev pub packetFor : Channel → Datagram → Packet
+packetFor c d = pick (eqb (d .kind) 1) (sentPacket c d) (d .packet)
+
+abbrev restFor : Datagram → List ℕ
+restFor d = pick (eqb (d .kind) 4) (d .digest) []
+
+kind-emitted : (s : Store) (d : Datagram) (c : Channel) (e : Effect) → How s d c e → kindIn (e .emitted) ≡ 256 + d .kind
+unfolding sends receives writesAcknowledgement acknowledges timesOut
+kind-emitted s d c e (sending k ok) = kind-framed 0x0101 _ (omega arith) ∙ omega arith
+kind-emitted s d c e (receiving k ok) = kind-framed 0x0102 _ (omega arith) ∙ omega arith
+kind-emitted s d c e (writing k ok) = kind-framed 0x0103 _ (omega arith) ∙ omega arith
+kind-emitted s d c e (acknowledging k ok) = kind-framed 0x0104 _ (omega arith) ∙ omega arith
+kind-emitted s d c e (timing k ok) = kind-framed 0x0105 _ (omega arith) ∙ omega arith
+
+packet-emitted : (s : Store) (d : Datagram) (c : Channel) (e : Effect) → How s d c e → (d .kind ≡ 3 → ⊥) →
+    e .emitted ≡ framed (256 + d .kind) (packetBytes (packetFor c d) ++ restFor d)
+unfolding sends receives acknowledges timesOut
+packet-emitted s d c e (sending k ok) n = rw (k, append-nil) refl
+packet-emitted s d c e (receiving k ok) n = rw (k, append-nil) refl
+packet-emitted s d c e (writing k ok) n = absurd (n k)
+packet-emitted s d c e (acknowledging k ok) n = rw k refl
+packet-emitted s d c e (timing k ok) n = rw (k, append-nil) refl
+
+fields-emitted : (s : Store) (d : Datagram) (c : Channel) (e : Effect) → PacketFields (sentPacket c d) → (isProved (d .kind) ≡ true → PacketFields (d .packet)) →
+    How s d c e → (d .kind ≡ 3 → ⊥) → PacketFields (packetFor c d)
+unfolding isProved _or_ sentPacket
+fields-emitted s d c e f g (sending k ok) n = rw k f
+fields-emitted s d c e f g (receiving k ok) n = rw k (g (cc))
+fields-emitted s d c e f g (writing k ok) n = absurd (n k)
+fields-emitted s d c e f g (acknowledging k ok) n = rw k (g (cc))
+fields-emitted s d c e f g (timing k ok) n = rw k (g (cc))
+
+pub record Acted (c : Call) : Type 0 where
+  pub step : Step (storeIn (c .store)) (datagramIn (c .datagram)) (storeIn (c .storeLeft))
+  pub kind : kindIn (emitted c) ≡ 256 + datagramIn (c .datagram) .kind
+  pub emits : (datagramIn (c .datagram) .kind ≡ 3 → ⊥) →
+    emitted c ≡ framed (256 + datagramIn (c .datagram) .kind)
+      (packetBytes (packetFor (step .channel) (datagramIn (c .datagram))) ++ restFor (datagramIn (c .datagram)))
+  pub fields : (datagramIn (c .datagram) .kind ≡ 3 → ⊥) → PacketFields (packetFor (step .channel) (datagramIn (c .datagram)))
+
+module _ (c : Call) (met : Met c) where
+  abbrev answer : Answer
+  answer = called (c .store) (c .output) (c .datagram)
+
+  abbrev next : Store
+  next = nextStore (storeIn (c .store)) (datagramIn (c .datagram))
+
+  abbrev out : List ℕ
+  out = effectIn (storeIn (c .store)) (datagramIn (c .datagram)) .emitted
+
+  module _ (told : c .told .number ≡ 0) where
+    accepts : (answerTo (c .store) (c .output) (c .datagram) ≡ 0) × (answer ≡ accepted next out (c .output))
+    accepts = called-accepted (c .store) (c .output) (c .datagram) (ap (λ (t : Told). t .number) (sym (met .told)) ∙ told)
+
+    pub accepted-store : c .storeLeft ≡ bytesOf next
+    accepted-store = met .store ∙ ap (λ (a : Answer). a .store) (accepts .1)
+
+    accepted-size : c .told .size ≡ length out
+    accepted-size = ap (λ (t : Told). t .size) (met .told) ∙ ap (λ (a : Answer). a .told .size) (accepts .1)
+
+    accepted-output : c .outputLeft ≡ out ++ drop (length out) (c .output)
+    accepted-output = met .output ∙ ap (λ (a : Answer). a .output) (accepts .1)
+
+    pub accepted-record : emitted c ≡ out
+    accepted-record = rw (accepted-size, accepted-output) (take-append-seam out (drop (length out) (c .output)))
+
+    pub accepted-rest : drop (c .told .size) (c .outputLeft) ≡ drop (c .told .size) (c .output)
+    accepted-rest = rw (accepted-size, accepted-output) (drop-append-seam out (drop (length out) (c .output)))
+
+  pub refused-call : (c .told .number ≡ 0 → ⊥) → (c .told .size ≡ 0) × (c .storeLeft ≡ c .store) × (c .outputLeft ≡ c .output)
+  refused-call n =
+      let r = called-refused (c .store) (c .output) (c .datagram) (λ q. n (ap (λ (t : Told). t .number) (met .told) ∙ q)) in
+      (ap (λ (t : Told). t .size) (met .told) ∙ ap (λ (a : Answer). a .told .size) r, met .store ∙ ap (λ (a : Answer). a .store) r,
+        met .output ∙ ap (λ (a : Answer). a .output) r)
+
+  module _ (bs : Bytes (c .store)) (bd : Bytes (c .datagram)) where
+    pub acted : c .told .number ≡ 0 → Acted c
+    acted told =
+        let a = accepted-step (c .store) (c .output) (c .datagram) bs bd (accepts told .0) in
+        let d : Datagram = datagramIn (c .datagram) in
+        let st = a .step in
+        let out-is : emitted c ≡ st .effect .emitted = accepted-record told ∙ ap (λ (e : Effect). e .emitted) (sym (a .effect)) in
+        record {
+          step = record {
+            fits = st .fits; shape = st .shape; channel = st .channel; found = st .found; effect = st .effect; how = st .how;
+            left = ap storeIn (accepted-store told) ∙ read-back next (a .fields) ∙ st .left };
+          kind = ap kindIn out-is ∙ kind-emitted (storeIn (c .store)) d (st .channel) (st .effect) (st .how);
+          emits = λ n. out-is ∙ packet-emitted (storeIn (c .store)) d (st .channel) (st .effect) (st .how) n;
+          fields = fields-emitted (storeIn (c .store)) d (st .channel) (st .effect) (a .sent) (a .carried) (st .how) }
+
+    -- bytes stay bytes
+    pub left-bytes : Bytes (c .storeLeft)
+    left-bytes =
+        cases (eqb (c .told .number) 0)
+          (λ e.
+            let told = eqb-true (c .told .number) 0 e in
+            let a = accepted-step (c .store) (c .output) (c .datagram) bs bd (accepts told .0) in
+            rw (accepted-store told) (bytes-of next (a .fields)))
+          (λ e. rw (refused-call (eqb-false (c .told .number) 0 e) .1) bs)
+
+-- THE PACKET of an accepted call, and its bytes where nothing follows them
+module _ (c : Call) (a : Acted c) (n : datagramIn (c .datagram) .kind ≡ 3 → ⊥) where
+  abbrev packet : Packet
+  packet = packetFor (a .step .channel) (datagramIn (c .datagram))
+
+  pub acted-packet : packetOf c ≡ packet
+  acted-packet = ap emittedPacket (a .emits n) ∙ packet-framed _ packet (restFor (datagramIn (c .datagram))) (a .fields n)
+
+  pub acted-bytes : (datagramIn (c .datagram) .kind ≡ 4 → ⊥) → emitted c ≡ framed (256 + datagramIn (c .datagram) .kind) (packetBytes packet)
+  acted-bytes k =
+      let q = ne-eqb (datagramIn (c .datagram) .kind) 4 k in
+      a .emits n ∙ rw (q, append-nil) refl
+
+  pub acted-size : length (packetBytes packet) ≡ packetSize
+  acted-size = length-packet packet (a .fields n)
