@@ -9,7 +9,7 @@ use native.Mathlib.Omega.{arith}
 use lib.Dec.{eqb}
 use lib.ListN.{length, take, drop}
 use lib.Seq.{take-append-seam, drop-append-seam}
-use borrow.Author.Tests.{eqb-true, eqb-false, ne-eqb}
+use borrow.Author.Tests.{eqb-true, eqb-false, eq-eqb, ne-eqb}
 use Rattle.wire.specs.Choice.{_and_, _or_, pick}
 use Rattle.wire.specs.Bytes.{Bytes, little}
 use Rattle.wire.proofs.ChoiceLaws.{and-both, or-either, cases}
@@ -157,3 +157,15 @@ module _ (c : Call) (a : Acted c) (n : datagramIn (c .datagram) .kind ≡ 3 → 
 
   pub acted-size : length (packetBytes packet) ≡ packetSize
   acted-size = length-packet packet (a .fields n)
+
+-- sent, or carried by the datagram
+module _ (c : Call) (a : Acted c) where
+  pub acted-sent : datagramIn (c .datagram) .kind ≡ 1 → packetOf c ≡ sentPacket (a .step .channel) (datagramIn (c .datagram))
+  acted-sent k =
+      let q = eq-eqb (datagramIn (c .datagram) .kind) 1 k in
+      acted-packet c a (λ w. omega arith) ∙ rw q refl
+
+  pub acted-carried : (datagramIn (c .datagram) .kind ≡ 1 → ⊥) → (datagramIn (c .datagram) .kind ≡ 3 → ⊥) → packetOf c ≡ datagramIn (c .datagram) .packet
+  acted-carried m n =
+      let q = ne-eqb (datagramIn (c .datagram) .kind) 1 m in
+      acted-packet c a n ∙ rw q refl

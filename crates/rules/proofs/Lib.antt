@@ -8,3 +8,5 @@ pub mod Receipt
 pub mod FitStep
 pub mod Bridge
 pub mod Acted
+pub mod History
+pub mod Sums
