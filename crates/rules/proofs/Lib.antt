@@ -10,3 +10,5 @@ pub mod Bridge
 pub mod Acted
 pub mod History
 pub mod Sums
+pub mod Once
+pub mod Pairing
