@@ -12,3 +12,4 @@ pub mod History
 pub mod Sums
 pub mod Once
 pub mod Pairing
+pub mod Delivery

@@ -57,7 +57,7 @@ module _ (w : World) where
       rw f refl
 
 -- AT MOST ONCE, if no later call can do it again
-once : (w : World) (t : Call → Bool) →
+pub once : (w : World) (t : Call → Bool) →
     ((i j : ℕ) (c e : Call) → i < j → At (w .calls) i c → At (w .calls) j e → t c ≡ true → t e ≡ true → SamePacket c e → ⊥) → AtMostOnce t (w .calls)
 once w t never i j c e p q a b s =
     cases (ltb i j) (λ h. absurd (never i j c e (ltb-true i j h) p q a b s))
