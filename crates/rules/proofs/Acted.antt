@@ -144,19 +144,18 @@ module _ (c : Call) (met : Met c) where
 
 -- THE PACKET of an accepted call, and its bytes where nothing follows them
 module _ (c : Call) (a : Acted c) (n : datagramIn (c .datagram) .kind ≡ 3 → ⊥) where
-  abbrev packet : Packet
-  packet = packetFor (a .step .channel) (datagramIn (c .datagram))
+  pub acted-packet : packetOf c ≡ packetFor (a .step .channel) (datagramIn (c .datagram))
+  acted-packet =
+      ap emittedPacket (a .emits n) ∙
+      packet-framed _ (packetFor (a .step .channel) (datagramIn (c .datagram))) (restFor (datagramIn (c .datagram))) (a .fields n)
 
-  pub acted-packet : packetOf c ≡ packet
-  acted-packet = ap emittedPacket (a .emits n) ∙ packet-framed _ packet (restFor (datagramIn (c .datagram))) (a .fields n)
-
-  pub acted-bytes : (datagramIn (c .datagram) .kind ≡ 4 → ⊥) → emitted c ≡ framed (256 + datagramIn (c .datagram) .kind) (packetBytes packet)
+  pub acted-bytes : (datagramIn (c .datagram) .kind ≡ 4 → ⊥) → emitted c ≡ framed (256 + datagramIn (c .datagram) .kind) (packetBytes (packetOf c))
   acted-bytes k =
       let q = ne-eqb (datagramIn (c .datagram) .kind) 4 k in
-      a .emits n ∙ rw (q, append-nil) refl
+      a .emits n ∙ rw (acted-packet, q, append-nil) refl
 
-  pub acted-size : length (packetBytes packet) ≡ packetSize
-  acted-size = length-packet packet (a .fields n)
+  pub acted-size : length (packetBytes (packetOf c)) ≡ packetSize
+  acted-size = rw acted-packet (length-packet (packetFor (a .step .channel) (datagramIn (c .datagram))) (a .fields n))
 
 -- sent, or carried by the datagram
 module _ (c : Call) (a : Acted c) where

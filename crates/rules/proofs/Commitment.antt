@@ -14,6 +14,7 @@ use Rattle.store.specs.declared.Channel.{Channel}
 use Rattle.store.specs.declared.Record.{Record}
 use Rattle.store.specs.Table.{Key, commitmentKey, keyOf, lookup, remove, commitments, isCommitmentOn, channelAt}
 use Rattle.store.specs.Layout.{Store}
+use Rattle.store.specs.Fit.{storeFits}
 use Rattle.store.proofs.RecordLaws.{Single, insert-from, remove-from, lookup-remove, commitments-insert, commitments-remove}
 use Rattle.store.proofs.FitRecordLaws.{committed-end}
 use Rattle.datagram.specs.Datagram.{Datagram}
@@ -28,9 +29,9 @@ pub record Used (s : Store) (n m : ℕ) : Type 0 where
   pub found : channelAt n (s .channels) ≡ some channel
   pub below : m < channel .next .send
 
-pub committed-used : (s : Store) (d : Datagram) (t : Store) (n m : ℕ) (r : Record) → Step s d t → lookup (commitmentKey n m) (s .records) ≡ some r → Used s n m
-committed-used s d t n m r st h =
-    let a = committed-end s n m r (st .fits) h in
+pub committed-used : (s : Store) (n m : ℕ) (r : Record) → storeFits s ≡ true → lookup (commitmentKey n m) (s .records) ≡ some r → Used s n m
+committed-used s n m r f h =
+    let a = committed-end s n m r f h in
     record { channel = a .0; found = a .1; below = a .2 }
 
 -- an end that was there is there, grown

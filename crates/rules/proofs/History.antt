@@ -18,13 +18,15 @@ use Rattle.store.specs.declared.Channel.{Channel}
 use Rattle.store.specs.declared.Record.{Record}
 use Rattle.store.specs.Table.{Key, commitmentKey, lookup, channelAt}
 use Rattle.store.specs.Layout.{Store, storeIn, bytesOf}
+use Rattle.store.specs.Fit.{storeFits}
 use Rattle.store.specs.Maker.{madeStore}
 use Rattle.store.proofs.LayoutLaws.{bytes-of, read-back}
-use Rattle.store.proofs.MakerLaws.{made-fields, make-told, made-lookup}
+use Rattle.store.proofs.MakerLaws.{made-fields, made-fits, make-told, made-lookup}
 use Rattle.datagram.specs.Datagram.{Datagram, datagramIn}
 use Rattle.rules.specs.Promise.{Side, first, second, across, isSide, Call, Met, At, fold, storeAfter, howMany, isOn, Run, Made, isAccepted}
 use Rattle.rules.proofs.Step.{Step}
 use Rattle.rules.proofs.Commitment.{Used, used-stays, SentNow, stems, used-from}
+use Rattle.rules.proofs.FitStep.{fits-after}
 use Rattle.rules.proofs.Acted.{Acted, acted, left-bytes, refused-call}
 
 -- SIDES
@@ -88,7 +90,7 @@ module _ (w : World) where
   abbrev pub ledger : Side → ℕ → Store
   ledger z i = storeIn (bytesAt z i)
 
-  next-on : (z : Side) (i : ℕ) (c : Call) → At (w .calls) i c → bytesAt z (suc i) ≡ pick (isOn z c) (c .storeLeft) (bytesAt z i)
+  pub next-on : (z : Side) (i : ℕ) (c : Call) → At (w .calls) i c → bytesAt z (suc i) ≡ pick (isOn z c) (c .storeLeft) (bytesAt z i)
   next-on z i c h = fold-next (λ (b : List ℕ) (c : Call). pick (isOn z c) (c .storeLeft) b) (w .start z) (w .calls) i c h
 
   got-on : (z : Side) (i : ℕ) (c : Call) → At (w .calls) i c → isOn z c ≡ true → c .store ≡ bytesAt z i
@@ -168,6 +170,13 @@ module _ (w : World) where
         let ih = kept i j in
         cases (leb i j) (λ e. turned j (ih (leb-true i j e) p))
           (λ e. let q = leb-false i j e in let q′ : i ≡ suc j = omega arith in subst (λ (k : ℕ). P (ledger z k)) q′ p)
+
+  pub ledger-fits : (z : Side) (i : ℕ) → storeFits (ledger z i) ≡ true
+  unfolding fold
+  ledger-fits z i =
+      let k = w .made z in
+      kept (λ s. storeFits s ≡ true) (λ s d t st f. fits-after s d t st) z 0 i (omega arith)
+        (ap storeFits (made-read (w .start z) k) ∙ made-fits (length (k .slice)) (k .openings) (k .told))
 
   -- COUNTS go up by what the next call passes; by nothing where all is quiet
   next-count : (t : Call → Bool) (i : ℕ) (c : Call) → At (w .calls) i c → howMany t (take (suc i) (w .calls)) ≡ pick (t c) 1 0 + howMany t (take i (w .calls))

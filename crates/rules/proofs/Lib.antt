@@ -13,3 +13,5 @@ pub mod Sums
 pub mod Once
 pub mod Pairing
 pub mod Delivery
+pub mod Block
+pub mod Truth

@@ -87,7 +87,7 @@ module _ (w : World) where
         ⊎-elim (λ q. inl (d .kind ∙ q)) (λ q. inr (d .kind ∙ q)) f in
       let n = finish-needs _ _ _ st g in
       let r = some-if (lookup (commitmentKey (p .source .channel) (p .sequence)) (storeIn (c .store) .records)) n in
-      let u = used-stays _ _ _ _ _ st (committed-used _ _ _ (p .source .channel) (p .sequence) (r .0) st (r .1)) in
+      let u = used-stays _ _ _ _ _ st (committed-used _ (p .source .channel) (p .sequence) (r .0) (st .fits) (r .1)) in
       let e = sym (did-packet w k i c d (λ q. ⊎-elim (λ v. omega arith) (λ v. omega arith) f) (λ q. ⊎-elim (λ v. omega arith) (λ v. omega arith) f)) in
       record {
         side = finish-sender w k i c d (λ q. ⊎-elim (λ v. omega arith) (λ v. omega arith) f);

@@ -12,7 +12,7 @@ use Rattle.wire.specs.Bytes.{Every, Bytes}
 use Rattle.store.specs.declared.OwnHeight.{OwnHeight}
 use Rattle.store.specs.declared.OtherHeight.{OtherHeight}
 use Rattle.store.specs.declared.Channel.{Channel}
-use Rattle.store.specs.Height.{seenAcross}
+use Rattle.store.specs.Height.{seenAcross, isUpToOther, UpToOther, BelowOther}
 use Rattle.store.specs.Table.{channelAt, commitments}
 use Rattle.store.specs.Layout.{storeIn, bytesOf}
 use Rattle.store.specs.Ordering.{isOrdered}
@@ -179,8 +179,9 @@ InOrder start cs =
 abbrev pub verdictOf : Call → Verdict
 verdictOf c = verdictFrom (kindIn (c .datagram)) (c .datagram)
 
-abbrev pub heightOf : Call → OwnHeight
-heightOf c = contextIn (c .datagram) .height
+-- its height, as the ledger across sees it, and its time
+abbrev pub heightOf : Call → OtherHeight
+heightOf c = seenAcross (contextIn (c .datagram) .height)
 
 abbrev pub timeOf : Call → ℕ
 timeOf c = contextIn (c .datagram) .time
@@ -192,15 +193,15 @@ pub record AcceptedOn (z : Side) (cs : List Call) (i : ℕ) (c : Call) : Type 0 
 
 -- an accepted call of a ledger, of a height or a lower one
 abbrev pub isUpTo : Side → OtherHeight → Call → Bool
-isUpTo z h c = isOn z c and isAccepted c and leb (seenAcross (heightOf c) .0) (h .0)
+isUpTo z h c = isOn z c and isAccepted c and isUpToOther (heightOf c) h
 
 -- the verdict `v` of the call at `i`, of the ledger `z`, is true
 pub record True (start : Side → List ℕ) (cs : List Call) (i : ℕ) (z : Side) (v : Verdict) : Type 0 where
   -- *closed block*: after the call that carries it no accepted call there has that height or a lower one
-  pub closed : (j : ℕ) (e : Call) → AcceptedOn z cs j e → i < j → v .height .0 < seenAcross (heightOf e) .0
+  pub closed : (j : ℕ) (e : Call) → AcceptedOn z cs j e → i < j → BelowOther (v .height) (heightOf e)
   -- the block's time is not below any of theirs, and not above that of any accepted call of greater height
-  pub notBelow : (j : ℕ) (e : Call) → AcceptedOn z cs j e → seenAcross (heightOf e) .0 ≤ v .height .0 → timeOf e ≤ v .time
-  pub notAbove : (j : ℕ) (e : Call) → AcceptedOn z cs j e → v .height .0 < seenAcross (heightOf e) .0 → v .time ≤ timeOf e
+  pub notBelow : (j : ℕ) (e : Call) → AcceptedOn z cs j e → UpToOther (heightOf e) (v .height) → timeOf e ≤ v .time
+  pub notAbove : (j : ℕ) (e : Call) → AcceptedOn z cs j e → BelowOther (v .height) (heightOf e) → v .time ≤ timeOf e
   -- the claim holds after the accepted calls up to that height
   pub holds : claimHolds v (storeIn (storeAfter (isUpTo z (v .height)) (start z) cs)) ≡ true
 

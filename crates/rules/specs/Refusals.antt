@@ -10,7 +10,8 @@ use Rattle.store.specs.declared.Timeout.{Timeout}
 use Rattle.store.specs.declared.Channel.{Channel}
 use Rattle.store.specs.declared.Record.{Record}
 use Rattle.store.specs.Limits.{outputLimit}
-use Rattle.store.specs.Height.{heightAtSender, heightAtReceiver, isPast, isPastOwn, isPastOther, noTimeout, sameTimeout}
+use Rattle.store.specs.Height.{heightAtSender, heightAtReceiver, isBelowOwn, isSameOwn, isPast, isPastOwn, isPastOther}
+use Rattle.store.specs.Height.{noTimeout, sameTimeout}
 use Rattle.store.specs.Table.{commitmentKey, acknowledgementKey, lookup, hasFree, channelAt, sameEnd}
 use Rattle.store.specs.Layout.{Store, storeIn}
 use Rattle.store.specs.Ordering.{isReceived}
@@ -51,8 +52,8 @@ lowest k (l ∷ ls) = pick (eqb (given k l) 0) (lowest k ls) (given k l)
 -- 4: height below the last, or time below the last, or same height with another time
 unfoldable pub goesBack : Store → Context → Bool
 goesBack s x =
-    ltb (x .height .0) (s .height .0) or ltb (x .time) (s .time) or
-    eqb (x .height .0) (s .height .0) and not (eqb (x .time) (s .time))
+    isBelowOwn (x .height) (s .height) or ltb (x .time) (s .time) or
+    isSameOwn (x .height) (s .height) and not (eqb (x .time) (s .time))
 
 -- 5: the channel that it is about
 unfoldable pub noChannel : Channel

@@ -1,0 +1,149 @@
+-- Demand 3 under true verdicts: each packet is delivered as it was sent, and none is both delivered and timed out.
+-- Assumes nothing.
+use mathlib.Core.Path.{_≡_, refl, sym, ap, subst, subst₂, _∙_}
+use mathlib.Core.Bool.{Bool, true, false}
+use mathlib.Core.List.{List}
+use mathlib.Core.Logic.{_⊎_, inl, inr, ⊎-elim}
+use mathlib.Core.Option.{Option, none, some}
+use Prim.Native.Nat.{ℕ, zero, suc, _+_, _≤_, _<_}
+use native.Mathlib.Omega.{arith}
+use lib.Dec.{ltb, leb, eqb}
+use lib.ListN.{length}
+use borrow.Author.Tests.{eqb-true, eqb-false, eq-eqb, ltb-true, ltb-false, leb-true, le-leb}
+use Rattle.wire.specs.Choice.{_and_, _or_, pick, isSome}
+use Rattle.wire.specs.Bytes.{noDigest}
+use Rattle.wire.proofs.ChoiceLaws.{and-both, both-and, or-either, or-neither, clash, cases}
+use Rattle.store.specs.declared.End.{End}
+use Rattle.store.specs.declared.OtherHeight.{OtherHeight}
+use Rattle.store.specs.declared.Timeout.{Timeout}
+use Rattle.store.specs.declared.Channel.{Channel}
+use Rattle.store.specs.declared.Record.{Record}
+use Rattle.store.specs.Height.{isPast, UpToOther, BelowOther, noTimeout}
+use Rattle.store.specs.Table.{commitmentKey, lookup, channelAt}
+use Rattle.store.specs.Layout.{Store, storeIn}
+use Rattle.store.specs.Ordering.{isReceived}
+use Rattle.store.proofs.ChannelLaws.{channel-number}
+use Rattle.datagram.specs.declared.Packet.{Packet}
+use Rattle.datagram.specs.declared.Verdict.{Verdict}
+use Rattle.datagram.specs.Datagram.{Datagram, datagramIn, kindIn, contextIn, verdictFrom, isProved, packetSize}
+use Rattle.datagram.specs.Emitted.{framed, packetBytes}
+use Rattle.rules.specs.Verdict.{claimHolds}
+use Rattle.rules.specs.Refusals.{verdictDifference, isLate, isProvedLate, isCommitted, isInOrder, fitsPacket}
+use Rattle.rules.specs.Acceptance.{sentPacket, commitment}
+use Rattle.rules.specs.Promise.{Side, across, isSide, Call, At, isAccepted, emitted, emits, isSend, isDelivery, isTimeout, packetOf, sender, SamePacket, Paired, Peers, verdictOf, heightOf, timeOf, AcceptedOn, True, Honest, SentBefore, AsSent, NotBoth}
+use Rattle.rules.proofs.Accepted.{ReceiveOk, TimeoutOk}
+use Rattle.rules.proofs.VerdictLaws.{About, about, Has, has-values, claim-committed}
+use Rattle.rules.proofs.OrderingLaws.{absent-not-received}
+use Rattle.rules.proofs.Step.{How, sending, receiving, writing, acknowledging, timing, Step, Grown, own-number, own-found}
+use Rattle.rules.proofs.Commitment.{Used, committed-used, SentNow, finish-source}
+use Rattle.rules.proofs.Receipt.{Received, receive-of}
+use Rattle.rules.proofs.Acted.{Acted, packetFor, acted-packet, acted-sent, acted-bytes, acted-size}
+use Rattle.rules.proofs.History.{across-across, side-refl, not-across, World, ledger, Acts, Turn, kept, used-back, SentAt, sent-at}
+use Rattle.rules.proofs.Once.{Did, did, did-packet, delivery-sender, finish-sender}
+use Rattle.rules.proofs.Pairing.{made-end, Delivered, delivered, sender-end}
+use Rattle.rules.proofs.Delivery.{received-since}
+use Rattle.rules.proofs.Block.{Within, within}
+
+module _ (w : World) (honest : Honest (w .start) (w .calls)) where
+  -- the verdict of a call that carries one is true
+  truth : (k i : ℕ) (c : Call) → Did w k i c → isProved k ≡ true → True (w .start) (w .calls) i (across (c .side)) (datagramIn (c .datagram) .verdict)
+  unfolding datagramIn
+  truth k i c d p =
+      honest i c (d .acts .at) (eq-eqb (c .told .number) 0 (d .acts .told)) (ap isProved (d .kind) ∙ p)
+
+  -- WHAT A DELIVERY RESTS ON: a commitment with the packet's values, in the other ledger, before
+  record Claimed (i : ℕ) (c : Call) : Type 0 where
+    pub time : ℕ
+    pub earlier : time ≤ i
+    pub stored : Record
+    pub there : lookup (commitmentKey (packetOf c .source .channel) (packetOf c .sequence)) (ledger w (across (c .side)) time .records) ≡ some stored
+    pub timeout : stored .timeout ≡ packetOf c .timeout
+    pub digest : stored .digest ≡ packetOf c .digest
+
+  claimed : (i : ℕ) (c : Call) → Delivered w i c → Claimed i c
+  unfolding verdictDifference isProved _or_
+  claimed i c d =
+      let x = datagramIn (c .datagram) in
+      let p = x .packet in
+      let v = x .verdict in
+      let t = truth 2 i c (d .did) refl in
+      let b = within w (across (c .side)) (v .height) in
+      let a = about v 1 (p .source) (p .sequence) (p .timeout) (p .digest) (receive-of _ _ _ (d .did .acts .acted .step) (d .did .kind) .0 .about) in
+      let h = claim-committed v (ledger w (across (c .side)) (b .time)) (ap (claimHolds v) (sym (b .store)) ∙ t .holds) (a .claim) in
+      let q = d .packet in
+      record {
+        time = b .time; earlier = before (b .last) (t .closed); stored = h .stored;
+        there = subst₂ (λ (n m : ℕ). lookup (commitmentKey n m) (ledger w (across (c .side)) (b .time) .records) ≡ some (h .stored))
+          (ap (λ (y : End). y .channel) (a .end) ∙ ap (λ (y : Packet). y .source .channel) (sym q)) (a .sequence ∙ ap (λ (y : Packet). y .sequence) (sym q)) (h .there);
+        timeout = h .timeout ∙ a .timeout ∙ ap (λ (y : Packet). y .timeout) (sym q);
+        digest = h .digest ∙ a .digest ∙ ap (λ (y : Packet). y .digest) (sym q) }
+    where
+      -- the block is closed, so its last call came before
+      before : {n : ℕ} {h : OtherHeight} → (n ≡ 0) ⊎ ((k : ℕ) × (e : Call) × (n ≡ suc k) × AcceptedOn (across (c .side)) (w .calls) k e × UpToOther (heightOf e) h) →
+        ((j : ℕ) (e : Call) → AcceptedOn (across (c .side)) (w .calls) j e → i < j → BelowOther h (heightOf e)) → n ≤ i
+      before (inl e) closed = omega arith
+      before (inr (k, e, s, a, u)) closed =
+          cases (ltb i k) (λ l. let x = closed k e a (ltb-true i k l) in absurd (omega arith))
+            (λ l. cases (eqb k i) (λ q. absurd (apart k e a (eqb-true k i q)))
+              (λ q. let x = ltb-false i k l in let y = eqb-false k i q in omega arith))
+        where
+          apart : (k : ℕ) (e : Call) → AcceptedOn (across (c .side)) (w .calls) k e → k ≡ i → ⊥
+          apart k e a q =
+              let f = d .did .acts .at in
+              let g : At (w .calls) i e = subst (λ (x : ℕ). At (w .calls) x e) q (a .at) in
+              let x : c ≡ e = cc in
+              clash (side-refl (c .side)) (ap (isSide (c .side)) (ap (λ (y : Call). y .side) x ∙ a .side) ∙ not-across (c .side))
+
+  -- AS IT WAS SENT
+  module _ (pairs : Paired (w .start)) where
+    -- an end of the sender's ledger that has the packet's source number is the one that the packet names
+    source-end : (i : ℕ) (c : Call) (d : Delivered w i c) (j : ℕ) (e : Channel) →
+        channelAt (packetOf c .source .channel) (ledger w (across (c .side)) j .channels) ≡ some e →
+        (e .own ≡ packetOf c .source) × (e .counterparty ≡ packetOf c .destination) × (e .order ≡ d .end .order)
+    source-end i c d j e h =
+        let p = sender-end w pairs i c d in
+        let b = made-end w (across (c .side)) j (packetOf c .source .channel) e h in
+        let x = p .1 in
+        let y = b .1 in
+        let q : b .0 ≡ p .0 = cc in
+        let g = b .2 in
+        (g .own ∙ ap (λ (v : Channel). v .own) q ∙ p .2 .own ∙ sym (d .source),
+          g .counterparty ∙ ap (λ (v : Channel). v .counterparty) q ∙ p .2 .counterparty ∙ sym (d .destination),
+          g .order ∙ ap (λ (v : Channel). v .order) q ∙ p .2 .order)
+
+    -- a send of that source and sequence, with the values claimed, sent this packet
+    sent-same : (i : ℕ) (c : Call) → Delivered w i c → (k : Claimed i c) (j : ℕ) (u : Turn w (across (c .side)) j) →
+        SentNow (datagramIn (u .call .datagram)) (u .acts .acted .step .channel) (packetOf c .source .channel) (packetOf c .sequence) (k .stored) →
+        packetOf (u .call) ≡ packetOf c
+    unfolding sentPacket commitment
+    sent-same i c d k j u n =
+        let st = u .acts .acted .step in
+        let f = subst₂ (λ (x : ℕ) (s : Store). channelAt x (s .channels) ≡ some (st .channel)) (n .channel) (u .acts .before) (own-found _ _ _ st) in
+        let e = source-end i c d j (st .channel) f in
+        let a = n .sequence in
+        let b = ap (λ (r : Record). r .timeout) (sym (n .committed)) ∙ k .timeout in
+        let g = ap (λ (r : Record). r .digest) (sym (n .committed)) ∙ k .digest in
+        acted-sent (u .call) (u .acts .acted) (n .kind) ∙
+        (λ x. record { sequence = a x; timeout = b x; source = e .0 x; destination = e .1 x; digest = g x })
+
+    pub as-sent : AsSent (w .calls)
+    unfolding _and_
+    as-sent i c h e =
+        let d = delivered w i c h e in
+        let k = claimed i c d in
+        let s = sent-at w (across (c .side)) (packetOf c .source .channel) (packetOf c .sequence) (k .stored) (k .time) (k .there) in
+        let u = s .turn in
+        let a = u .acts .acted in
+        let n = s .sent .kind in
+        let m = d .did .kind in
+        let p = sent-same i c d k (s .place) u (s .sent) in
+        let l = s .earlier in
+        let l′ = k .earlier in
+        let f : emitted (u .call) ≡ framed 0x0101 (packetBytes (packetOf c)) =
+          acted-bytes (u .call) a (λ q. omega arith) (λ q. omega arith) ∙ rw (n, p) refl in
+        let g : emitted c ≡ framed 0x0102 (packetBytes (packetOf c)) =
+          acted-bytes c (d .did .acts .acted) (λ q. omega arith) (λ q. omega arith) ∙ rw m refl in
+        record {
+          place = s .place; call = u .call; at = u .acts .at; earlier = omega arith; side = u .acts .side;
+          send = both-and (eq-eqb (u .call .told .number) 0 (u .acts .told)) (eq-eqb (kindIn (emitted (u .call))) 0x0101 (a .kind ∙ ap (256 +_) n));
+          packet = packetBytes (packetOf c); size = acted-size c (d .did .acts .acted) (λ q. omega arith); sent = f; delivered = g }
