@@ -80,7 +80,7 @@ module _ (w : World) where
     pub source : packetOf c .source ≡ end .counterparty
     pub destination : packetOf c .destination ≡ end .own
 
-  same-end : (a b : End) → sameEnd a b ≡ true → a ≡ b
+  pub same-end : (a b : End) → sameEnd a b ≡ true → a ≡ b
   unfolding sameEnd
   same-end a b h =
       let p = eqb-true (a .port) (b .port) (and-both h .0) in

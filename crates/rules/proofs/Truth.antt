@@ -1,6 +1,6 @@
 -- Demand 3 under true verdicts: each packet is delivered as it was sent, and none is both delivered and timed out.
 -- Assumes nothing.
-use mathlib.Core.Path.{_≡_, refl, sym, ap, subst, subst₂, _∙_}
+use mathlib.Core.Path.{_≡_, refl, sym, ap, subst, subst₂, subst₃, _∙_}
 use mathlib.Core.Bool.{Bool, true, false}
 use mathlib.Core.List.{List}
 use mathlib.Core.Logic.{_⊎_, inl, inr, ⊎-elim}
@@ -9,7 +9,7 @@ use Prim.Native.Nat.{ℕ, zero, suc, _+_, _≤_, _<_}
 use native.Mathlib.Omega.{arith}
 use lib.Dec.{ltb, leb, eqb}
 use lib.ListN.{length}
-use borrow.Author.Tests.{eqb-true, eqb-false, eq-eqb, ltb-true, ltb-false, leb-true, le-leb}
+use borrow.Author.Tests.{eqb-true, eqb-false, eq-eqb, ltb-true, ltb-false, leb-true, leb-false, le-leb}
 use Rattle.wire.specs.Choice.{_and_, _or_, pick, isSome}
 use Rattle.wire.specs.Bytes.{noDigest}
 use Rattle.wire.proofs.ChoiceLaws.{and-both, both-and, or-either, or-neither, clash, cases}
@@ -29,7 +29,7 @@ use Rattle.datagram.specs.Datagram.{Datagram, datagramIn, kindIn, contextIn, ve
 use Rattle.datagram.specs.Emitted.{framed, packetBytes}
 use Rattle.rules.specs.Verdict.{claimHolds}
 use Rattle.rules.specs.Refusals.{verdictDifference, isLate, isProvedLate, isCommitted, isInOrder, fitsPacket}
-use Rattle.rules.specs.Acceptance.{sentPacket, commitment}
+use Rattle.rules.specs.Acceptance.{Effect, sentPacket, commitment}
 use Rattle.rules.specs.Promise.{Side, across, isSide, Call, At, isAccepted, emitted, emits, isSend, isDelivery, isTimeout, packetOf, sender, SamePacket, Paired, Peers, verdictOf, heightOf, timeOf, AcceptedOn, True, Honest, SentBefore, AsSent, NotBoth}
 use Rattle.rules.proofs.Accepted.{ReceiveOk, TimeoutOk}
 use Rattle.rules.proofs.VerdictLaws.{About, about, Has, has-values, claim-committed}
@@ -38,9 +38,9 @@ use Rattle.rules.proofs.Step.{How, sending, receiving, writing, acknowl
 use Rattle.rules.proofs.Commitment.{Used, committed-used, SentNow, finish-source}
 use Rattle.rules.proofs.Receipt.{Received, receive-of}
 use Rattle.rules.proofs.Acted.{Acted, packetFor, acted-packet, acted-sent, acted-bytes, acted-size}
-use Rattle.rules.proofs.History.{across-across, side-refl, not-across, World, ledger, Acts, Turn, kept, used-back, SentAt, sent-at}
+use Rattle.rules.proofs.History.{across-across, side-refl, not-across, World, ledger, Acts, Turn, kept, used-back, ledger-fits, SentAt, sent-at}
 use Rattle.rules.proofs.Once.{Did, did, did-packet, delivery-sender, finish-sender}
-use Rattle.rules.proofs.Pairing.{made-end, Delivered, delivered, sender-end}
+use Rattle.rules.proofs.Pairing.{made-end, same-end, Delivered, delivered, sender-end}
 use Rattle.rules.proofs.Delivery.{received-since}
 use Rattle.rules.proofs.Block.{Within, within}
 
@@ -147,3 +147,119 @@ module _ (w : World) (honest : Honest (w .start) (w .calls)) where
           place = s .place; call = u .call; at = u .acts .at; earlier = omega arith; side = u .acts .side;
           send = both-and (eq-eqb (u .call .told .number) 0 (u .acts .told)) (eq-eqb (kindIn (emitted (u .call))) 0x0101 (a .kind ∙ ap (256 +_) n));
           packet = packetBytes (packetOf c); size = acted-size c (d .did .acts .acted) (λ q. omega arith); sent = f; delivered = g }
+
+    -- NOT BOTH
+    either : (a b : ℕ) → (a ≤ b) ⊎ (b ≤ a)
+    either a b = cases (leb a b) (λ q. inl (leb-true a b q)) (λ q. let l = leb-false a b q in inr (omega arith))
+
+    -- the commitment of a channel and sequence is one record
+    one-record : (z : Side) (n m i j : ℕ) (r x : Record) → i ≤ j → lookup (commitmentKey n m) (ledger w z i .records) ≡ some r →
+        lookup (commitmentKey n m) (ledger w z j .records) ≡ some x → r ≡ x
+    one-record z n m i j r x l p q =
+        let b = used-back w z n m x i j l (committed-used (ledger w z i) n m r (ledger-fits w z i) p) q in
+        cc
+
+    -- what passed by then has passed later too
+    still-past : (l n m : ℕ) → n ≤ m → isPast l n ≡ true → isPast l m ≡ true
+    unfolding isPast
+    still-past l n m k h = let a = and-both h in both-and (a .0) (le-leb l m (omega (arith, leb-true l n (a .1))))
+
+    -- a packet that was in time at the receiver was delivered within the block by which it is timed out
+    in-block : (c : Call) (t u : Timeout) (v : Verdict) → isProvedLate u v ≡ true → isLate 2 (contextIn (c .datagram)) t u ≡ false →
+        (BelowOther (v .height) (heightOf c) → v .time ≤ timeOf c) → UpToOther (heightOf c) (v .height)
+    unfolding isProvedLate isLate
+    in-block c t u v late early above =
+        let n = or-neither early in
+        cases (leb (heightOf c .0) (v .height .0)) (λ q. leb-true _ _ q)
+          (λ q.
+            let l = leb-false (heightOf c .0) (v .height .0) q in
+            ⊎-elim (λ p. clash (still-past (u .height) (v .height .0) (heightOf c .0) (omega arith) p) (n .0))
+              (λ p. clash (still-past (u .time) (v .time) (timeOf c) (above l) p) (n .1)) (or-either late))
+
+    timeout-of : (s : Store) (d : Datagram) (t : Store) (st : Step s d t) → d .kind ≡ 5 → TimeoutOk s d (st .channel)
+    timeout-of s d t st k = go (st .effect) (st .how)
+      where
+        go : (e : Effect) → How s d (st .channel) e → TimeoutOk s d (st .channel)
+        go e (sending q ok) = absurd (omega arith)
+        go e (receiving q ok) = absurd (omega arith)
+        go e (writing q ok) = absurd (omega arith)
+        go e (acknowledging q ok) = absurd (omega arith)
+        go e (timing q ok) = ok
+
+    -- a delivery and a time-out of one packet
+    module _ (i j : ℕ) (c e : Call) (d : Delivered w i c) (f : Did w 5 j e) (across-is : e .side ≡ across (c .side))
+        (same-channel : packetOf c .source .channel ≡ packetOf e .source .channel) (same-sequence : packetOf c .sequence ≡ packetOf e .sequence) where
+      abbrev p : Packet
+      p = datagramIn (e .datagram) .packet
+
+      abbrev v : Verdict
+      v = datagramIn (e .datagram) .verdict
+
+      abbrev st : Step (storeIn (e .store)) (datagramIn (e .datagram)) (storeIn (e .storeLeft))
+      st = f .acts .acted .step
+
+      ok : TimeoutOk (storeIn (e .store)) (datagramIn (e .datagram)) (st .channel)
+      ok = timeout-of _ _ _ st (f .kind)
+
+      e-packet : packetOf e ≡ p
+      e-packet = did-packet w 5 j e f (λ x. omega arith) (λ x. omega arith)
+
+      source : p .source .channel ≡ packetOf c .source .channel
+      source = sym (same-channel ∙ ap (λ (x : Packet). x .source .channel) e-packet)
+
+      sequence : p .sequence ≡ packetOf c .sequence
+      sequence = sym (same-sequence ∙ ap (λ (x : Packet). x .sequence) e-packet)
+
+      here : storeIn (e .store) ≡ ledger w (across (c .side)) j
+      here = f .acts .before ∙ ap (λ (y : Side). ledger w y j) across-is
+
+      -- both go by one commitment, so by one timeout
+      one-timeout : p .timeout ≡ datagramIn (c .datagram) .packet .timeout
+      unfolding isCommitted
+      one-timeout =
+          let k = claimed i c d in
+          let r = has-values (p .timeout) (p .digest) _ (ok .committed) in
+          let there = subst₃ (λ (s : Store) (n m : ℕ). lookup (commitmentKey n m) (s .records) ≡ some (r .stored)) here source sequence (r .there) in
+          let one : k .stored ≡ r .stored = ⊎-elim
+            (λ l. one-record (across (c .side)) _ _ (k .time) j (k .stored) (r .stored) l (k .there) there)
+            (λ l. sym (one-record (across (c .side)) _ _ j (k .time) (r .stored) (k .stored) l there (k .there))) (either (k .time) j) in
+          sym (r .timeout) ∙ ap (λ (x : Record). x .timeout) (sym one) ∙ k .timeout ∙ ap (λ (x : Packet). x .timeout) (d .packet)
+
+      -- the time-out's end is the one that the packet was sent from, and names the one that it came to
+      sent-from : (st .channel .counterparty ≡ packetOf c .destination) × (st .channel .order ≡ d .end .order)
+      sent-from =
+          let g = subst₂ (λ (n : ℕ) (s : Store). channelAt n (s .channels) ≡ some (st .channel)) (finish-source _ _ _ st (inr (f .kind)) ∙ source) here (own-found _ _ _ st) in
+          let q = source-end i c d j (st .channel) g in
+          (q .1, q .2)
+
+      truth-here : True (w .start) (w .calls) j (c .side) v
+      unfolding isProved _or_
+      truth-here = subst (λ (y : Side). True (w .start) (w .calls) j y v) (ap across across-is ∙ across-across (c .side)) (truth 5 j e f refl)
+
+      -- so it was received in that block, and claimed not to be
+      never : ⊥
+      unfolding fitsPacket verdictDifference isInOrder datagramIn
+      never =
+          let a : AcceptedOn (c .side) (w .calls) i c = record { at = d .did .acts .at; side = refl; told = d .did .acts .told } in
+          let early = receive-of _ _ _ (d .did .acts .acted .step) (d .did .kind) .0 .early in
+          let l = in-block c (datagramIn (c .datagram) .timeout) (p .timeout) v (ok .late) (rw one-timeout early) (truth-here .notAbove i c a) in
+          let b = within w (c .side) (v .height) in
+          let r = received-since w i c d (b .time) (b .all i c a l) in
+          let to : p .destination ≡ packetOf c .destination = same-end w _ _ (and-both (ok .fits) .1) ∙ sent-from .0 in
+          let n = ap (λ (x : End). x .channel) to in
+          let x = made-end w (c .side) (b .time) _ (r .channel) (r .found) in
+          let y = made-end w (c .side) i _ (d .end) (d .found) in
+          let x1 = x .1 in
+          let y1 = y .1 in
+          let same : x .0 ≡ y .0 = cc in
+          let order : r .channel .order ≡ st .channel .order =
+            x .2 .order ∙ ap (λ (h : Channel). h .order) same ∙ sym (y .2 .order) ∙ sym (sent-from .1) in
+          let found = ap (λ (m : ℕ). channelAt m (ledger w (c .side) (b .time) .channels)) n ∙ r .found in
+          let absent = absent-not-received (ledger w (c .side) (b .time)) (st .channel) (r .channel) p v order found (channel-number _ _ _ found) (ok .about) (ok .inOrder)
+            (ap (claimHolds v) (sym (b .store)) ∙ truth-here .holds) in
+          clash (r .received) (ap (isReceived (ledger w (c .side) (b .time) .records) (r .channel)) (sym sequence) ∙ absent)
+
+    pub not-both : NotBoth (w .calls)
+    not-both i j c e h k a b s =
+        let f = did w 5 j e k b in
+        never i j c e (delivered w i c h a) f (sym (finish-sender w 5 j e f (λ q. omega arith)) ∙ sym (s .sender) ∙ delivery-sender w c a) (s .channel) (s .sequence)
