@@ -99,7 +99,7 @@ module _ (c : Call) (met : Met c) where
     pub accepted-store : c .storeLeft ≡ bytesOf next
     accepted-store = met .store ∙ ap (λ (a : Answer). a .store) (accepts .1)
 
-    accepted-size : c .told .size ≡ length out
+    pub accepted-size : c .told .size ≡ length out
     accepted-size = ap (λ (t : Told). t .size) (met .told) ∙ ap (λ (a : Answer). a .told .size) (accepts .1)
 
     accepted-output : c .outputLeft ≡ out ++ drop (length out) (c .output)

@@ -15,3 +15,5 @@ pub mod Pairing
 pub mod Delivery
 pub mod Block
 pub mod Truth
+pub mod CaseLaws
+pub mod Demand3

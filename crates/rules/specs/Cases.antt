@@ -2,15 +2,14 @@
 -- P = 2; port 5 owns channel 7 (ordered, to 6/9) and 8 (unordered, to 6/10). Context: 100, 1000, 50, 5, open.
 use mathlib.Core.Path.{_≡_}
 use mathlib.Core.List.{List, [], _∷_, _++_}
-use mathlib.Core.Option.{Option, none, some}
+use mathlib.Core.Option.{none}
 use Prim.Native.Nat.{ℕ}
 use lib.ListN.{replicate}
 use Rattle.wire.specs.Bytes.{little, noDigest}
-use Rattle.store.specs.declared.Channel.{Channel}
 use Rattle.store.specs.Limits.{outputLimit}
 use Rattle.store.specs.Table.{channelAt}
-use Rattle.store.specs.Layout.{storeIn, bytesOf, sizeFor}
-use Rattle.store.specs.Maker.{madeStore}
+use Rattle.store.specs.Layout.{storeIn, sizeFor}
+use Rattle.store.specs.Maker.{makeTold, makeStore}
 use Rattle.datagram.specs.Emitted.{framed, emittedPacket}
 use Rattle.rules.specs.Refusals.{orNone}
 use Rattle.rules.specs.Call.{callTold, callStore, callOutput}
@@ -19,8 +18,14 @@ unfoldable pub anOpening : (port channel otherPort otherChannel order : ℕ) →
 anOpening p c q e o =
     little 4 20 ++ little 2 0x0010 ++ little 2 p ++ little 4 c ++ little 2 q ++ little 4 e ++ (o ∷ 0 ∷ [])
 
+unfoldable pub aSlice : List ℕ
+aSlice = replicate (sizeFor 2) 9
+
+unfoldable pub openings : List ℕ
+openings = anOpening 5 7 6 9 1 ++ anOpening 5 8 6 10 2
+
 unfoldable pub fresh : List ℕ
-fresh = bytesOf (madeStore (sizeFor 2) (anOpening 5 7 6 9 1 ++ anOpening 5 8 6 10 2))
+fresh = makeStore aSlice openings
 
 unfoldable pub aContext : (port : ℕ) → List ℕ
 aContext p = little 8 100 ++ little 8 1000 ++ little 8 50 ++ little 2 p ++ (1 ∷ replicate 5 0)
@@ -69,6 +74,7 @@ abbrev pub stateOfSeven : (store : List ℕ) → ℕ
 stateOfSeven bs = orNone (channelAt 7 (storeIn bs .channels)) .state
 
 pub record Cases : Type 0 where
+  pub made : makeTold aSlice openings ≡ 0
   pub case1 : numberFrom fresh (aSend 5 60 0) ≡ 0
   pub case1sequence : emittedPacket (callOutput fresh anOutput (aSend 5 60 0)) .sequence ≡ 1
   pub case2 : numberFrom fresh (aSend 5 0 0) ≡ 10

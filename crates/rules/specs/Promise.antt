@@ -1,9 +1,9 @@
 -- What is promised of every list of calls on two ledgers: demand 3, one claim about the whole list.
 use mathlib.Core.Path.{_≡_}
 use mathlib.Core.Bool.{Bool, true, false}
-use mathlib.Core.List.{List, [], _∷_, _++_}
+use mathlib.Core.List.{List, [], _∷_}
 use mathlib.Core.Logic.{_↔_}
-use mathlib.Core.Option.{Option, some}
+use mathlib.Core.Option.{some}
 use Prim.Native.Nat.{ℕ, suc, _+_, _≤_, _<_}
 use lib.Dec.{leb, eqb}
 use lib.ListN.{length, take, drop, getElem?}
@@ -16,6 +16,7 @@ use Rattle.store.specs.Height.{seenAcross, isUpToOther, UpToOther, BelowOther}
 use Rattle.store.specs.Table.{channelAt, commitments}
 use Rattle.store.specs.Layout.{storeIn, bytesOf}
 use Rattle.store.specs.Ordering.{isOrdered}
+use Rattle.store.specs.Fit.{isFit}
 use Rattle.store.specs.Maker.{makeTold, makeStore}
 use Rattle.datagram.specs.declared.Packet.{Packet}
 use Rattle.datagram.specs.declared.Verdict.{Verdict}
@@ -24,8 +25,7 @@ use Rattle.datagram.specs.Emitted.{framed, emittedPacket}
 use Rattle.rules.specs.declared.Told.{Told}
 use Rattle.rules.specs.Verdict.{claimHolds}
 use Rattle.rules.specs.Refusals.{given, refusals}
-use Rattle.rules.specs.Acceptance.{Effect}
-use Rattle.rules.specs.Call.{effectIn, nextStore, callTold, callStore, callOutput}
+use Rattle.rules.specs.Call.{answerTo, effectIn, nextStore, callTold, callStore, callOutput}
 
 -- THE TWO LEDGERS
 pub data Side : Type 0 where
@@ -138,16 +138,18 @@ pub record SamePacket (c e : Call) : Type 0 where
   pub channel : packetOf c .source .channel ≡ packetOf e .source .channel
   pub sequence : packetOf c .sequence ≡ packetOf e .sequence
 
--- EVERY CALL WAS ANSWERED as demand 2 says: accepted exactly when no refusal applies; then the store and the record are
--- the rules'; else nothing changed
+-- EVERY CALL WAS ANSWERED by the rules: with the number of the first line that gives one, so accepted exactly when no
+-- refusal applies; then the store and the record are those of the rules, and the rest of the output stays; else nothing changed
 pub record Answered (c : Call) : Type 0 where
+  pub number : c .told .number ≡ answerTo (c .store) (c .output) (c .datagram)
   pub accepts : (c .told .number ≡ 0) ↔
-      Every (λ l. given (datagramIn (c .datagram) .kind) l ≡ 0) (refusals (c .store) (length (c .output)) (c .datagram))
+    Every (λ l. given (datagramIn (c .datagram) .kind) l ≡ 0) (refusals (c .store) (length (c .output)) (c .datagram))
   pub store : c .told .number ≡ 0 → c .storeLeft ≡ bytesOf (nextStore (storeIn (c .store)) (datagramIn (c .datagram)))
-  pub record′ : c .told .number ≡ 0 → emitted c ≡ effectIn (storeIn (c .store)) (datagramIn (c .datagram)) .emitted
+  pub emits : c .told .number ≡ 0 → emitted c ≡ effectIn (storeIn (c .store)) (datagramIn (c .datagram)) .emitted
+  pub size : c .told .number ≡ 0 → c .told .size ≡ length (effectIn (storeIn (c .store)) (datagramIn (c .datagram)) .emitted)
   pub rest : c .told .number ≡ 0 → drop (c .told .size) (c .outputLeft) ≡ drop (c .told .size) (c .output)
   pub refuses : (c .told .number ≡ 0 → ⊥) →
-      (c .told .size ≡ 0) × (c .storeLeft ≡ c .store) × (c .outputLeft ≡ c .output)
+    (c .told .size ≡ 0) × (c .storeLeft ≡ c .store) × (c .outputLeft ≡ c .output)
 
 -- THE SUMS, for each end on its own store: sends are acknowledged, timed out, or commitments still in the table
 abbrev pub isBy : Side → (channel : ℕ) → (Call → Bool) → Call → Bool
@@ -231,7 +233,7 @@ abbrev pub NotBoth : List Call → Type 0
 NotBoth cs =
     (i j : ℕ) (c e : Call) → At cs i c → At cs j e → isDelivery c ≡ true → isTimeout e ≡ true → SamePacket c e → ⊥
 
--- DEMAND 3. Sums and finishing need no pairing and no truth; order needs no pairing; single delivery no truth
+-- DEMAND 3. No part assumes more than it needs: sums, finishing and order no pairing and no truth, single delivery no truth
 pub record Demand3 (start : Side → List ℕ) (cs : List Call) : Type 0 where
   pub answered : (i : ℕ) (c : Call) → At cs i c → Answered c
   pub sums : Sums start cs
@@ -240,3 +242,16 @@ pub record Demand3 (start : Side → List ℕ) (cs : List Call) : Type 0 where
   pub deliveredOnce : Paired start → AtMostOnce isDelivery cs
   pub asSent : Paired start → Honest start cs → AsSent cs
   pub notBoth : Paired start → Honest start cs → NotBoth cs
+
+-- for every pair of made stores and every list of calls
+abbrev pub Demand3Holds : Type 0
+Demand3Holds =
+    (start : Side → List ℕ) (cs : List Call) → ((z : Side) → Made (start z)) → Run start cs → Demand3 start cs
+
+-- AND OF EACH CALL by itself: a made store is fit, a fit store stays fit, bytes stay bytes, a refusal changes nothing
+pub record Stays : Type 0 where
+  pub made : (bs os : List ℕ) → Bytes os → makeTold bs os ≡ 0 → isFit (makeStore bs os) ≡ true
+  pub fit : (bs o b : List ℕ) → Bytes bs → Bytes b → isFit bs ≡ true → isFit (callStore bs o b) ≡ true
+  pub bytes : (bs o b : List ℕ) → Bytes bs → Bytes o → Bytes b → Bytes (callStore bs o b) × Bytes (callOutput bs o b)
+  pub refused : (bs o b : List ℕ) → (callTold bs o b .number ≡ 0 → ⊥) →
+    (callTold bs o b .size ≡ 0) × (callStore bs o b ≡ bs) × (callOutput bs o b ≡ o)
