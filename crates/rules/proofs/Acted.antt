@@ -93,7 +93,7 @@ module _ (c : Call) (met : Met c) where
   out = effectIn (storeIn (c .store)) (datagramIn (c .datagram)) .emitted
 
   module _ (told : c .told .number ≡ 0) where
-    accepts : (answerTo (c .store) (c .output) (c .datagram) ≡ 0) × (answer ≡ accepted next out (c .output))
+    pub accepts : (answerTo (c .store) (c .output) (c .datagram) ≡ 0) × (answer ≡ accepted next out (c .output))
     accepts = called-accepted (c .store) (c .output) (c .datagram) (ap (λ (t : Told). t .number) (sym (met .told)) ∙ told)
 
     pub accepted-store : c .storeLeft ≡ bytesOf next
@@ -102,7 +102,7 @@ module _ (c : Call) (met : Met c) where
     pub accepted-size : c .told .size ≡ length out
     accepted-size = ap (λ (t : Told). t .size) (met .told) ∙ ap (λ (a : Answer). a .told .size) (accepts .1)
 
-    accepted-output : c .outputLeft ≡ out ++ drop (length out) (c .output)
+    pub accepted-output : c .outputLeft ≡ out ++ drop (length out) (c .output)
     accepted-output = met .output ∙ ap (λ (a : Answer). a .output) (accepts .1)
 
     pub accepted-record : emitted c ≡ out

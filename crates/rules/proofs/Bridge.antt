@@ -76,7 +76,7 @@ plain-fields k n m a l u p q z b =
     record {
       low = l; high = u; channel = p; sequence = q; timeout = record { height = omega arith; time = omega arith }; size = z; bytes = b }
 
-proved-two : {k : ℕ} → k ≡ 2 → isProved k ≡ true
+pub proved-two : {k : ℕ} → k ≡ 2 → isProved k ≡ true
 unfolding isProved _or_
 proved-two {k} e = cc
 
@@ -156,6 +156,7 @@ pub record Acceptance (bs b : List ℕ) : Type 0 where
   pub fields : StoreFields (nextStore (storeIn bs) (datagramIn b))
   pub sent : PacketFields (sentPacket (step .channel) (datagramIn b))
   pub carried : isProved (datagramIn b .kind) ≡ true → PacketFields (datagramIn b .packet)
+  pub digest : Bytes (datagramIn b .digest)
 
 or-found : (x : Option Channel) → isSome x ≡ true → x ≡ some (orNone x)
 or-found none h = clash {b = false} h refl
@@ -178,4 +179,4 @@ accepted-step bs o b p q h =
       step = record {
         fits = fit-store bs fit; shape = shape b sound; channel = c; found = found; effect = effectIn s d; how = w; left = refl };
       effect = refl; fields = next-fields s b c fields q sound found (effectIn s d) w; sent = sent-fields s b c fields q sound found;
-      carried = carried-fields s b c fields q sound found }
+      carried = carried-fields s b c fields q sound found; digest = bytes-digest (kindIn b) b q }

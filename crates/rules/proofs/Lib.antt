@@ -17,3 +17,5 @@ pub mod Block
 pub mod Truth
 pub mod CaseLaws
 pub mod Demand3
+pub mod Stays
+pub mod Computed

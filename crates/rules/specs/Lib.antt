@@ -5,3 +5,4 @@ pub mod Acceptance
 pub mod Call
 pub mod Cases
 pub mod Promise
+pub mod Statements
