@@ -3,7 +3,7 @@
 use mathlib.Core.List.{List, _++_}
 use Prim.Native.Nat.{ℕ, _+_}
 use lib.ListN.{length}
-use Rattle.wire.specs.Bytes.{little, field}
+use Rattle.wire.specs.Bytes.{little}
 use Rattle.datagram.specs.declared.Packet.{Packet}
 use Rattle.datagram.specs.Datagram.{frameSize, packetIn}
 

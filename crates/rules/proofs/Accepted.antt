@@ -1,26 +1,19 @@
 -- What an accepted datagram of each kind tells: the one place that opens the table of answers. Assumes nothing.
-use mathlib.Core.Path.{_≡_, refl, sym, subst}
-use mathlib.Core.Bool.{Bool, true, false, not}
-use mathlib.Core.List.{List, [], _∷_}
-use mathlib.Core.Option.{Option, none, some}
-use Prim.Native.Nat.{ℕ, suc, _≤_, _<_}
-use native.Mathlib.Omega.{arith}
+use mathlib.Core.Path.{_≡_}
+use mathlib.Core.Bool.{true, false, not}
+use mathlib.Core.List.{List}
+use Prim.Native.Nat.{ℕ}
 use lib.Dec.{eqb}
-use lib.ListN.{length}
-use borrow.Author.Tests.{eqb-true, eqb-false, not-false}
-use Rattle.wire.specs.Choice.{_and_, _or_, pick, isSome}
-use Rattle.wire.proofs.ChoiceLaws.{clash, cases, some-if}
+use borrow.Author.Tests.{eqb-true, not-false}
+use Rattle.wire.specs.Choice.{_and_, _or_, isSome}
 use Rattle.store.specs.declared.Channel.{Channel}
-use Rattle.store.specs.declared.Record.{Record}
 use Rattle.store.specs.Limits.{top}
-use Rattle.store.specs.Height.{noTimeout}
-use Rattle.store.specs.Table.{hasFree, acknowledgementKey, lookup, channelAt}
-use Rattle.store.specs.Layout.{Store, storeIn}
+use Rattle.store.specs.Table.{hasFree, acknowledgementKey, lookup}
+use Rattle.store.specs.Layout.{Store}
 use Rattle.store.specs.Ordering.{isReceived}
-use Rattle.store.specs.Fit.{isFit}
-use Rattle.datagram.specs.Datagram.{Datagram, datagramIn, isSound}
-use Rattle.rules.specs.Ordering.{isReceiptThere, raisesReceive, raisesAcknowledge, isAtTop, needsRecord}
-use Rattle.rules.specs.Refusals.{only, lowest, table, fitsPacket, isLate, isProvedLate, isCommitted, verdictDifference, isInOrder, isThere, orNone, endFor}
+use Rattle.datagram.specs.Datagram.{Datagram}
+use Rattle.rules.specs.Ordering.{isReceiptThere, isAtTop, needsRecord}
+use Rattle.rules.specs.Refusals.{only, lowest, table, fitsPacket, isLate, isProvedLate, isCommitted, verdictDifference, isInOrder, isThere}
 use Rattle.rules.proofs.RefusalLaws.{givenAt, silent, not-given}
 
 pub record SendOk (s : Store) (c : Channel) : Type 0 where
@@ -62,7 +55,8 @@ module _ (bs : List ℕ) (room : ℕ) (b : List ℕ) (s : Store) (d : Datagram) 
   send-ok h =
       record {
         below = not-given _ 18 (silent 19 1 (lines 1) h);
-        room = not-false (hasFree (s .records)) (not-given _ 19 (silent 20 1 (lines 1) h)) }
+        room = not-false (hasFree (s .records)) (not-given _ 19 (silent 20 1 (lines 1) h));
+      }
 
   pub receive-ok : lowest 2 (lines 2) ≡ 0 → ReceiveOk s d c
   unfolding givenAt table only _or_ isThere
@@ -74,7 +68,8 @@ module _ (bs : List ℕ) (room : ℕ) (b : List ℕ) (s : Store) (d : Datagram) 
         inOrder = not-false _ (not-given _ 14 (silent 15 2 (lines 2) h));
         new = not-given _ 15 (silent 16 2 (lines 2) h);
         below = not-given _ 18 (silent 19 2 (lines 2) h);
-        room = not-given _ 19 (silent 20 2 (lines 2) h) }
+        room = not-given _ 19 (silent 20 2 (lines 2) h);
+      }
 
   pub write-ok : lowest 3 (lines 3) ≡ 0 → WriteOk s d c
   unfolding givenAt table only _or_ isThere needsRecord _and_
@@ -82,7 +77,8 @@ module _ (bs : List ℕ) (room : ℕ) (b : List ℕ) (s : Store) (d : Datagram) 
       record {
         new = not-given _ 15 (silent 16 3 (lines 3) h);
         received = not-false _ (not-given _ 16 (silent 17 3 (lines 3) h));
-        room = not-false (hasFree (s .records)) (not-given _ 19 (silent 20 3 (lines 3) h)) }
+        room = not-false (hasFree (s .records)) (not-given _ 19 (silent 20 3 (lines 3) h));
+      }
 
   pub acknowledge-ok : lowest 4 (lines 4) ≡ 0 → AcknowledgeOk s d c
   unfolding givenAt table only _or_
@@ -90,7 +86,8 @@ module _ (bs : List ℕ) (room : ℕ) (b : List ℕ) (s : Store) (d : Datagram) 
       record {
         fits = not-false _ (not-given _ 8 (silent 9 4 (lines 4) h));
         committed = not-false _ (not-given _ 12 (silent 13 4 (lines 4) h));
-        below = not-given _ 18 (silent 19 4 (lines 4) h) }
+        below = not-given _ 18 (silent 19 4 (lines 4) h);
+      }
 
   pub timeout-ok : lowest 5 (lines 5) ≡ 0 → TimeoutOk s d c
   unfolding givenAt table only _or_
@@ -100,4 +97,5 @@ module _ (bs : List ℕ) (room : ℕ) (b : List ℕ) (s : Store) (d : Datagram) 
         late = not-false _ (not-given _ 11 (silent 12 5 (lines 5) h));
         committed = not-false _ (not-given _ 12 (silent 13 5 (lines 5) h));
         about = eqb-true _ 0 (not-false _ (not-given _ 13 (silent 14 5 (lines 5) h)));
-        inOrder = not-false _ (not-given _ 14 (silent 15 5 (lines 5) h)) }
+        inOrder = not-false _ (not-given _ 14 (silent 15 5 (lines 5) h));
+      }

@@ -1,18 +1,17 @@
 -- An accepted call as its caller saw it: a step from the store that it got to the store that it left, and what its
 -- emitted record says. A refused call changes nothing. Assumes nothing.
-use mathlib.Core.Path.{_≡_, refl, sym, ap, subst, _∙_}
-use mathlib.Core.Bool.{Bool, true, false}
+use mathlib.Core.Path.{_≡_, refl, sym, ap, _∙_}
+use mathlib.Core.Bool.{true}
 use mathlib.Core.List.{List, [], _++_, append-nil}
-use mathlib.Core.Logic.{_⊎_, inl, inr}
-use Prim.Native.Nat.{ℕ, _+_, _≤_, _<_}
+use Prim.Native.Nat.{ℕ, _+_}
 use native.Mathlib.Omega.{arith}
 use lib.Dec.{eqb}
-use lib.ListN.{length, take, drop}
+use lib.ListN.{length, drop}
 use lib.Seq.{take-append-seam, drop-append-seam}
 use borrow.Author.Tests.{eqb-true, eqb-false, eq-eqb, ne-eqb}
 use Rattle.wire.specs.Choice.{_and_, _or_, pick}
-use Rattle.wire.specs.Bytes.{Bytes, little}
-use Rattle.wire.proofs.ChoiceLaws.{and-both, or-either, cases}
+use Rattle.wire.specs.Bytes.{Bytes}
+use Rattle.wire.proofs.ChoiceLaws.{cases}
 use Rattle.store.specs.declared.Channel.{Channel}
 use Rattle.store.specs.Layout.{Store, storeIn, bytesOf}
 use Rattle.store.proofs.LayoutLaws.{bytes-of, read-back}
@@ -20,13 +19,13 @@ use Rattle.datagram.specs.declared.Packet.{Packet}
 use Rattle.datagram.specs.Datagram.{Datagram, datagramIn, kindIn, isProved, packetSize}
 use Rattle.datagram.specs.Emitted.{framed, packetBytes, emittedPacket}
 use Rattle.datagram.proofs.DatagramLaws.{PacketFields}
-use Rattle.datagram.proofs.EmittedLaws.{kind-framed, length-packet, packet-framed, packet-framed-alone}
+use Rattle.datagram.proofs.EmittedLaws.{kind-framed, length-packet, packet-framed}
 use Rattle.rules.specs.declared.Told.{Told}
 use Rattle.rules.specs.Acceptance.{Effect, sentPacket, sends, receives, writesAcknowledgement, acknowledges, timesOut}
 use Rattle.rules.specs.Call.{Answer, answerTo, effectIn, nextStore, accepted, refused, called}
-use Rattle.rules.specs.Promise.{Call, Met, isAccepted, emitted, packetOf}
+use Rattle.rules.specs.Promise.{Call, Met, emitted, packetOf}
 use Rattle.rules.proofs.Step.{How, sending, receiving, writing, acknowledging, timing, Step}
-use Rattle.rules.proofs.Bridge.{Acceptance, accepted-step}
+use Rattle.rules.proofs.Bridge.{accepted-step}
 
 -- THE ANSWER, by whether a line of the table gave a number
 called-accepted : (bs o b : List ℕ) → called bs o b .told .number ≡ 0 →
@@ -34,7 +33,7 @@ called-accepted : (bs o b : List ℕ) → called bs o b .told .number ≡ 0 →
 unfolding called
 called-accepted bs o b h =
     cases (eqb (answerTo bs o b) 0) (λ e. (eqb-true (answerTo bs o b) 0 e, rw (called, e) refl))
-      (λ e. let z : answerTo bs o b ≡ 0 = cc in absurd (eqb-false (answerTo bs o b) 0 e z))
+    (λ e. let z : answerTo bs o b ≡ 0 = cc in absurd (eqb-false (answerTo bs o b) 0 e z))
 
 called-refused : (bs o b : List ℕ) → (called bs o b .told .number ≡ 0 → ⊥) → called bs o b ≡ refused (answerTo bs o b) bs o
 unfolding called
@@ -78,7 +77,7 @@ pub record Acted (c : Call) : Type 0 where
   pub step : Step (storeIn (c .store)) (datagramIn (c .datagram)) (storeIn (c .storeLeft))
   pub kind : kindIn (emitted c) ≡ 256 + datagramIn (c .datagram) .kind
   pub emits : (datagramIn (c .datagram) .kind ≡ 3 → ⊥) →
-    emitted c ≡ framed (256 + datagramIn (c .datagram) .kind)
+      emitted c ≡ framed (256 + datagramIn (c .datagram) .kind)
       (packetBytes (packetFor (step .channel) (datagramIn (c .datagram))) ++ restFor (datagramIn (c .datagram)))
   pub fields : (datagramIn (c .datagram) .kind ≡ 3 → ⊥) → PacketFields (packetFor (step .channel) (datagramIn (c .datagram)))
 
@@ -113,9 +112,11 @@ module _ (c : Call) (met : Met c) where
 
   pub refused-call : (c .told .number ≡ 0 → ⊥) → (c .told .size ≡ 0) × (c .storeLeft ≡ c .store) × (c .outputLeft ≡ c .output)
   refused-call n =
-      let r = called-refused (c .store) (c .output) (c .datagram) (λ q. n (ap (λ (t : Told). t .number) (met .told) ∙ q)) in
-      (ap (λ (t : Told). t .size) (met .told) ∙ ap (λ (a : Answer). a .told .size) r, met .store ∙ ap (λ (a : Answer). a .store) r,
-        met .output ∙ ap (λ (a : Answer). a .output) r)
+      let r = called-refused (c .store) (c .output) (c .datagram) (λ q. n (ap (λ (t : Told). t .number) (met .told) ∙ q)) in (
+        ap (λ (t : Told). t .size) (met .told) ∙ ap (λ (a : Answer). a .told .size) r,
+        met .store ∙ ap (λ (a : Answer). a .store) r,
+        met .output ∙ ap (λ (a : Answer). a .output) r,
+      )
 
   module _ (bs : Bytes (c .store)) (bd : Bytes (c .datagram)) where
     pub acted : c .told .number ≡ 0 → Acted c
@@ -126,21 +127,28 @@ module _ (c : Call) (met : Met c) where
         let out-is : emitted c ≡ st .effect .emitted = accepted-record told ∙ ap (λ (e : Effect). e .emitted) (sym (a .effect)) in
         record {
           step = record {
-            fits = st .fits; shape = st .shape; channel = st .channel; found = st .found; effect = st .effect; how = st .how;
-            left = ap storeIn (accepted-store told) ∙ read-back next (a .fields) ∙ st .left };
+            fits = st .fits;
+            shape = st .shape;
+            channel = st .channel;
+            found = st .found;
+            effect = st .effect;
+            how = st .how;
+            left = ap storeIn (accepted-store told) ∙ read-back next (a .fields) ∙ st .left;
+          };
           kind = ap kindIn out-is ∙ kind-emitted (storeIn (c .store)) d (st .channel) (st .effect) (st .how);
           emits = λ n. out-is ∙ packet-emitted (storeIn (c .store)) d (st .channel) (st .effect) (st .how) n;
-          fields = fields-emitted (storeIn (c .store)) d (st .channel) (st .effect) (a .sent) (a .carried) (st .how) }
+          fields = fields-emitted (storeIn (c .store)) d (st .channel) (st .effect) (a .sent) (a .carried) (st .how);
+        }
 
     -- bytes stay bytes
     pub left-bytes : Bytes (c .storeLeft)
     left-bytes =
         cases (eqb (c .told .number) 0)
-          (λ e.
-            let told = eqb-true (c .told .number) 0 e in
-            let a = accepted-step (c .store) (c .output) (c .datagram) bs bd (accepts told .0) in
-            rw (accepted-store told) (bytes-of next (a .fields)))
-          (λ e. rw (refused-call (eqb-false (c .told .number) 0 e) .1) bs)
+        (λ e.
+        let told = eqb-true (c .told .number) 0 e in
+        let a = accepted-step (c .store) (c .output) (c .datagram) bs bd (accepts told .0) in
+        rw (accepted-store told) (bytes-of next (a .fields)))
+        (λ e. rw (refused-call (eqb-false (c .told .number) 0 e) .1) bs)
 
 -- THE PACKET of an accepted call, and its bytes where nothing follows them
 module _ (c : Call) (a : Acted c) (n : datagramIn (c .datagram) .kind ≡ 3 → ⊥) where

@@ -1,41 +1,36 @@
 -- From bytes to stores: an accepted call is a step, what it leaves is bytes and is read back; a refused one changes
 -- nothing. Assumes nothing.
-use mathlib.Core.Path.{_≡_, refl, sym, ap, subst, _∙_}
-use mathlib.Core.Bool.{Bool, true, false, not}
-use mathlib.Core.List.{List, [], _∷_, _++_}
-use mathlib.Core.Logic.{_⊎_, inl, inr, ⊎-elim}
+use mathlib.Core.Path.{_≡_, refl, subst, _∙_}
+use mathlib.Core.Bool.{true, false}
+use mathlib.Core.List.{List}
+use mathlib.Core.Logic.{⊎-elim}
 use mathlib.Core.Option.{Option, none, some}
-use Prim.Native.Nat.{ℕ, suc, _+_, _≤_, _<_, _^_}
+use Prim.Native.Nat.{ℕ, _+_, _≤_, _<_, _^_}
 use native.Mathlib.Omega.{arith}
 use lib.Dec.{eqb}
-use lib.ListN.{length, take, drop}
-use lib.Seq.{take-append-seam, drop-append-seam}
-use borrow.Author.Tests.{eqb-true, eqb-false, eq-eqb, not-false}
-use Rattle.wire.specs.Choice.{_or_, pick, isSome}
-use Rattle.wire.specs.Bytes.{Bytes, little, noDigest, digestSize}
-use Rattle.wire.proofs.ChoiceLaws.{cases, of-pick, some-if, clash}
-use Rattle.wire.proofs.EveryLaws.{every-append, every-drop}
-use Rattle.wire.proofs.BytesLaws.{Byte, bytes-little, bytes-zeros}
+use lib.ListN.{length}
+use borrow.Author.Tests.{eqb-false, not-false}
+use Rattle.wire.specs.Choice.{_or_, isSome}
+use Rattle.wire.specs.Bytes.{Bytes, noDigest, digestSize}
+use Rattle.wire.proofs.ChoiceLaws.{cases, of-pick, clash}
+use Rattle.wire.proofs.BytesLaws.{bytes-zeros}
 use Rattle.store.specs.declared.Channel.{Channel}
 use Rattle.store.specs.declared.Counters.{Counters}
 use Rattle.store.specs.declared.Record.{Record}
 use Rattle.store.specs.Limits.{top}
-use Rattle.store.specs.Table.{Key, isNumbered, hasKey, channelAt}
-use Rattle.store.specs.Layout.{Store, storeIn, bytesOf}
+use Rattle.store.specs.Table.{isNumbered, hasKey, channelAt}
+use Rattle.store.specs.Layout.{Store, storeIn}
 use Rattle.store.specs.Ordering.{isOrdered}
 use Rattle.store.specs.Fit.{isFit}
 use Rattle.store.proofs.TableLaws.{Each, each-find, each-insert, each-replace, length-insert, length-replace}
-use Rattle.store.proofs.LayoutLaws.{EndFields, TimeoutFields, CounterFields, ChannelFields, RecordFields, StoreFields, bytes-of, read-back}
+use Rattle.store.proofs.LayoutLaws.{CounterFields, ChannelFields, RecordFields, StoreFields}
 use Rattle.store.proofs.FitLaws.{fit-fields, fit-store}
-use Rattle.datagram.specs.declared.Packet.{Packet}
-use Rattle.datagram.specs.Datagram.{Datagram, datagramIn, kindIn, contextIn, packetFrom, channelFrom, isProved, isSound, packetSize}
-use Rattle.datagram.specs.Emitted.{framed, packetBytes, emittedPacket}
+use Rattle.datagram.specs.Datagram.{Datagram, datagramIn, kindIn, channelFrom, isProved, isSound}
 use Rattle.datagram.proofs.DatagramLaws.{Sound, sound-is, PacketFields, packet-fields, timeout-fields, sequence-below, length-digest, bytes-digest, height-below, time-below}
-use Rattle.datagram.proofs.EmittedLaws.{kind-framed, bytes-framed, length-packet, bytes-packet, packet-framed, packet-framed-alone}
 use Rattle.rules.specs.Ordering.{Edit, keeps, writes, frees, plainRecord, counted, closed, raisedSend, raisedReceive, raisedAcknowledge, raisesReceive, raisesAcknowledge, receivedEnd, receivedEdit, acknowledgedEnd, timedOutEnd}
-use Rattle.rules.specs.Refusals.{lowest, table, refusals, orNone, endFor}
+use Rattle.rules.specs.Refusals.{table, refusals, orNone, endFor}
 use Rattle.rules.specs.Acceptance.{Effect, sentPacket, commitment, sends, receives, writesAcknowledgement, acknowledges, timesOut, edited, applied}
-use Rattle.rules.specs.Call.{answerTo, effectIn, nextStore, called}
+use Rattle.rules.specs.Call.{answerTo, effectIn, nextStore}
 use Rattle.rules.proofs.RefusalLaws.{givenAt, silent, not-given}
 use Rattle.rules.proofs.OrderingLaws.{receive-below, acknowledge-below}
 use Rattle.rules.proofs.Step.{How, sending, receiving, writing, acknowledging, timing, how, Shape, Step}
@@ -56,25 +51,32 @@ end-fields : (s : Store) (d : Datagram) (c : Channel) (e : Effect) → ChannelFi
 unfolding sends receives writesAcknowledgement acknowledges timesOut receivedEnd acknowledgedEnd timedOutEnd
 end-fields s d c e h (sending k ok) =
     counted-fields c (raisedSend (c .next)) h
-      (record { send = raised (c .next .send) (h .next .send) (ok .below); receive = h .next .receive; acknowledge = h .next .acknowledge })
+    (record { send = raised (c .next .send) (h .next .send) (ok .below); receive = h .next .receive; acknowledge = h .next .acknowledge })
 end-fields s d c e h (receiving k ok) =
     of-pick ChannelFields (raisesReceive c) (counted c (raisedReceive (c .next))) c
-      (λ q. counted-fields c (raisedReceive (c .next)) h
-        (record { send = h .next .send; receive = raised (c .next .receive) (h .next .receive) (receive-below c q (ok .below)); acknowledge = h .next .acknowledge }))
-      (λ q. h)
+    (λ q. counted-fields c (raisedReceive (c .next)) h
+    (record { send = h .next .send; receive = raised (c .next .receive) (h .next .receive) (receive-below c q (ok .below)); acknowledge = h .next .acknowledge }))
+    (λ q. h)
 end-fields s d c e h (writing k ok) = h
 end-fields s d c e h (acknowledging k ok) =
     of-pick ChannelFields (raisesAcknowledge c) (counted c (raisedAcknowledge (c .next))) c
-      (λ q. counted-fields c (raisedAcknowledge (c .next)) h
-        (record { send = h .next .send; receive = h .next .receive; acknowledge = raised (c .next .acknowledge) (h .next .acknowledge) (acknowledge-below c q (ok .below)) }))
-      (λ q. h)
+    (λ q. counted-fields c (raisedAcknowledge (c .next)) h
+    (record { send = h .next .send; receive = h .next .receive; acknowledge = raised (c .next .acknowledge) (h .next .acknowledge) (acknowledge-below c q (ok .below)) }))
+    (λ q. h)
 end-fields s d c e h (timing k ok) = of-pick ChannelFields (isOrdered c) (closed c) c (λ q. closed-fields c h) (λ q. h)
 
 plain-fields : (k n m : ℕ) (a : List ℕ) → 1 ≤ k → k ≤ 3 → n < 256 ^ 4 → m < 256 ^ 8 → length a ≡ digestSize → Bytes a → RecordFields (plainRecord k n m a)
 unfolding plainRecord
 plain-fields k n m a l u p q z b =
     record {
-      low = l; high = u; channel = p; sequence = q; timeout = record { height = omega arith; time = omega arith }; size = z; bytes = b }
+      low = l;
+      high = u;
+      channel = p;
+      sequence = q;
+      timeout = record { height = omega arith; time = omega arith };
+      size = z;
+      bytes = b;
+    }
 
 pub proved-two : {k : ℕ} → k ≡ 2 → isProved k ≡ true
 unfolding isProved _or_
@@ -89,8 +91,13 @@ module _ (s : Store) (b : List ℕ) (c : Channel) (fields : StoreFields s) (byte
   unfolding sentPacket datagramIn
   sent-fields =
       record {
-        sequence = channel-fields .next .send; timeout = timeout-fields b bytes; source = channel-fields .own;
-        destination = channel-fields .counterparty; size = length-digest b sound; bytes = bytes-digest (kindIn b) b bytes }
+        sequence = channel-fields .next .send;
+        timeout = timeout-fields b bytes;
+        source = channel-fields .own;
+        destination = channel-fields .counterparty;
+        size = length-digest b sound;
+        bytes = bytes-digest (kindIn b) b bytes;
+      }
 
   carried-fields : isProved (datagramIn b .kind) ≡ true → PacketFields (datagramIn b .packet)
   unfolding datagramIn
@@ -100,7 +107,7 @@ module _ (s : Store) (b : List ℕ) (c : Channel) (fields : StoreFields s) (byte
   unfolding datagramIn
   written-fields =
       plain-fields 3 (c .own .channel) _ _ (omega arith) (omega arith) (channel-fields .own .channel) (sequence-below b bytes)
-        (length-digest b sound) (bytes-digest (kindIn b) b bytes)
+      (length-digest b sound) (bytes-digest (kindIn b) b bytes)
 
   new-fields : (e : Effect) (r : Record) → How s (datagramIn b) c e → e .edit ≡ writes r → RecordFields r
   unfolding sends receives writesAcknowledgement acknowledges timesOut receivedEdit commitment sentPacket
@@ -108,14 +115,20 @@ module _ (s : Store) (b : List ℕ) (c : Channel) (fields : StoreFields s) (byte
       let f = sent-fields in
       let z : commitment (sentPacket c (datagramIn b)) ≡ r = cc in
       subst RecordFields z (record {
-        low = omega arith; high = omega arith; channel = f .source .channel; sequence = f .sequence; timeout = f .timeout;
-        size = f .size; bytes = f .bytes })
+        low = omega arith;
+        high = omega arith;
+        channel = f .source .channel;
+        sequence = f .sequence;
+        timeout = f .timeout;
+        size = f .size;
+        bytes = f .bytes;
+      })
   new-fields e r (receiving k ok) q =
       cases (raisesReceive c) (λ p. let z : _≡_ {A = ℕ} 0 1 = cc in absurd (omega arith))
-        (λ p.
-          let z : plainRecord 2 (c .own .channel) (datagramIn b .packet .sequence) noDigest ≡ r = cc in
-          subst RecordFields z (plain-fields 2 (c .own .channel) (datagramIn b .packet .sequence) noDigest (omega arith) (omega arith)
-            (channel-fields .own .channel) (carried-fields (proved-two k) .sequence) refl (bytes-zeros digestSize)))
+      (λ p.
+      let z : plainRecord 2 (c .own .channel) (datagramIn b .packet .sequence) noDigest ≡ r = cc in
+      subst RecordFields z (plain-fields 2 (c .own .channel) (datagramIn b .packet .sequence) noDigest (omega arith) (omega arith)
+      (channel-fields .own .channel) (carried-fields (proved-two k) .sequence) refl (bytes-zeros digestSize)))
   new-fields e r (writing k ok) q =
       let z : plainRecord 3 (c .own .channel) (datagramIn b .sequence) (datagramIn b .digest) ≡ r = cc in
       subst RecordFields z written-fields
@@ -130,10 +143,14 @@ module _ (s : Store) (b : List ℕ) (c : Channel) (fields : StoreFields s) (byte
       let u = fields .high in
       let w = r .0 in
       record {
-        height = height-below b bytes; time = time-below b bytes; slots = length-replace _ _ (s .channels) ∙ fields .slots;
-        low = omega arith; high = omega arith;
+        height = height-below b bytes;
+        time = time-below b bytes;
+        slots = length-replace _ _ (s .channels) ∙ fields .slots;
+        low = omega arith;
+        high = omega arith;
         channels = each-replace ChannelFields _ (some (e .end)) (s .channels) (end-fields s (datagramIn b) c e channel-fields h, tt) (fields .channels);
-        records = r .1 }
+        records = r .1;
+      }
     where
       records : (x : Edit) → e .edit ≡ x → (length (edited x (s .records)) ≡ length (s .records)) × Each RecordFields (edited x (s .records))
       records keeps q = (refl, fields .records)
@@ -145,8 +162,11 @@ shape : (b : List ℕ) → Sound b → Shape (datagramIn b)
 unfolding datagramIn channelFrom _or_
 shape b h =
     record {
-      toDestination = λ k. cc; fromSource = ⊎-elim (λ k. cc) (λ k. cc); received = λ k. h .numbered (proved-two k);
-      written = h .written }
+      toDestination = λ k. cc;
+      fromSource = ⊎-elim (λ k. cc) (λ k. cc);
+      received = λ k. h .numbered (proved-two k);
+      written = h .written;
+    }
 
 pub record Acceptance (bs b : List ℕ) : Type 0 where
   pub fit : isFit bs ≡ true
@@ -175,8 +195,20 @@ accepted-step bs o b p q h =
     let fields = fit-fields bs p fit in
     let w = how bs (length o) b s d c (d .kind) refl (sound .low) (sound .high) h in
     record {
-      fit = fit; sound = sound;
+      fit = fit;
+      sound = sound;
       step = record {
-        fits = fit-store bs fit; shape = shape b sound; channel = c; found = found; effect = effectIn s d; how = w; left = refl };
-      effect = refl; fields = next-fields s b c fields q sound found (effectIn s d) w; sent = sent-fields s b c fields q sound found;
-      carried = carried-fields s b c fields q sound found; digest = bytes-digest (kindIn b) b q }
+        fits = fit-store bs fit;
+        shape = shape b sound;
+        channel = c;
+        found = found;
+        effect = effectIn s d;
+        how = w;
+        left = refl;
+      };
+      effect = refl;
+      fields = next-fields s b c fields q sound found (effectIn s d) w;
+      sent = sent-fields s b c fields q sound found;
+      carried = carried-fields s b c fields q sound found;
+      digest = bytes-digest (kindIn b) b q;
+    }

@@ -1,5 +1,5 @@
 -- The sixteen worked cases. Assumes nothing.
-use mathlib.Core.Path.{_≡_, refl}
+use mathlib.Core.Path.{refl}
 use Rattle.wire.specs.Choice.{_and_, _or_}
 use Rattle.wire.specs.Bytes.{same, areZero, little, numberOf, part, field, pieces}
 use Rattle.store.specs.Height.{isPast, sameTimeout}

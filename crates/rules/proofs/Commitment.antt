@@ -1,24 +1,24 @@
 -- One accepted call and the commitments: each stems from a send, a sequence that is used is never used again, and to
 -- finish a packet takes its commitment and removes it. Assumes nothing.
 use mathlib.Core.Path.{_≡_, refl, sym, ap, subst, _∙_}
-use mathlib.Core.Bool.{Bool, true, false}
+use mathlib.Core.Bool.{true}
 use mathlib.Core.List.{List}
 use mathlib.Core.Logic.{_⊎_, inl, inr, ⊎-elim}
 use mathlib.Core.Option.{Option, none, some}
-use Prim.Native.Nat.{ℕ, _+_, _≤_, _<_}
+use Prim.Native.Nat.{ℕ, _+_, _<_}
 use native.Mathlib.Omega.{arith}
 use lib.Dec.{eqb}
 use Rattle.wire.specs.Choice.{_and_, pick, isSome}
 use Rattle.wire.proofs.ChoiceLaws.{cases}
 use Rattle.store.specs.declared.Channel.{Channel}
 use Rattle.store.specs.declared.Record.{Record}
-use Rattle.store.specs.Table.{Key, commitmentKey, keyOf, lookup, remove, commitments, isCommitmentOn, channelAt}
+use Rattle.store.specs.Table.{Key, commitmentKey, lookup, remove, commitments, isCommitmentOn, channelAt}
 use Rattle.store.specs.Layout.{Store}
 use Rattle.store.specs.Fit.{storeFits}
 use Rattle.store.proofs.RecordLaws.{Single, insert-from, remove-from, lookup-remove, commitments-insert, commitments-remove}
 use Rattle.store.proofs.FitRecordLaws.{committed-end}
 use Rattle.datagram.specs.Datagram.{Datagram}
-use Rattle.rules.specs.Ordering.{Edit, keeps, writes, frees, plainRecord, raisesReceive, receivedEdit}
+use Rattle.rules.specs.Ordering.{Edit, writes, frees, plainRecord, raisesReceive, receivedEdit}
 use Rattle.rules.specs.Refusals.{isCommitted}
 use Rattle.rules.specs.Acceptance.{Effect, sentPacket, commitment, sends, receives, writesAcknowledgement, acknowledges, timesOut, edited}
 use Rattle.rules.proofs.Step.{How, sending, receiving, writing, acknowledging, timing, Step, Grown, Later, Legal, keeping, adding, freeing, legal, single, later, records-left, own-number, own-found, committed-there}
@@ -74,18 +74,22 @@ stems s d t n m r st h =
     go (st .effect .edit) refl (legal s d t st) (ap (λ (rs : List (Option Record)). lookup (commitmentKey n m) rs) (sym (records-left s d t st)) ∙ h)
   where
     go : (e : Edit) → st .effect .edit ≡ e → Legal (s .records) e → lookup (commitmentKey n m) (edited e (s .records)) ≡ some r →
-      (lookup (commitmentKey n m) (s .records) ≡ some r) ⊎ SentNow d (st .channel) n m r
+        (lookup (commitmentKey n m) (s .records) ≡ some r) ⊎ SentNow d (st .channel) n m r
     go e w keeping l = inl l
     go e w (adding {r = x} room new) l =
         elim (insert-from (s .records) (single s d t st) x room new (commitmentKey n m) r l) [
-          inl q ↦
-            let k = q .0 in
-            let b = written-by s d (st .channel) (st .effect) x (st .how) w (ap (λ (y : Key). y .kind) k) in
-            let y = b .1 in
-            inr (record {
-              kind = b .0; committed = q .1 ∙ y; channel = ap (λ (v : Record). v .channel) (sym y) ∙ ap (λ (v : Key). v .channel) k;
-              sequence = ap (λ (v : Record). v .sequence) (sym y) ∙ ap (λ (v : Key). v .sequence) k })
-        | inr q ↦ inl q ]
+          | inl q ↦
+              let k = q .0 in
+              let b = written-by s d (st .channel) (st .effect) x (st .how) w (ap (λ (y : Key). y .kind) k) in
+              let y = b .1 in
+              inr (record {
+                kind = b .0;
+                committed = q .1 ∙ y;
+                channel = ap (λ (v : Record). v .channel) (sym y) ∙ ap (λ (v : Key). v .channel) k;
+                sequence = ap (λ (v : Record). v .sequence) (sym y) ∙ ap (λ (v : Key). v .sequence) k;
+              })
+          | inr q ↦ inl q
+        ]
     go e w (freeing {c = c} {n = k} there) l = inl (remove-from (s .records) (single s d t st) (commitmentKey c k) (commitmentKey n m) r l)
 
 -- so a used sequence's commitment was there
@@ -93,14 +97,15 @@ pub used-from : (s : Store) (d : Datagram) (t : Store) (n m : ℕ) (r : Record) 
     lookup (commitmentKey n m) (s .records) ≡ some r
 used-from s d t n m r st u h =
     elim (stems s d t n m r st h) [
-      inl q ↦ q
-    | inr q ↦
-      let f = u .found in
-      let g : channelAt n (s .channels) ≡ some (st .channel) = ap (λ (k : ℕ). channelAt k (s .channels)) (sym (q .channel)) ∙ own-found s d t st in
-      let e : u .channel ≡ st .channel = cc in
-      let b : m < st .channel .next .send = subst (λ (c : Channel). m < c .next .send) e (u .below) in
-      let a = q .sequence in
-      absurd (omega arith) ]
+      | inl q ↦ q
+      | inr q ↦
+          let f = u .found in
+          let g : channelAt n (s .channels) ≡ some (st .channel) = ap (λ (k : ℕ). channelAt k (s .channels)) (sym (q .channel)) ∙ own-found s d t st in
+          let e : u .channel ≡ st .channel = cc in
+          let b : m < st .channel .next .send = subst (λ (c : Channel). m < c .next .send) e (u .below) in
+          let a = q .sequence in
+          absurd (omega arith)
+    ]
 
 -- TO FINISH
 module _ (s : Store) (d : Datagram) (t : Store) (st : Step s d t) (k : (d .kind ≡ 4) ⊎ (d .kind ≡ 5)) where
@@ -113,8 +118,9 @@ module _ (s : Store) (d : Datagram) (t : Store) (st : Step s d t) (k : (d .kind 
     where
       not-k : (n : ℕ) → d .kind ≡ n → n < 4 → ⊥
       not-k n e l = ⊎-elim (λ q. omega arith) (λ q. omega arith) k
+
       go : (e : Effect) → How s d (st .channel) e →
-        (isCommitted (s .records) (d .packet) ≡ true) × (e .edit ≡ frees (commitmentKey (st .channel .own .channel) (d .packet .sequence)))
+          (isCommitted (s .records) (d .packet) ≡ true) × (e .edit ≡ frees (commitmentKey (st .channel .own .channel) (d .packet .sequence)))
       go e (sending q ok) = absurd (not-k 1 q (omega arith))
       go e (receiving q ok) = absurd (not-k 2 q (omega arith))
       go e (writing q ok) = absurd (not-k 3 q (omega arith))
@@ -159,12 +165,12 @@ module _ (s : Store) (d : Datagram) (t : Store) (st : Step s d t) (n : ℕ) wher
   sum = go (st .effect) (st .how) (legal s d t st) (records-left s d t st)
     where
       go : (e : Effect) → How s d (st .channel) e → Legal (s .records) (e .edit) → t .records ≡ edited (e .edit) (s .records) →
-        tally 1 + commitments n (s .records) ≡ tally 4 + tally 5 + commitments n (t .records)
+          tally 1 + commitments n (s .records) ≡ tally 4 + tally 5 + commitments n (t .records)
       go e (sending k ok) l w = rw (k, w) (omega (arith, wrote (s .records) _ (single s d t st) l n))
       go e (receiving k ok) l w =
           cases (raisesReceive (st .channel))
-            (λ q. rw (k, w, q) (omega arith))
-            (λ q. rw (k, w, q) (omega (arith, wrote (s .records) _ (single s d t st) (rw (receivedEdit, q) at l) n)))
+          (λ q. rw (k, w, q) (omega arith))
+          (λ q. rw (k, w, q) (omega (arith, wrote (s .records) _ (single s d t st) (rw (receivedEdit, q) at l) n)))
       go e (writing k ok) l w = rw (k, w) (omega (arith, wrote (s .records) _ (single s d t st) l n))
       go e (acknowledging k ok) l w = let q = finished-sum (inl k) in rw k (omega arith)
       go e (timing k ok) l w = let q = finished-sum (inr k) in rw k (omega arith)

@@ -1,14 +1,11 @@
 -- A computed run is a list of calls as their callers saw them, so all of demand 3 holds of it. Assumes nothing.
-use mathlib.Core.Path.{_≡_, refl, sym, ap, subst, _∙_}
-use mathlib.Core.Bool.{Bool, true, false}
+use mathlib.Core.Path.{_≡_, refl, subst}
 use mathlib.Core.List.{List, [], _∷_}
-use mathlib.Core.Option.{some}
 use Prim.Native.Nat.{ℕ, zero, suc}
 use native.Mathlib.Omega.{arith}
-use lib.ListN.{take, getElem?}
-use Rattle.wire.specs.Choice.{pick}
+use lib.ListN.{take}
 use Rattle.wire.specs.Bytes.{Every, Bytes}
-use Rattle.rules.specs.Promise.{Side, Call, Met, At, fold, storeAfter, isOn, Run, Made, Demand3}
+use Rattle.rules.specs.Promise.{Side, Call, Met, At, fold, storeAfter, isOn, Made, Demand3}
 use Rattle.rules.specs.Statements.{Request, answerOn, leftBy, calls, Statements}
 use Rattle.rules.proofs.Demand3.{demand3}
 use Rattle.rules.proofs.Stays.{stays}
@@ -26,7 +23,7 @@ got start [] b i c h = let z : _≡_ {A = ℕ} 0 1 = cc in absurd (omega arith)
 got start (r ∷ rs) b zero c h =
     let z : answerOn (start (r .side)) r ≡ c = cc in
     subst (Got start (calls start (r ∷ rs)) 0) z
-      (record { bytes = b .0; store = refl; met = record { told = refl; store = refl; output = refl } })
+    (record { bytes = b .0; store = refl; met = record { told = refl; store = refl; output = refl } })
 got start (r ∷ rs) b (suc i) c h =
     let g = got (leftBy start (answerOn (start (r .side)) r)) rs (b .1) i c h in
     record { bytes = g .bytes; store = g .store; met = g .met }
@@ -35,13 +32,20 @@ computed : (start : Side → List ℕ) (rs : List Request) → ((z : Side) → M
     Demand3 start (calls start rs)
 computed start rs made b =
     demand3 start (calls start rs) made
-      (record {
-        bytes = λ i c h. got start rs b i c h .bytes; got = λ i c h. got start rs b i c h .store; met = λ i c h. got start rs b i c h .met })
+    (record {
+      bytes = λ i c h. got start rs b i c h .bytes;
+      got = λ i c h. got start rs b i c h .store;
+      met = λ i c h. got start rs b i c h .met;
+    })
 
 pub statements : Statements
 statements =
     record {
-      sumsHold = λ start rs m b. computed start rs m b .sums; finishedOnce = λ start rs m b. computed start rs m b .finishedOnce;
-      deliveredOnce = λ start rs m b. computed start rs m b .deliveredOnce; asSent = λ start rs m b. computed start rs m b .asSent;
-      inOrder = λ start rs m b. computed start rs m b .inOrder; notBoth = λ start rs m b. computed start rs m b .notBoth;
-      staysFit = stays }
+      sumsHold = λ start rs m b. computed start rs m b .sums;
+      finishedOnce = λ start rs m b. computed start rs m b .finishedOnce;
+      deliveredOnce = λ start rs m b. computed start rs m b .deliveredOnce;
+      asSent = λ start rs m b. computed start rs m b .asSent;
+      inOrder = λ start rs m b. computed start rs m b .inOrder;
+      notBoth = λ start rs m b. computed start rs m b .notBoth;
+      staysFit = stays;
+    }

@@ -1,15 +1,13 @@
 -- Demand 3: with paired ends each packet is delivered at most once; ordered ends deliver 1, 2, 3 and on. Assumes nothing.
-use mathlib.Core.Path.{_≡_, refl, sym, ap, subst, subst₂, subst₃, _∙_}
-use mathlib.Core.Bool.{Bool, true, false}
-use mathlib.Core.List.{List}
+use mathlib.Core.Path.{_≡_, sym, ap, subst, subst₂, subst₃, _∙_}
+use mathlib.Core.Bool.{true}
 use mathlib.Core.Logic.{_⊎_, inl, inr}
-use mathlib.Core.Option.{Option, none, some}
-use Prim.Native.Nat.{ℕ, zero, suc, _+_, _≤_, _<_}
+use mathlib.Core.Option.{some}
+use Prim.Native.Nat.{ℕ, zero, suc, _<_}
 use native.Mathlib.Omega.{arith}
-use lib.Dec.{eqb}
 use lib.ListN.{length, take}
-use borrow.Author.Tests.{eqb-true, eqb-false, eq-eqb, ne-eqb}
-use Rattle.wire.specs.Choice.{_and_, pick}
+use borrow.Author.Tests.{eqb-true, eq-eqb}
+use Rattle.wire.specs.Choice.{_and_}
 use Rattle.wire.proofs.ChoiceLaws.{and-both, both-and, clash, cases}
 use Rattle.store.specs.declared.End.{End}
 use Rattle.store.specs.declared.Channel.{Channel}
@@ -18,13 +16,12 @@ use Rattle.store.specs.Layout.{Store, storeIn}
 use Rattle.store.specs.Ordering.{isOrdered}
 use Rattle.store.proofs.MakerLaws.{made-counters}
 use Rattle.datagram.specs.declared.Packet.{Packet}
-use Rattle.datagram.specs.Datagram.{Datagram, datagramIn, kindIn}
-use Rattle.rules.specs.Promise.{Side, across, Call, At, fold, howMany, isOn, isAccepted, emitted, isDelivery, packetOf, SamePacket, AtMostOnce, Paired, Peers, isDeliveryAt, InOrder}
-use Rattle.rules.proofs.Step.{Step}
+use Rattle.datagram.specs.Datagram.{datagramIn, kindIn}
+use Rattle.rules.specs.Promise.{Side, across, Call, fold, howMany, isOn, isAccepted, emitted, isDelivery, packetOf, SamePacket, AtMostOnce, Paired, isDeliveryAt, InOrder}
 use Rattle.rules.proofs.Receipt.{Received, received-stays, receive-first, receive-makes, Waits, waits-on, waits-next}
-use Rattle.rules.proofs.Acted.{Acted, acted-carried}
+use Rattle.rules.proofs.Acted.{acted-carried}
 use Rattle.rules.proofs.History.{side-refl, across-across, made-read, World, ledger, Acts, Turn, Quiet, turn, kept, turn-count, quiet-count}
-use Rattle.rules.proofs.Once.{Did, delivery-sender, once}
+use Rattle.rules.proofs.Once.{delivery-sender, once}
 use Rattle.rules.proofs.Pairing.{Delivered, delivered, sender-end}
 
 module _ (w : World) where
@@ -34,14 +31,14 @@ module _ (w : World) where
   received-since i c d j l =
       let a = d .did .acts in
       kept w (λ (s : Store). Received s (packetOf c .destination .channel) (packetOf c .sequence)) (λ s x t st. received-stays s x t _ _ st) (c .side) (suc i) j l
-        (subst₂ (λ (p : Packet) (s : Store). Received s (p .destination .channel) (p .sequence)) (sym (d .packet)) (a .after)
-          (receive-makes _ _ _ (a .acted .step) (d .did .kind)))
+      (subst₂ (λ (p : Packet) (s : Store). Received s (p .destination .channel) (p .sequence)) (sym (d .packet)) (a .after)
+      (receive-makes _ _ _ (a .acted .step) (d .did .kind)))
 
   not-received : (i : ℕ) (c : Call) → Delivered w i c → Received (ledger w (c .side) i) (packetOf c .destination .channel) (packetOf c .sequence) → ⊥
   not-received i c d r =
       let a = d .did .acts in
       receive-first _ _ _ (a .acted .step) (d .did .kind)
-        (subst₂ (λ (p : Packet) (s : Store). Received s (p .destination .channel) (p .sequence)) (d .packet) (sym (a .before)) r)
+      (subst₂ (λ (p : Packet) (s : Store). Received s (p .destination .channel) (p .sequence)) (d .packet) (sym (a .before)) r)
 
   -- packets of one source go to one end
   same-destination : Paired (w .start) → (i j : ℕ) (c e : Call) (d : Delivered w i c) (f : Delivered w j e) → c .side ≡ e .side →
@@ -51,10 +48,10 @@ module _ (w : World) where
       let q = sender-end w pairs j e f in
       let a = p .1 in
       let b : channelAt (packetOf c .source .channel) (storeIn (w .start (across (c .side))) .channels) ≡ some (q .0) =
-        subst₂ (λ (y : Side) (n : ℕ). channelAt n (storeIn (w .start (across y)) .channels) ≡ some (q .0)) (sym z) (sym h) (q .1) in
+      subst₂ (λ (y : Side) (n : ℕ). channelAt n (storeIn (w .start (across y)) .channels) ≡ some (q .0)) (sym z) (sym h) (q .1) in
       let same : p .0 ≡ q .0 = cc in
       ap (λ (x : End). x .channel)
-        (d .destination ∙ sym (p .2 .counterparty) ∙ ap (λ (x : Channel). x .counterparty) same ∙ q .2 .counterparty ∙ sym (f .destination))
+      (d .destination ∙ sym (p .2 .counterparty) ∙ ap (λ (x : Channel). x .counterparty) same ∙ q .2 .counterparty ∙ sym (f .destination))
 
   pub delivered-once : Paired (w .start) → AtMostOnce isDelivery (w .calls)
   delivered-once pairs = once w isDelivery (λ i j c e l p q a b s. again i j c e l a b (delivered w i c p a) (delivered w j e q b) s)
@@ -62,10 +59,10 @@ module _ (w : World) where
       again : (i j : ℕ) (c e : Call) → i < j → isDelivery c ≡ true → isDelivery e ≡ true → Delivered w i c → Delivered w j e → SamePacket c e → ⊥
       again i j c e l a b d f s =
           let z : c .side ≡ e .side =
-            sym (across-across (c .side)) ∙ ap across (sym (delivery-sender w c a) ∙ s .sender ∙ delivery-sender w e b) ∙ across-across (e .side) in
+          sym (across-across (c .side)) ∙ ap across (sym (delivery-sender w c a) ∙ s .sender ∙ delivery-sender w e b) ∙ across-across (e .side) in
           let n = same-destination pairs i j c e d f z (s .channel) in
           not-received j e f
-            (subst₃ (λ (y : Side) (n m : ℕ). Received (ledger w y j) n m) z n (s .sequence) (received-since i c d j l))
+          (subst₃ (λ (y : Side) (n m : ℕ). Received (ledger w y j) n m) z n (s .sequence) (received-since i c d j l))
 
   -- IN ORDER: an ordered end waits for one more than it has delivered
   delivers-on : (z : Side) (n : ℕ) (c : Call) → isDeliveryAt z n c ≡ true → (isOn z c ≡ true) × (isAccepted c ≡ true)
@@ -77,7 +74,7 @@ module _ (w : World) where
       let e = a .acted .kind in
       let p = acted-carried c (a .acted) (λ v. omega arith) (λ v. omega arith) in
       both-and (both-and (rw (a .side) (side-refl z)) (both-and (eq-eqb (c .told .number) 0 (a .told)) (eq-eqb (kindIn (emitted c)) 0x0102 (omega arith))))
-        (eq-eqb (packetOf c .destination .channel) n (ap (λ (x : Packet). x .destination .channel) p ∙ q))
+      (eq-eqb (packetOf c .destination .channel) n (ap (λ (x : Packet). x .destination .channel) p ∙ q))
 
   delivery-at : (z : Side) (n i : ℕ) (c : Call) → Acts w z i c → isDeliveryAt z n c ≡ true →
       (datagramIn (c .datagram) .kind ≡ 2) × (datagramIn (c .datagram) .packet .destination .channel ≡ n)
@@ -99,6 +96,7 @@ module _ (w : World) where
     where
       have : ℕ
       have = howMany (isDeliveryAt z n) (take i (w .calls))
+
       go : Quiet w z i ⊎ Turn w z i → Waits (ledger w z i) n (suc have) → Waits (ledger w z (suc i)) n (suc (howMany (isDeliveryAt z n) (take (suc i) (w .calls))))
       go (inl q) x =
           subst₂ (λ (s : Store) (m : ℕ). Waits s n (suc m)) (sym (q .same)) (sym (quiet-count w z i q (isDeliveryAt z n) (delivers-on z n))) x
@@ -108,14 +106,14 @@ module _ (w : World) where
           let y = subst (λ (s : Store). Waits s n (suc have)) (sym (a .before)) x in
           let t = turn-count w z i u (isDeliveryAt z n) in
           cases (isDeliveryAt z n (u .call))
-            (λ q.
-              let d = delivery-at z n i (u .call) a q in
-              let m : suc (howMany (isDeliveryAt z n) (take (suc i) (w .calls))) ≡ suc (suc have) = ap suc (rw q at t) ∙ omega arith in
-              subst₂ (λ (s : Store) (m : ℕ). Waits s n m) (a .after) (sym m) (waits-next _ _ _ st n (suc have) y (d .0) (d .1) .1))
-            (λ q.
-              let m : suc (howMany (isDeliveryAt z n) (take (suc i) (w .calls))) ≡ suc have = ap suc (rw q at t) ∙ omega arith in
-              subst₂ (λ (s : Store) (m : ℕ). Waits s n m) (a .after) (sym m)
-                (waits-on _ _ _ st n (suc have) y (λ k p. clash (delivers-at z n i (u .call) a k p) q)))
+          (λ q.
+          let d = delivery-at z n i (u .call) a q in
+          let m : suc (howMany (isDeliveryAt z n) (take (suc i) (w .calls))) ≡ suc (suc have) = ap suc (rw q at t) ∙ omega arith in
+          subst₂ (λ (s : Store) (m : ℕ). Waits s n m) (a .after) (sym m) (waits-next _ _ _ st n (suc have) y (d .0) (d .1) .1))
+          (λ q.
+          let m : suc (howMany (isDeliveryAt z n) (take (suc i) (w .calls))) ≡ suc have = ap suc (rw q at t) ∙ omega arith in
+          subst₂ (λ (s : Store) (m : ℕ). Waits s n m) (a .after) (sym m)
+          (waits-on _ _ _ st n (suc have) y (λ k p. clash (delivers-at z n i (u .call) a k p) q)))
 
   pub in-order : InOrder (w .start) (w .calls)
   in-order i c e h k f o =

@@ -1,18 +1,14 @@
 -- Demand 3, for every pair of made stores and every list of calls. Assumes nothing.
-use mathlib.Core.Path.{_≡_, refl, sym, ap, _∙_}
-use mathlib.Core.Bool.{true, false}
+use mathlib.Core.Path.{_≡_, sym, ap, _∙_}
 use mathlib.Core.List.{List}
-use mathlib.Core.Logic.{_↔_}
 use Prim.Native.Nat.{ℕ}
 use lib.Dec.{eqb}
 use lib.ListN.{length}
 use borrow.Author.Tests.{eqb-true}
-use Rattle.wire.specs.Choice.{pick}
-use Rattle.wire.specs.Bytes.{Every}
 use Rattle.wire.proofs.ChoiceLaws.{cases}
 use Rattle.datagram.specs.Datagram.{datagramIn}
 use Rattle.rules.specs.declared.Told.{Told}
-use Rattle.rules.specs.Refusals.{given, refusals}
+use Rattle.rules.specs.Refusals.{refusals}
 use Rattle.rules.specs.Call.{answerTo, called}
 use Rattle.rules.specs.Promise.{Call, Met, Answered, Demand3Holds}
 use Rattle.rules.proofs.RefusalLaws.{lowest-zero}
@@ -32,15 +28,27 @@ answered : (c : Call) → Met c → Answered c
 unfolding answerTo
 answered c m =
     let n : c .told .number ≡ answerTo (c .store) (c .output) (c .datagram) =
-      ap (λ (t : Told). t .number) (m .told) ∙ number (c .store) (c .output) (c .datagram) in
+    ap (λ (t : Told). t .number) (m .told) ∙ number (c .store) (c .output) (c .datagram) in
     let l = lowest-zero (datagramIn (c .datagram) .kind) (refusals (c .store) (length (c .output)) (c .datagram)) in
     record {
-      number = n; accepts = (λ t. l .0 (sym n ∙ t), λ q. n ∙ l .1 q); store = accepted-store c m; emits = accepted-record c m;
-      size = accepted-size c m; rest = accepted-rest c m; refuses = refused-call c m }
+      number = n;
+      accepts = (λ t. l .0 (sym n ∙ t), λ q. n ∙ l .1 q);
+      store = accepted-store c m;
+      emits = accepted-record c m;
+      size = accepted-size c m;
+      rest = accepted-rest c m;
+      refuses = refused-call c m;
+    }
 
 pub demand3 : Demand3Holds
 demand3 start cs made run =
     let w : World = record { start = start; made = made; calls = cs; run = run } in
     record {
-      answered = λ i c h. answered c (run .met i c h); sums = sums w; finishedOnce = finished-once w; inOrder = in-order w;
-      deliveredOnce = delivered-once w; asSent = λ p h. as-sent w h p; notBoth = λ p h. not-both w h p }
+      answered = λ i c h. answered c (run .met i c h);
+      sums = sums w;
+      finishedOnce = finished-once w;
+      inOrder = in-order w;
+      deliveredOnce = delivered-once w;
+      asSent = λ p h. as-sent w h p;
+      notBoth = λ p h. not-both w h p;
+    }

@@ -1,31 +1,31 @@
 -- An accepted call leaves a fit store fit. Assumes nothing.
-use mathlib.Core.Path.{_≡_, refl, sym, ap, subst, _∙_}
-use mathlib.Core.Bool.{Bool, true, false, not}
-use mathlib.Core.List.{List, [], _∷_}
-use mathlib.Core.Logic.{_⊎_, inl, inr, ⊎-elim}
+use mathlib.Core.Path.{_≡_, refl, ap, subst, _∙_}
+use mathlib.Core.Bool.{true, false}
+use mathlib.Core.List.{List}
+use mathlib.Core.Logic.{_⊎_, inl, inr}
 use mathlib.Core.Option.{Option, none, some}
-use Prim.Native.Nat.{ℕ, _+_, _≤_, _<_}
+use Prim.Native.Nat.{ℕ, _+_, _≤_}
 use native.Mathlib.Omega.{arith}
-use lib.Dec.{ltb, leb, eqb}
+use lib.Dec.{ltb, eqb}
 use borrow.Author.Tests.{ltb-true, lt-ltb, leb-true, le-leb}
-use Rattle.wire.specs.Choice.{_and_, pick, isIn, isSome}
+use Rattle.wire.specs.Choice.{_and_, isIn}
 use Rattle.wire.specs.Bytes.{areZero, noDigest}
-use Rattle.wire.proofs.ChoiceLaws.{and-both, both-and, clash, cases, of-pick}
+use Rattle.wire.proofs.ChoiceLaws.{and-both, both-and, clash, cases}
 use Rattle.store.specs.declared.Channel.{Channel}
 use Rattle.store.specs.declared.Record.{Record}
 use Rattle.store.specs.Height.{noTimeout, sameTimeout}
-use Rattle.store.specs.Table.{receiptKey, commitmentKey, hasKey, sameKey, insert, distinct, all, hasFree, isNumbered, sameNumber, channelAt, withChannel}
+use Rattle.store.specs.Table.{receiptKey, commitmentKey, hasKey, sameKey, distinct, all, isNumbered, sameNumber, channelAt}
 use Rattle.store.specs.Layout.{Store}
 use Rattle.store.specs.Ordering.{isOrdered, isReceived}
 use Rattle.store.specs.Fit.{channelFits, channelsFit, fitsEnd, recordFits, recordsFit, storeFits}
 use Rattle.store.proofs.TableLaws.{Each, all-each, each-all, each-map, each-find, each-insert, each-replace}
-use Rattle.store.proofs.RecordLaws.{Single, single-insert, single-remove}
+use Rattle.store.proofs.RecordLaws.{single-insert, single-remove}
 use Rattle.store.proofs.ChannelLaws.{numbers-with}
 use Rattle.store.proofs.FitRecordLaws.{fit-records}
 use Rattle.datagram.specs.Datagram.{Datagram}
-use Rattle.rules.specs.Ordering.{Edit, keeps, writes, frees, plainRecord, counted, raisedSend, raisesReceive, receivedEnd, receivedEdit}
+use Rattle.rules.specs.Ordering.{Edit, writes, plainRecord, counted, raisedSend, raisesReceive, receivedEnd, receivedEdit}
 use Rattle.rules.specs.Acceptance.{Effect, sentPacket, commitment, sends, receives, writesAcknowledgement, acknowledges, timesOut, edited}
-use Rattle.rules.proofs.Step.{How, sending, receiving, writing, acknowledging, timing, Step, Grown, grown-refl, Later, Legal, keeping, adding, freeing, legal, single, later, record-stays, records-left, channels-left, own-found, own-grown, own-after}
+use Rattle.rules.proofs.Step.{How, sending, receiving, writing, acknowledging, timing, Step, Grown, grown-refl, Later, Legal, keeping, adding, freeing, legal, single, later, record-stays, records-left, channels-left, own-grown, own-after}
 use Rattle.rules.proofs.OrderingLaws as ordering
 
 -- THE END
@@ -38,9 +38,9 @@ grown-fits c e g h =
     let m = and-both (n .0) in
     let p = g .send in let q = g .receive in let r = g .acknowledge in
     both-and (both-and (state (g .state) (b .0)) (ap (isIn 1 2) (g .order) ∙ b .1))
-      (both-and (both-and (le-leb 1 (e .next .send) (omega (arith, leb-true 1 (c .next .send) (m .0))))
-        (le-leb 1 (e .next .receive) (omega (arith, leb-true 1 (c .next .receive) (m .1)))))
-        (le-leb 1 (e .next .acknowledge) (omega (arith, leb-true 1 (c .next .acknowledge) (n .1)))))
+    (both-and (both-and (le-leb 1 (e .next .send) (omega (arith, leb-true 1 (c .next .send) (m .0))))
+    (le-leb 1 (e .next .receive) (omega (arith, leb-true 1 (c .next .receive) (m .1)))))
+    (le-leb 1 (e .next .acknowledge) (omega (arith, leb-true 1 (c .next .acknowledge) (n .1)))))
   where
     state : (e .state ≡ c .state) ⊎ (e .state ≡ 4) → isIn 3 4 (c .state) ≡ true → isIn 3 4 (e .state) ≡ true
     state (inl q) k = ap (isIn 3 4) q ∙ k
@@ -56,16 +56,16 @@ end-fits s t r (some c) none l h f = absurd l
 end-fits s t r (some c) (some e) l h f =
     let o = l .order in
     cases (eqb (r .kind) 1)
-      (λ q.
-        let a : ltb (r .sequence) (c .next .send) ≡ true = cc in
-        let b = l .send in
-        let z = lt-ltb (r .sequence) (e .next .send) (omega (arith, ltb-true (r .sequence) (c .next .send) a)) in
-        cc)
-      (λ q. cases (eqb (r .kind) 2) (λ w. cc)
-        (λ w.
-          let a : (eqb (r .kind) 3 and sameTimeout (r .timeout) noTimeout and isReceived (s .records) c (r .sequence)) ≡ true = cc in
-          let z = both-and (and-both a .0) (h c e l (and-both a .1)) in
-          cc))
+    (λ q.
+    let a : ltb (r .sequence) (c .next .send) ≡ true = cc in
+    let b = l .send in
+    let z = lt-ltb (r .sequence) (e .next .send) (omega (arith, ltb-true (r .sequence) (c .next .send) a)) in
+    cc)
+    (λ q. cases (eqb (r .kind) 2) (λ w. cc)
+    (λ w.
+    let a : (eqb (r .kind) 3 and sameTimeout (r .timeout) noTimeout and isReceived (s .records) c (r .sequence)) ≡ true = cc in
+    let z = both-and (and-both a .0) (h c e l (and-both a .1)) in
+    cc))
 
 -- THE NEW RECORDS
 new-commitment : (t : Store) (c e : Channel) (d : Datagram) → e .next .send ≡ c .next .send + 1 → fitsEnd t (commitment (sentPacket c d)) (some e) ≡ true
@@ -85,7 +85,7 @@ module _ (s : Store) (d : Datagram) (t : Store) (st : Step s d t) where
   unfolding storeFits channelsFit
   own-fits =
       each-find (λ c. channelFits c ≡ true) (isNumbered (d .channel)) (s .channels) (st .channel)
-        (all-each channelFits (s .channels) (and-both (and-both (st .fits) .0) .0)) (st .found)
+      (all-each channelFits (s .channels) (and-both (and-both (st .fits) .0) .0)) (st .found)
 
   ends-fit : channelsFit (t .channels) ≡ true
   unfolding storeFits channelsFit
@@ -94,25 +94,25 @@ module _ (s : Store) (d : Datagram) (t : Store) (st : Step s d t) where
       let f = grown-fits (st .channel) (st .effect .end) (own-grown s d t st) own-fits in
       ap (λ (cs : List (Option Channel)). all channelFits cs and distinct sameNumber cs) (channels-left s d t st) ∙
       both-and (each-all channelFits _ (each-replace (λ c. channelFits c ≡ true) _ (some (st .effect .end)) (s .channels) (f, tt)
-        (all-each channelFits (s .channels) (h .0)))) (numbers-with (st .effect .end) (s .channels) (h .1))
+      (all-each channelFits (s .channels) (h .0)))) (numbers-with (st .effect .end) (s .channels) (h .1))
 
   stays-received : (m : ℕ) (c e : Channel) → Grown c e → isReceived (s .records) c m ≡ true → isReceived (t .records) e m ≡ true
   stays-received m c e g h =
       ordering.received-stays (s .records) (t .records) c e m (g .order) (g .own) (g .receive)
-        (record-stays s d t st (receiptKey (c .own .channel) m) (λ q. absurd (omega arith))) h
+      (record-stays s d t st (receiptKey (c .own .channel) m) (λ q. absurd (omega arith))) h
 
   old-fits : Each (λ r. recordFits t r ≡ true) (s .records)
   unfolding recordFits
   old-fits =
       each-map (λ r h. both-and (and-both h .0)
-        (end-fits s t r _ _ (later s d t st (r .channel)) (stays-received (r .sequence)) (and-both h .1))) (s .records) (fit-records s (st .fits))
+      (end-fits s t r _ _ (later s d t st (r .channel)) (stays-received (r .sequence)) (and-both h .1))) (s .records) (fit-records s (st .fits))
 
   -- the end as it is left
   fits-own : (r : Record) → r .channel ≡ st .channel .own .channel → 1 ≤ r .sequence → fitsEnd t r (some (st .effect .end)) ≡ true → recordFits t r ≡ true
   unfolding recordFits
   fits-own r q n h =
       both-and (le-leb 1 (r .sequence) n)
-        (ap (λ (x : Option Channel). fitsEnd t r x) (ap (λ (k : ℕ). channelAt k (t .channels)) q ∙ own-after s d t st) ∙ h)
+      (ap (λ (x : Option Channel). fitsEnd t r x) (ap (λ (k : ℕ). channelAt k (t .channels)) q ∙ own-after s d t st) ∙ h)
 
   fits-as : (r x : Record) (e : Effect) → st .effect ≡ e → writes x ≡ writes r → x .channel ≡ st .channel .own .channel → 1 ≤ x .sequence →
       fitsEnd t x (some (e .end)) ≡ true → recordFits t r ≡ true
@@ -127,15 +127,15 @@ module _ (s : Store) (d : Datagram) (t : Store) (st : Step s d t) where
       go : (e : Effect) → st .effect ≡ e → How s d (st .channel) e → e .edit ≡ writes r → recordFits t r ≡ true
       go e w (sending k ok) q =
           fits-as r (commitment (sentPacket (st .channel) d)) e w q refl (leb-true 1 (st .channel .next .send) (and-both (and-both (and-both own-fits .1) .0) .0))
-            (new-commitment t (st .channel) (counted (st .channel) (raisedSend (st .channel .next))) d refl)
+          (new-commitment t (st .channel) (counted (st .channel) (raisedSend (st .channel .next))) d refl)
       go e w (receiving k ok) q =
           cases (raisesReceive (st .channel)) (λ p. let z : _≡_ {A = ℕ} 0 1 = cc in absurd (omega arith))
-            (λ p. fits-as r (plainRecord 2 (st .channel .own .channel) (d .packet .sequence) noDigest) e w (cc) refl (st .shape .received k)
-              (new-receipt t (st .channel .own .channel) (d .packet .sequence) (receivedEnd (st .channel)) (ordering.receipt-unordered (st .channel) p)))
+          (λ p. fits-as r (plainRecord 2 (st .channel .own .channel) (d .packet .sequence) noDigest) e w (cc) refl (st .shape .received k)
+          (new-receipt t (st .channel .own .channel) (d .packet .sequence) (receivedEnd (st .channel)) (ordering.receipt-unordered (st .channel) p)))
       go e w (writing k ok) q =
           fits-as r (plainRecord 3 (st .channel .own .channel) (d .sequence) (d .digest)) e w q refl (st .shape .written k)
-            (new-acknowledgement t (st .channel .own .channel) (d .sequence) (d .digest) (st .channel)
-              (stays-received (d .sequence) (st .channel) (st .channel) (grown-refl (st .channel)) (ok .received)))
+          (new-acknowledgement t (st .channel .own .channel) (d .sequence) (d .digest) (st .channel)
+          (stays-received (d .sequence) (st .channel) (st .channel) (grown-refl (st .channel)) (ok .received)))
       go e w (acknowledging k ok) q = let z : _≡_ {A = ℕ} 0 1 = cc in absurd (omega arith)
       go e w (timing k ok) q = let z : _≡_ {A = ℕ} 0 1 = cc in absurd (omega arith)
 
@@ -148,10 +148,10 @@ module _ (s : Store) (d : Datagram) (t : Store) (st : Step s d t) where
       go e w keeping = both-and (each-all (recordFits t) (s .records) old-fits) (single s d t st)
       go e w (adding {r = r} room new) =
           both-and (each-all (recordFits t) _ (each-insert (λ r. recordFits t r ≡ true) r (s .records) (new-fits r w) old-fits))
-            (single-insert (s .records) (single s d t st) r room new)
+          (single-insert (s .records) (single s d t st) r room new)
       go e w (freeing {c = c} {n = n} there) =
           both-and (each-all (recordFits t) _ (each-replace (λ r. recordFits t r ≡ true) (hasKey (commitmentKey c n)) none (s .records) tt old-fits))
-            (single-remove (s .records) (single s d t st) (commitmentKey c n))
+          (single-remove (s .records) (single s d t st) (commitmentKey c n))
 
   pub fits-after : storeFits t ≡ true
   unfolding storeFits

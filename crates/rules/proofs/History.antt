@@ -9,21 +9,19 @@ use Prim.Native.Nat.{ℕ, zero, suc, _+_, _≤_, _<_}
 use native.Mathlib.Omega.{arith}
 use lib.Dec.{leb, eqb}
 use lib.ListN.{length, take, getElem?}
-use lib.Seq.{take-all}
 use borrow.Author.Tests.{eqb-true, eqb-false, leb-true, leb-false}
 use Rattle.wire.specs.Choice.{_and_, pick}
 use Rattle.wire.specs.Bytes.{Bytes}
-use Rattle.wire.proofs.ChoiceLaws.{and-both, both-and, clash, cases, of-pick}
-use Rattle.store.specs.declared.Channel.{Channel}
+use Rattle.wire.proofs.ChoiceLaws.{clash, cases, of-pick}
 use Rattle.store.specs.declared.Record.{Record}
-use Rattle.store.specs.Table.{Key, commitmentKey, lookup, channelAt}
-use Rattle.store.specs.Layout.{Store, storeIn, bytesOf}
+use Rattle.store.specs.Table.{commitmentKey, lookup}
+use Rattle.store.specs.Layout.{Store, storeIn}
 use Rattle.store.specs.Fit.{storeFits}
 use Rattle.store.specs.Maker.{madeStore}
 use Rattle.store.proofs.LayoutLaws.{bytes-of, read-back}
 use Rattle.store.proofs.MakerLaws.{made-fields, made-fits, make-told, made-lookup}
 use Rattle.datagram.specs.Datagram.{Datagram, datagramIn}
-use Rattle.rules.specs.Promise.{Side, first, second, across, isSide, Call, Met, At, fold, storeAfter, howMany, isOn, Run, Made, isAccepted}
+use Rattle.rules.specs.Promise.{Side, first, second, across, isSide, Call, At, fold, storeAfter, howMany, isOn, Run, Made, isAccepted}
 use Rattle.rules.proofs.Step.{Step}
 use Rattle.rules.proofs.Commitment.{Used, used-stays, SentNow, stems, used-from}
 use Rattle.rules.proofs.FitStep.{fits-after}
@@ -73,7 +71,7 @@ module _ (bs : List ℕ) (m : Made bs) where
   made-bytes : Bytes bs
   made-bytes =
       subst Bytes (sym (m .left ∙ make-told (m .slice) (m .openings) (m .told)))
-        (bytes-of (madeStore (length (m .slice)) (m .openings)) (made-fields (length (m .slice)) (m .openings) (m .bytes) (m .told)))
+      (bytes-of (madeStore (length (m .slice)) (m .openings)) (made-fields (length (m .slice)) (m .openings) (m .bytes) (m .told)))
 
 -- two made stores and a list of calls on them
 pub record World : Type 0 where
@@ -105,7 +103,7 @@ module _ (w : World) where
       go none h b = subst Bytes (sym (fold-end _ (w .start z) (w .calls) i h)) b
       go (some c) h b =
           subst Bytes (sym (next-on z i c h)) (of-pick Bytes (isOn z c) (c .storeLeft) (bytesAt z i)
-            (λ e. left-bytes c (w .run .met i c h) (subst Bytes (sym (got-on z i c h e)) b) (w .run .bytes i c h)) (λ e. b))
+          (λ e. left-bytes c (w .run .met i c h) (subst Bytes (sym (got-on z i c h e)) b) (w .run .bytes i c h)) (λ e. b))
 
   -- an accepted call at a place, and the ledger's store before and after it
   pub record Acts (z : Side) (i : ℕ) (c : Call) : Type 0 where
@@ -121,9 +119,13 @@ module _ (w : World) where
       let e = side-refl (c .side) in
       let g = w .run .got i c h in
       record {
-        at = h; side = refl; told = t;
-        acted = acted c (w .run .met i c h) (subst Bytes (sym g) (bytes-at (c .side) i)) (w .run .bytes i c h) t; before = ap storeIn g;
-        after = ap storeIn (sym (next-on (c .side) i c h ∙ rw e refl)) }
+        at = h;
+        side = refl;
+        told = t;
+        acted = acted c (w .run .met i c h) (subst Bytes (sym g) (bytes-at (c .side) i)) (w .run .bytes i c h) t;
+        before = ap storeIn g;
+        after = ap storeIn (sym (next-on (c .side) i c h ∙ rw e refl));
+      }
 
   -- A TURN of a ledger: such a call
   pub record Turn (z : Side) (i : ℕ) : Type 0 where
@@ -140,43 +142,50 @@ module _ (w : World) where
     where
       only : (c e : Call) → At (w .calls) i c → At (w .calls) i e → c ≡ e
       only c e h k = cc
+
       go : (x : Option Call) → getElem? (w .calls) i ≡ x → Quiet z i ⊎ Turn z i
       go none h =
           inl (record {
-            same = ap storeIn (fold-end _ (w .start z) (w .calls) i h); nobody = λ e k o a. let v : _≡_ {A = ℕ} 0 1 = cc in omega arith })
+            same = ap storeIn (fold-end _ (w .start z) (w .calls) i h);
+            nobody = λ e k o a. let v : _≡_ {A = ℕ} 0 1 = cc in omega arith;
+          })
       go (some c) h =
           cases (isOn z c)
-            (λ e. cases (eqb (c .told .number) 0)
-              (λ t. inr (subst (λ (y : Side). Turn y i) (sym (side-eq z (c .side) e)) (record { call = c; acts = acts i c h (eqb-true (c .told .number) 0 t) })))
-              (λ t.
-                let r = refused-call c (w .run .met i c h) (eqb-false (c .told .number) 0 t) .1 in
-                inl (record {
-                  same = ap storeIn (next-on z i c h ∙ rw e (r ∙ got-on z i c h e));
-                  nobody = λ x k o a. clash (ap isAccepted (only c x h k) ∙ a) t })))
-            (λ e. inl (record {
-              same = ap storeIn (next-on z i c h ∙ rw e refl); nobody = λ x k o a. clash (ap (isOn z) (only c x h k) ∙ o) e }))
+          (λ e. cases (eqb (c .told .number) 0)
+          (λ t. inr (subst (λ (y : Side). Turn y i) (sym (side-eq z (c .side) e)) (record { call = c; acts = acts i c h (eqb-true (c .told .number) 0 t) })))
+          (λ t.
+          let r = refused-call c (w .run .met i c h) (eqb-false (c .told .number) 0 t) .1 in
+          inl (record {
+            same = ap storeIn (next-on z i c h ∙ rw e (r ∙ got-on z i c h e));
+            nobody = λ x k o a. clash (ap isAccepted (only c x h k) ∙ a) t;
+          })))
+          (λ e. inl (record {
+            same = ap storeIn (next-on z i c h ∙ rw e refl);
+            nobody = λ x k o a. clash (ap (isOn z) (only c x h k) ∙ o) e;
+          }))
 
   -- WHAT A STEP KEEPS is kept
   module _ (P : Store → Type 0) (stays : (s : Store) (d : Datagram) (t : Store) → Step s d t → P s → P t) (z : Side) where
     turned : (i : ℕ) → P (ledger z i) → P (ledger z (suc i))
     turned i p =
         elim (turn z i) [
-          inl e ↦ subst P (sym (e .same)) p
-        | inr t ↦ subst P (t .acts .after) (stays _ _ _ (t .acts .acted .step) (subst P (sym (t .acts .before)) p)) ]
+          | inl e ↦ subst P (sym (e .same)) p
+          | inr t ↦ subst P (t .acts .after) (stays _ _ _ (t .acts .acted .step) (subst P (sym (t .acts .before)) p))
+        ]
 
     pub kept : (i j : ℕ) → i ≤ j → P (ledger z i) → P (ledger z j)
     kept i zero l p = let e : i ≡ 0 = omega arith in subst (λ (k : ℕ). P (ledger z k)) e p
     kept i (suc j) l p =
         let ih = kept i j in
         cases (leb i j) (λ e. turned j (ih (leb-true i j e) p))
-          (λ e. let q = leb-false i j e in let q′ : i ≡ suc j = omega arith in subst (λ (k : ℕ). P (ledger z k)) q′ p)
+        (λ e. let q = leb-false i j e in let q′ : i ≡ suc j = omega arith in subst (λ (k : ℕ). P (ledger z k)) q′ p)
 
   pub ledger-fits : (z : Side) (i : ℕ) → storeFits (ledger z i) ≡ true
   unfolding fold
   ledger-fits z i =
       let k = w .made z in
       kept (λ s. storeFits s ≡ true) (λ s d t st f. fits-after s d t st) z 0 i (omega arith)
-        (ap storeFits (made-read (w .start z) k) ∙ made-fits (length (k .slice)) (k .openings) (k .told))
+      (ap storeFits (made-read (w .start z) k) ∙ made-fits (length (k .slice)) (k .openings) (k .told))
 
   -- COUNTS go up by what the next call passes; by nothing where all is quiet
   next-count : (t : Call → Bool) (i : ℕ) (c : Call) → At (w .calls) i c → howMany t (take (suc i) (w .calls)) ≡ pick (t c) 1 0 + howMany t (take i (w .calls))
@@ -204,14 +213,15 @@ module _ (w : World) where
   used-back z n m r i (suc j) l u h =
       let ih = used-back z n m r i j in
       cases (leb i j)
-        (λ e.
-          let q = leb-true i j e in
-          let v = kept (λ s. Used s n m) (λ s d t st. used-stays s d t n m st) z i j q u in
-          ih q u (back (turn z j) v))
-        (λ e. let q = leb-false i j e in let v : suc j ≡ i = omega arith in subst (λ (k : ℕ). lookup (commitmentKey n m) (ledger z k .records) ≡ some r) v h)
+      (λ e.
+      let q = leb-true i j e in
+      let v = kept (λ s. Used s n m) (λ s d t st. used-stays s d t n m st) z i j q u in
+      ih q u (back (turn z j) v))
+      (λ e. let q = leb-false i j e in let v : suc j ≡ i = omega arith in subst (λ (k : ℕ). lookup (commitmentKey n m) (ledger z k .records) ≡ some r) v h)
     where
       has : Store → Type 0
       has s = lookup (commitmentKey n m) (s .records) ≡ some r
+
       back : Quiet z j ⊎ Turn z j → Used (ledger z j) n m → has (ledger z j)
       back (inl e) v = subst has (e .same) h
       back (inr t) v =
@@ -237,11 +247,14 @@ module _ (w : World) where
     where
       has : Store → Type 0
       has s = lookup (commitmentKey n m) (s .records) ≡ some r
+
       more : SentAt z n m r j → SentAt z n m r (suc j)
       more a = let l = a .earlier in record { place = a .place; earlier = omega arith; turn = a .turn; sent = a .sent }
+
       go : Quiet z j ⊎ Turn z j → (has (ledger z j) → SentAt z n m r j) → SentAt z n m r (suc j)
       go (inl e) ih = more (ih (subst has (e .same) h))
       go (inr t) ih =
           elim (stems _ _ _ n m r (t .acts .acted .step) (subst has (sym (t .acts .after)) h)) [
-            inl q ↦ more (ih (subst has (t .acts .before) q))
-          | inr q ↦ record { place = j; earlier = omega arith; turn = t; sent = q } ]
+            | inl q ↦ more (ih (subst has (t .acts .before) q))
+            | inr q ↦ record { place = j; earlier = omega arith; turn = t; sent = q }
+          ]

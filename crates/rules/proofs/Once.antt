@@ -1,29 +1,23 @@
 -- Demand 3: no packet is finished twice, and none delivered twice where the ends are paired. Assumes nothing.
-use mathlib.Core.Path.{_≡_, refl, sym, ap, subst, subst₂, subst₃, _∙_}
+use mathlib.Core.Path.{_≡_, refl, sym, subst₂, subst₃, _∙_}
 use mathlib.Core.Bool.{Bool, true, false}
-use mathlib.Core.List.{List}
 use mathlib.Core.Logic.{_⊎_, inl, inr, ⊎-elim}
-use mathlib.Core.Option.{Option, none, some}
-use Prim.Native.Nat.{ℕ, zero, suc, _+_, _≤_, _<_}
+use mathlib.Core.Option.{none}
+use Prim.Native.Nat.{ℕ, suc, _+_, _<_}
 use native.Mathlib.Omega.{arith}
-use lib.Dec.{ltb, eqb}
-use lib.ListN.{take}
-use borrow.Author.Tests.{eqb-true, eqb-false, ne-eqb, eq-eqb, ltb-true, ltb-false}
-use Rattle.wire.specs.Choice.{_and_, _or_, pick, isSome}
-use Rattle.wire.proofs.ChoiceLaws.{and-both, both-and, or-either, clash, cases, some-if}
-use Rattle.store.specs.declared.End.{End}
-use Rattle.store.specs.declared.Channel.{Channel}
-use Rattle.store.specs.declared.Record.{Record}
-use Rattle.store.specs.Table.{commitmentKey, lookup, channelAt, sameEnd}
+use lib.Dec.{ltb}
+use borrow.Author.Tests.{eqb-true, ne-eqb, eq-eqb, ltb-true, ltb-false}
+use Rattle.wire.specs.Choice.{_and_, _or_, isSome}
+use Rattle.wire.proofs.ChoiceLaws.{and-both, or-either, cases, some-if}
+use Rattle.store.specs.Table.{commitmentKey, lookup}
 use Rattle.store.specs.Layout.{Store, storeIn}
 use Rattle.datagram.specs.declared.Packet.{Packet}
-use Rattle.datagram.specs.Datagram.{Datagram, datagramIn, kindIn}
-use Rattle.rules.specs.Promise.{Side, across, Call, At, fold, isAccepted, emitted, emits, isDelivery, finishes, packetOf, sender, SamePacket, AtMostOnce, Paired, Peers}
-use Rattle.rules.proofs.Step.{Step, Grown, Later, later, later-refl}
+use Rattle.datagram.specs.Datagram.{datagramIn, kindIn}
+use Rattle.rules.specs.Promise.{Side, across, Call, At, emitted, emits, isDelivery, finishes, packetOf, sender, SamePacket, AtMostOnce}
+use Rattle.rules.proofs.Step.{later}
 use Rattle.rules.proofs.Commitment.{Used, committed-used, used-stays, finish-needs, finish-removes}
-use Rattle.rules.proofs.Receipt.{Received, received-stays, receive-first, receive-makes}
-use Rattle.rules.proofs.Acted.{Acted, acted-carried}
-use Rattle.rules.proofs.History.{across-across, World, ledger, Acts, acts, kept, used-back}
+use Rattle.rules.proofs.Acted.{acted-carried}
+use Rattle.rules.proofs.History.{World, ledger, Acts, acts, used-back}
 
 -- WHAT A CALL DID: its kind and packet, from what it emitted
 module _ (w : World) where
@@ -61,8 +55,8 @@ pub once : (w : World) (t : Call → Bool) →
     ((i j : ℕ) (c e : Call) → i < j → At (w .calls) i c → At (w .calls) j e → t c ≡ true → t e ≡ true → SamePacket c e → ⊥) → AtMostOnce t (w .calls)
 once w t never i j c e p q a b s =
     cases (ltb i j) (λ h. absurd (never i j c e (ltb-true i j h) p q a b s))
-      (λ h. cases (ltb j i) (λ k. absurd (never j i e c (ltb-true j i k) q p b a (flip s)))
-        (λ k. let l = ltb-false i j h in let m = ltb-false j i k in omega arith))
+    (λ h. cases (ltb j i) (λ k. absurd (never j i e c (ltb-true j i k) q p b a (flip s)))
+    (λ k. let l = ltb-false i j h in let m = ltb-false j i k in omega arith))
   where
     flip : SamePacket c e → SamePacket e c
     flip x = record { sender = sym (x .sender); channel = sym (x .channel); sequence = sym (x .sequence) }
@@ -84,7 +78,7 @@ module _ (w : World) where
       let st = a .acted .step in
       let p = datagramIn (c .datagram) .packet in
       let g : (datagramIn (c .datagram) .kind ≡ 4) ⊎ (datagramIn (c .datagram) .kind ≡ 5) =
-        ⊎-elim (λ q. inl (d .kind ∙ q)) (λ q. inr (d .kind ∙ q)) f in
+      ⊎-elim (λ q. inl (d .kind ∙ q)) (λ q. inr (d .kind ∙ q)) f in
       let n = finish-needs _ _ _ st g in
       let r = some-if (lookup (commitmentKey (p .source .channel) (p .sequence)) (storeIn (c .store) .records)) n in
       let u = used-stays _ _ _ _ _ st (committed-used _ (p .source .channel) (p .sequence) (r .0) (st .fits) (r .1)) in
@@ -94,7 +88,8 @@ module _ (w : World) where
         there = subst₂ (λ (x : Packet) (s : Store). isSome (lookup (commitmentKey (x .source .channel) (x .sequence)) (s .records)) ≡ true) e (a .before) n;
         used = subst₂ (λ (x : Packet) (s : Store). Used s (x .source .channel) (x .sequence)) e (a .after) u;
         gone = subst₂ (λ (x : Packet) (s : Store). lookup (commitmentKey (x .source .channel) (x .sequence)) (s .records) ≡ none) e (a .after)
-          (finish-removes _ _ _ st g) }
+            (finish-removes _ _ _ st g);
+      }
 
   finish-at : (i : ℕ) (c : Call) → At (w .calls) i c → finishes c ≡ true → Finish i c
   finish-at i c h f =

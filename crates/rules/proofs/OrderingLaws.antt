@@ -1,16 +1,16 @@
 -- Laws of what depends on the ordering: a delivery was not received before and is afterwards, received stays received,
 -- an ordered end counts, and a packet that a true claim says is absent is not received. Assumes nothing.
-use mathlib.Core.Path.{_≡_, refl, sym, ap, subst, _∙_}
+use mathlib.Core.Path.{_≡_, ap}
 use mathlib.Core.Bool.{Bool, true, false, not}
 use mathlib.Core.List.{List}
 use mathlib.Core.Option.{Option, none, some}
-use Prim.Native.Nat.{ℕ, suc, _+_, _≤_, _<_}
+use Prim.Native.Nat.{ℕ, suc, _+_, _≤_}
 use native.Mathlib.Omega.{arith}
 use lib.Dec.{ltb, eqb}
-use borrow.Author.Tests.{eqb-true, ltb-true, ltb-false, lt-ltb, le-ltb, not-true, not-false}
-use Rattle.wire.specs.Choice.{_and_, pick, isSome}
+use borrow.Author.Tests.{eqb-true, ltb-true, lt-ltb, le-ltb, not-false}
+use Rattle.wire.specs.Choice.{_and_, isSome}
 use Rattle.wire.specs.Bytes.{noDigest}
-use Rattle.wire.proofs.ChoiceLaws.{and-both, clash, cases, of-pick, not-some}
+use Rattle.wire.proofs.ChoiceLaws.{cases, not-some}
 use Rattle.store.specs.declared.End.{End}
 use Rattle.store.specs.declared.Channel.{Channel}
 use Rattle.store.specs.declared.Record.{Record}
@@ -23,9 +23,9 @@ use Rattle.store.proofs.RecordLaws.{Single, lookup-insert}
 use Rattle.datagram.specs.declared.Packet.{Packet}
 use Rattle.datagram.specs.declared.Verdict.{Verdict}
 use Rattle.rules.specs.Verdict.{firstDifference, claimHolds}
-use Rattle.rules.specs.Ordering.{keeps, writes, plainRecord, counted, receivesInOrder, isReceiptThere, raisesReceive, receivedEnd, receivedEdit, absenceClaim, absenceSequence, timesOutInOrder, raisesAcknowledge, isAtTop, needsRecord, raisedReceive}
+use Rattle.rules.specs.Ordering.{plainRecord, counted, receivesInOrder, isReceiptThere, raisesReceive, receivedEnd, receivedEdit, absenceClaim, absenceSequence, timesOutInOrder, raisesAcknowledge, isAtTop, needsRecord}
 use Rattle.rules.specs.Acceptance.{edited}
-use Rattle.rules.proofs.VerdictLaws.{About, about, claim-absent, claim-next}
+use Rattle.rules.proofs.VerdictLaws.{about, claim-absent, claim-next}
 
 -- RECEIVE: where no counter rises there is room for a receipt, and it is a new one
 pub receive-room : (c : Channel) (free : Bool) → raisesReceive c ≡ false → (needsRecord 2 c and not free) ≡ false → free ≡ true
@@ -59,10 +59,10 @@ pub receive-new : (rs : List (Option Record)) (c : Channel) (n : ℕ) → receiv
 unfolding receivesInOrder isReceiptThere isReceived _and_
 receive-new rs c n h k =
     cases (isOrdered c)
-      (λ o. let e : eqb n (c .next .receive) ≡ true = cc in
-        let q = le-ltb n (c .next .receive) (omega (arith, eqb-true n (c .next .receive) e)) in
-        cc)
-      (λ o. cc)
+    (λ o. let e : eqb n (c .next .receive) ≡ true = cc in
+    let q = le-ltb n (c .next .receive) (omega (arith, eqb-true n (c .next .receive) e)) in
+    cc)
+    (λ o. cc)
 
 -- it is received afterwards
 pub receive-received : (rs : List (Option Record)) (c : Channel) (n : ℕ) → Single rs → receivesInOrder c n ≡ true → isReceiptThere rs c n ≡ false →
@@ -70,13 +70,13 @@ pub receive-received : (rs : List (Option Record)) (c : Channel) (n : ℕ) → S
 unfolding isOrdered raisesReceive receivesInOrder isReceived receivedEnd receivedEdit edited counted plainRecord
 receive-received rs c n s h k r =
     cases (isOrdered c)
-      (λ o.
-        let e : eqb n (c .next .receive) ≡ true = cc in
-        let q = lt-ltb n (c .next .receive + 1) (omega (arith, eqb-true n (c .next .receive) e)) in
-        cc)
-      (λ o.
-        let l = lookup-insert rs s (plainRecord 2 (c .own .channel) n noDigest) (r o) (receive-absent rs c n o k) in
-        cc)
+    (λ o.
+    let e : eqb n (c .next .receive) ≡ true = cc in
+    let q = lt-ltb n (c .next .receive + 1) (omega (arith, eqb-true n (c .next .receive) e)) in
+    cc)
+    (λ o.
+    let l = lookup-insert rs s (plainRecord 2 (c .own .channel) n noDigest) (r o) (receive-absent rs c n o k) in
+    cc)
 
 -- RECEIVED STAYS RECEIVED: the end grows, and a receipt stays
 pub received-stays : (rs ts : List (Option Record)) (c e : Channel) (n : ℕ) → e .order ≡ c .order → e .own ≡ c .own → c .next .receive ≤ e .next .receive →
@@ -84,11 +84,11 @@ pub received-stays : (rs ts : List (Option Record)) (c e : Channel) (n : ℕ) �
 unfolding isOrdered isReceived
 received-stays rs ts c e n o w g k h =
     cases (eqb (c .order) 1)
-      (λ q.
-        let a : ltb n (c .next .receive) ≡ true = cc in
-        let b = lt-ltb n (e .next .receive) (omega (arith, ltb-true n (c .next .receive) a)) in
-        cc)
-      (λ q. let a = k (cc) in cc)
+    (λ q.
+    let a : ltb n (c .next .receive) ≡ true = cc in
+    let b = lt-ltb n (e .next .receive) (omega (arith, ltb-true n (c .next .receive) a)) in
+    cc)
+    (λ q. let a = k (cc) in cc)
 
 -- AN ORDERED END takes what it waits for, and waits for the next one
 pub ordered-next : (c : Channel) (n : ℕ) → isOrdered c ≡ true → receivesInOrder c n ≡ true → (n ≡ c .next .receive) × (receivedEnd c .next .receive ≡ suc n)
@@ -109,13 +109,13 @@ absent-not-received s c e p v o f w h t k =
     let a = about v (absenceClaim c) (p .destination) (absenceSequence c (p .sequence) (v .sequence)) noTimeout noDigest h in
     let g : channelAt (v .end .channel) (s .channels) ≡ some e = rw (a .end) f in
     cases (eqb (c .order) 1)
-      (λ q.
-        let x = claim-next v s k e g (cc) in
-        let y : eqb (p .sequence) (v .sequence) ≡ true = cc in
-        let z = le-ltb (p .sequence) (e .next .receive) (omega (arith, eqb-true (p .sequence) (v .sequence) y)) in
-        cc)
-      (λ q.
-        let x = claim-absent v s k e g (cc) in
-        let y : v .sequence ≡ p .sequence = cc in
-        let z : isSome (lookup (receiptKey (e .own .channel) (p .sequence)) (s .records)) ≡ false = rw (w, ← (ap (λ (u : End). u .channel) (a .end)), ← y) x in
-        cc)
+    (λ q.
+    let x = claim-next v s k e g (cc) in
+    let y : eqb (p .sequence) (v .sequence) ≡ true = cc in
+    let z = le-ltb (p .sequence) (e .next .receive) (omega (arith, eqb-true (p .sequence) (v .sequence) y)) in
+    cc)
+    (λ q.
+    let x = claim-absent v s k e g (cc) in
+    let y : v .sequence ≡ p .sequence = cc in
+    let z : isSome (lookup (receiptKey (e .own .channel) (p .sequence)) (s .records)) ≡ false = rw (w, ← (ap (λ (u : End). u .channel) (a .end)), ← y) x in
+    cc)

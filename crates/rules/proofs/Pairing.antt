@@ -1,26 +1,23 @@
 -- Ends and their peers: an end is the made one, grown; and the end that it names is the only one that names it back.
 -- Pairing is used here and nowhere else. Assumes nothing.
 use mathlib.Core.Path.{_≡_, refl, sym, ap, subst, subst₂, _∙_}
-use mathlib.Core.Bool.{Bool, true, false}
-use mathlib.Core.List.{List}
+use mathlib.Core.Bool.{true}
 use mathlib.Core.Logic.{_⊎_, inl, inr}
 use mathlib.Core.Option.{Option, none, some}
-use Prim.Native.Nat.{ℕ, zero, _≤_}
+use Prim.Native.Nat.{ℕ}
 use native.Mathlib.Omega.{arith}
-use lib.Dec.{eqb}
 use borrow.Author.Tests.{eqb-true}
-use Rattle.wire.specs.Choice.{_and_, pick}
+use Rattle.wire.specs.Choice.{_and_}
 use Rattle.wire.proofs.ChoiceLaws.{and-both}
 use Rattle.store.specs.declared.End.{End}
 use Rattle.store.specs.declared.Channel.{Channel}
 use Rattle.store.specs.Table.{channelAt, sameEnd}
 use Rattle.store.specs.Layout.{Store, storeIn}
 use Rattle.datagram.specs.declared.Packet.{Packet}
-use Rattle.datagram.specs.Datagram.{Datagram, datagramIn}
+use Rattle.datagram.specs.Datagram.{datagramIn}
 use Rattle.rules.specs.Refusals.{fitsPacket}
 use Rattle.rules.specs.Promise.{Side, across, Call, At, fold, Paired, Peers, packetOf, isDelivery}
-use Rattle.rules.proofs.Accepted.{ReceiveOk}
-use Rattle.rules.proofs.Step.{Step, Grown, Later, later, later-refl}
+use Rattle.rules.proofs.Step.{Grown, Later, later, later-refl}
 use Rattle.rules.proofs.Receipt.{receive-of, receive-destination, receive-found}
 use Rattle.rules.proofs.History.{World, ledger, kept}
 use Rattle.rules.proofs.Once.{Did, did, did-packet}
@@ -29,8 +26,14 @@ grown-trans : (a c e : Channel) → Grown a c → Grown c e → Grown a e
 grown-trans a c e g h =
     let i = g .send in let j = h .send in let k = g .receive in let l = h .receive in let m = g .acknowledge in let n = h .acknowledge in
     record {
-      own = h .own ∙ g .own; counterparty = h .counterparty ∙ g .counterparty; order = h .order ∙ g .order; send = omega arith;
-      receive = omega arith; acknowledge = omega arith; state = state (g .state) (h .state) }
+      own = h .own ∙ g .own;
+      counterparty = h .counterparty ∙ g .counterparty;
+      order = h .order ∙ g .order;
+      send = omega arith;
+      receive = omega arith;
+      acknowledge = omega arith;
+      state = state (g .state) (h .state);
+    }
   where
     state : (c .state ≡ a .state) ⊎ (c .state ≡ 4) → (e .state ≡ c .state) ⊎ (e .state ≡ 4) → (e .state ≡ a .state) ⊎ (e .state ≡ 4)
     state p (inr q) = inr q
@@ -57,8 +60,8 @@ module _ (w : World) where
   made-end z i n c h =
       let start = channelAt n (storeIn (w .start z) .channels) in
       later-back start (channelAt n (ledger w z i .channels)) c
-        (kept w (λ (s : Store). Later start (channelAt n (s .channels)))
-          (λ s d t st l. later-trans start (channelAt n (s .channels)) (channelAt n (t .channels)) l (later s d t st n)) z 0 i (omega arith) (later-refl start)) h
+      (kept w (λ (s : Store). Later start (channelAt n (s .channels)))
+      (λ s d t st l. later-trans start (channelAt n (s .channels)) (channelAt n (t .channels)) l (later s d t st n)) z 0 i (omega arith) (later-refl start)) h
 
   -- the end that it names, as it was made
   pub peer : Paired (w .start) → (z : Side) (i n : ℕ) (c : Channel) → channelAt n (ledger w z i .channels) ≡ some c →
@@ -67,9 +70,11 @@ module _ (w : World) where
       let b = made-end z i n c h in
       let g = b .2 in
       let q = pairs z n (b .0) (b .1) in
-      let r = q .2 in
-      (q .0, ap (λ (e : End). channelAt (e .channel) (storeIn (w .start (across z)) .channels)) (g .counterparty) ∙ q .1,
-        record { own = r .own ∙ sym (g .counterparty); counterparty = r .counterparty ∙ sym (g .own); order = r .order ∙ sym (g .order) })
+      let r = q .2 in (
+        q .0,
+        ap (λ (e : End). channelAt (e .channel) (storeIn (w .start (across z)) .channels)) (g .counterparty) ∙ q .1,
+        record { own = r .own ∙ sym (g .counterparty); counterparty = r .counterparty ∙ sym (g .own); order = r .order ∙ sym (g .order) },
+      )
 
   -- A DELIVERY, on the end that its packet names
   pub record Delivered (i : ℕ) (c : Call) : Type 0 where
@@ -98,10 +103,14 @@ module _ (w : World) where
       let number = sym (receive-destination _ _ _ st (d .kind)) in
       let own : datagramIn (c .datagram) .packet .destination ≡ st .channel .own = λ j. record { port = port j; channel = number j } in
       record {
-        did = d; packet = q; end = st .channel;
+        did = d;
+        packet = q;
+        end = st .channel;
         found = subst₂ (λ (p : Packet) (s : Store). channelAt (p .destination .channel) (s .channels) ≡ some (st .channel)) (sym q) (d .acts .before)
-          (receive-found _ _ _ st (d .kind));
-        source = ap (λ (p : Packet). p .source) q ∙ same-end _ _ (f .1); destination = ap (λ (p : Packet). p .destination) q ∙ own }
+            (receive-found _ _ _ st (d .kind));
+        source = ap (λ (p : Packet). p .source) q ∙ same-end _ _ (f .1);
+        destination = ap (λ (p : Packet). p .destination) q ∙ own;
+      }
 
   -- the sender's end of a delivery, as it was made
   pub sender-end : Paired (w .start) → (i : ℕ) (c : Call) (d : Delivered i c) →

@@ -1,14 +1,13 @@
 -- One accepted call and what is received: it stays received, and a delivery was not received before and is afterwards.
 -- Assumes nothing.
 use mathlib.Core.Path.{_≡_, refl, sym, ap, subst, _∙_}
-use mathlib.Core.Bool.{Bool, true, false}
+use mathlib.Core.Bool.{true}
 use mathlib.Core.List.{List}
-use mathlib.Core.Option.{Option, none, some}
-use Prim.Native.Nat.{ℕ, suc, _+_, _≤_, _<_}
+use mathlib.Core.Option.{Option, some}
+use Prim.Native.Nat.{ℕ, suc}
 use native.Mathlib.Omega.{arith}
 use lib.Dec.{eqb}
 use borrow.Author.Tests.{eqb-true, eqb-false}
-use Rattle.wire.specs.Choice.{pick, isSome}
 use Rattle.wire.proofs.ChoiceLaws.{clash, cases, of-pick}
 use Rattle.store.specs.declared.Channel.{Channel}
 use Rattle.store.specs.declared.Record.{Record}
@@ -16,12 +15,12 @@ use Rattle.store.specs.Table.{receiptKey, channelAt, hasFree}
 use Rattle.store.specs.Layout.{Store}
 use Rattle.store.specs.Ordering.{isOrdered, isReceived}
 use Rattle.datagram.specs.Datagram.{Datagram}
-use Rattle.rules.specs.Ordering.{Edit, counted, closed, receivedEnd, receivedEdit, raisesAcknowledge, raisedAcknowledge, acknowledgedEnd, timedOutEnd}
+use Rattle.rules.specs.Ordering.{counted, closed, receivedEnd, receivedEdit, raisesAcknowledge, raisedAcknowledge, acknowledgedEnd, timedOutEnd}
 use Rattle.rules.specs.Refusals.{isInOrder}
 use Rattle.rules.specs.Acceptance.{Effect, sends, receives, writesAcknowledgement, acknowledges, timesOut, edited}
 use Rattle.rules.proofs.Accepted.{ReceiveOk}
 use Rattle.rules.proofs.OrderingLaws as ordering
-use Rattle.rules.proofs.Step.{How, sending, receiving, writing, acknowledging, timing, Step, Grown, Later, single, later, record-stays, records-left, own-number, own-found, own-grown, own-after, other-after}
+use Rattle.rules.proofs.Step.{How, sending, receiving, writing, acknowledging, timing, Step, single, later, record-stays, records-left, own-number, own-found, own-grown, own-after, other-after}
 use Rattle.rules.proofs.Commitment.{later-some}
 
 pub record Received (s : Store) (n m : ℕ) : Type 0 where
@@ -34,9 +33,11 @@ received-stays s d t n m st r =
     let l = later-some (channelAt n (s .channels)) (channelAt n (t .channels)) (r .channel) (later s d t st n) (r .found) in
     let g = l .2 in
     record {
-      channel = l .0; found = l .1;
+      channel = l .0;
+      found = l .1;
       received = ordering.received-stays (s .records) (t .records) (r .channel) (l .0) m (g .order) (g .own) (g .receive)
-        (record-stays s d t st (receiptKey (r .channel .own .channel) m) (λ q. absurd (omega arith))) (r .received) }
+          (record-stays s d t st (receiptKey (r .channel .own .channel) m) (λ q. absurd (omega arith))) (r .received);
+    }
 
 -- A DELIVERY
 module _ (s : Store) (d : Datagram) (t : Store) (st : Step s d t) (k : d .kind ≡ 2) where
@@ -64,7 +65,7 @@ module _ (s : Store) (d : Datagram) (t : Store) (st : Step s d t) (k : d .kind �
       let e : r .channel ≡ st .channel = cc in
       let ok = receive-of .0 in
       clash (subst (λ (c : Channel). isReceived (s .records) c (d .packet .sequence) ≡ true) e (r .received))
-        (ordering.receive-new (s .records) (st .channel) (d .packet .sequence) (ok .inOrder) (ok .new))
+      (ordering.receive-new (s .records) (st .channel) (d .packet .sequence) (ok .inOrder) (ok .new))
 
   pub receive-end : st .effect .end ≡ receivedEnd (st .channel)
   unfolding receives
@@ -75,13 +76,14 @@ module _ (s : Store) (d : Datagram) (t : Store) (st : Step s d t) (k : d .kind �
   receive-makes =
       let ok = receive-of .0 in
       let q = ordering.receive-received (s .records) (st .channel) (d .packet .sequence) (single s d t st) (ok .inOrder) (ok .new)
-        (λ r. ordering.receive-room (st .channel) (hasFree (s .records)) r (ok .room)) in
+      (λ r. ordering.receive-room (st .channel) (hasFree (s .records)) r (ok .room)) in
       let w : t .records ≡ edited (receivedEdit (st .channel) (d .packet .sequence)) (s .records) =
-        records-left s d t st ∙ ap (λ (e : Effect). edited (e .edit) (s .records)) (receive-of .1) in
+      records-left s d t st ∙ ap (λ (e : Effect). edited (e .edit) (s .records)) (receive-of .1) in
       record {
         channel = receivedEnd (st .channel);
         found = ap (λ (n : ℕ). channelAt n (t .channels)) (sym receive-destination) ∙ own-after s d t st ∙ ap some receive-end;
-        received = ap (λ (rs : List (Option Record)). isReceived rs (receivedEnd (st .channel)) (d .packet .sequence)) w ∙ q }
+        received = ap (λ (rs : List (Option Record)). isReceived rs (receivedEnd (st .channel)) (d .packet .sequence)) w ∙ q;
+      }
 
 -- AN ORDERED END and the sequence that it waits for
 pub record Waits (s : Store) (n m : ℕ) : Type 0 where
@@ -115,21 +117,27 @@ module _ (s : Store) (d : Datagram) (t : Store) (st : Step s d t) (n m : ℕ) (w
   waits-own : st .channel .own .channel ≡ n → (j : ℕ) → st .effect .end .next .receive ≡ j → Waits t n j
   waits-own q j h =
       record {
-        channel = st .effect .end; found = ap (λ (k : ℕ). channelAt k (t .channels)) (sym q) ∙ own-after s d t st; ordered = own-order q;
-        next = h }
+        channel = st .effect .end;
+        found = ap (λ (k : ℕ). channelAt k (t .channels)) (sym q) ∙ own-after s d t st;
+        ordered = own-order q;
+        next = h;
+      }
 
   -- a call that delivers nothing there leaves it waiting
   pub waits-on : (d .kind ≡ 2 → d .packet .destination .channel ≡ n → ⊥) → Waits t n m
   waits-on h =
       cases (eqb (st .channel .own .channel) n)
-        (λ q.
-          let e = eqb-true (st .channel .own .channel) n q in
-          waits-own e m
-            (receive-kept s d (st .channel) (st .effect) (st .how) (λ k. h k (sym (receive-destination s d t st k) ∙ e)) ∙
-            ap (λ (c : Channel). c .next .receive) (own-waits e) ∙ w .next))
-        (λ q. record {
-          channel = w .channel; found = other-after s d t st n (eqb-false (st .channel .own .channel) n q) ∙ w .found; ordered = w .ordered;
-          next = w .next })
+      (λ q.
+      let e = eqb-true (st .channel .own .channel) n q in
+      waits-own e m
+      (receive-kept s d (st .channel) (st .effect) (st .how) (λ k. h k (sym (receive-destination s d t st k) ∙ e)) ∙
+      ap (λ (c : Channel). c .next .receive) (own-waits e) ∙ w .next))
+      (λ q. record {
+        channel = w .channel;
+        found = other-after s d t st n (eqb-false (st .channel .own .channel) n q) ∙ w .found;
+        ordered = w .ordered;
+        next = w .next;
+      })
 
   -- a delivery there is the one that it waits for
   pub waits-next : d .kind ≡ 2 → d .packet .destination .channel ≡ n → (d .packet .sequence ≡ m) × Waits t n (suc m)

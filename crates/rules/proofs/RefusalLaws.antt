@@ -3,7 +3,7 @@ use mathlib.Core.Path.{_≡_, refl}
 use mathlib.Core.Bool.{Bool, true, false}
 use mathlib.Core.List.{List, [], _∷_, map}
 use mathlib.Core.Logic.{_↔_}
-use Prim.Native.Nat.{ℕ, suc, _≤_}
+use Prim.Native.Nat.{ℕ, suc}
 use native.Mathlib.Omega.{arith}
 use lib.Dec.{eqb}
 use borrow.Author.Tests.{eqb-true, eqb-false, eq-eqb}
@@ -19,7 +19,7 @@ lowest-cons : (k : ℕ) (l : Line) (ls : List Line) → lowest k (l ∷ ls) ≡ 
 unfolding lowest
 lowest-cons k l ls h =
     cases (eqb (given k l) 0) (λ e. (eqb-true (given k l) 0 e, cc))
-      (λ e. let z : given k l ≡ 0 = cc in absurd (eqb-false (given k l) 0 e z))
+    (λ e. let z : given k l ≡ 0 = cc in absurd (eqb-false (given k l) 0 e z))
 
 -- ACCEPTED exactly when no line gives a number
 pub lowest-zero : (k : ℕ) (ls : List Line) → (lowest k ls ≡ 0) ↔ Every (λ l. given k l ≡ 0) ls
@@ -29,6 +29,7 @@ lowest-zero k ls = (to k ls, from k ls)
     to : (k : ℕ) (ls : List Line) → lowest k ls ≡ 0 → Every (λ l. given k l ≡ 0) ls
     to k [] h = tt
     to k (l ∷ ls) h = let q = lowest-cons k l ls h in (q .0, to k ls (q .1))
+
     from : (k : ℕ) (ls : List Line) → Every (λ l. given k l ≡ 0) ls → lowest k ls ≡ 0
     from k [] h = refl
     from k (l ∷ ls) h = let q = eq-eqb (given k l) 0 (h .0) in let r = from k ls (h .1) in cc

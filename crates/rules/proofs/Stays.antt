@@ -1,41 +1,46 @@
 -- Of each call by itself: a made store is fit, a fit store stays fit, bytes stay bytes, a refusal changes nothing.
 -- Assumes nothing.
 use mathlib.Core.Path.{_≡_, refl, sym, ap, subst, _∙_}
-use mathlib.Core.Bool.{Bool, true, false}
+use mathlib.Core.Bool.{true}
 use mathlib.Core.List.{List, _++_}
 use Prim.Native.Nat.{ℕ}
 use lib.Dec.{eqb}
 use lib.ListN.{length, drop}
 use borrow.Author.Tests.{eqb-true, eqb-false}
-use Rattle.wire.specs.Choice.{_or_, pick}
+use Rattle.wire.specs.Choice.{_or_}
 use Rattle.wire.specs.Bytes.{Bytes, little}
 use Rattle.wire.proofs.ChoiceLaws.{cases}
 use Rattle.wire.proofs.EveryLaws.{every-append, every-drop}
 use Rattle.wire.proofs.BytesLaws.{Byte, bytes-little}
 use Rattle.store.specs.declared.Channel.{Channel}
-use Rattle.store.specs.Layout.{Store, storeIn, bytesOf}
+use Rattle.store.specs.Layout.{Store, storeIn}
 use Rattle.store.specs.Fit.{isFit}
-use Rattle.store.specs.Maker.{makeTold, makeStore, madeStore}
 use Rattle.store.proofs.FitLaws.{fit-of}
 use Rattle.store.proofs.MakerLaws.{made-fields, made-fits, make-told}
 use Rattle.datagram.specs.Datagram.{Datagram, datagramIn, isProved}
-use Rattle.datagram.specs.Emitted.{framed, packetBytes}
+use Rattle.datagram.specs.Emitted.{packetBytes}
 use Rattle.datagram.proofs.DatagramLaws.{PacketFields}
 use Rattle.datagram.proofs.EmittedLaws.{bytes-framed, bytes-packet}
 use Rattle.rules.specs.Acceptance.{Effect, sentPacket, sends, receives, writesAcknowledgement, acknowledges, timesOut}
-use Rattle.rules.specs.Call.{effectIn, nextStore, callTold, callStore, callOutput}
+use Rattle.rules.specs.Call.{effectIn, callTold, callStore, callOutput}
 use Rattle.rules.specs.Promise.{first, Call, Met, Stays}
 use Rattle.rules.proofs.Step.{How, sending, receiving, writing, acknowledging, timing}
 use Rattle.rules.proofs.FitStep.{fits-after}
-use Rattle.rules.proofs.Bridge.{Acceptance, accepted-step, proved-two}
+use Rattle.rules.proofs.Bridge.{Acceptance, accepted-step}
 use Rattle.rules.proofs.Acted.{accepts, accepted-store, accepted-output, refused-call, left-bytes}
 
 -- a call that met what is promised, whatever it was
 abbrev call : (bs o b : List ℕ) → Call
 call bs o b =
     record {
-      side = first; store = bs; output = o; datagram = b; told = callTold bs o b; storeLeft = callStore bs o b;
-      outputLeft = callOutput bs o b }
+      side = first;
+      store = bs;
+      output = o;
+      datagram = b;
+      told = callTold bs o b;
+      storeLeft = callStore bs o b;
+      outputLeft = callOutput bs o b;
+    }
 
 met : (bs o b : List ℕ) → Met (call bs o b)
 met bs o b = record { told = refl; store = refl; output = refl }
@@ -43,8 +48,8 @@ met bs o b = record { told = refl; store = refl; output = refl }
 written-bytes : (p n m : ℕ) (a : List ℕ) → Bytes a → Bytes (little 2 p ++ little 4 n ++ little 8 m ++ a)
 written-bytes p n m a h =
     every-append Byte (little 2 p ++ little 4 n ++ little 8 m) a
-      (every-append Byte (little 2 p ++ little 4 n) (little 8 m)
-        (every-append Byte (little 2 p) (little 4 n) (bytes-little 2 p) (bytes-little 4 n)) (bytes-little 8 m)) h
+    (every-append Byte (little 2 p ++ little 4 n) (little 8 m)
+    (every-append Byte (little 2 p) (little 4 n) (bytes-little 2 p) (bytes-little 4 n)) (bytes-little 8 m)) h
 
 emitted-bytes : (s : Store) (d : Datagram) (c : Channel) (e : Effect) → Bytes (d .digest) → PacketFields (sentPacket c d) →
     (isProved (d .kind) ≡ true → PacketFields (d .packet)) → How s d c e → Bytes (e .emitted)
@@ -65,22 +70,22 @@ module _ (bs o b : List ℕ) (p : Bytes bs) (q : Bytes b) where
   stays-fit : isFit bs ≡ true → isFit (callStore bs o b) ≡ true
   stays-fit f =
       by-number
-        (λ t.
-          let a = step t in
-          ap isFit (accepted-store (call bs o b) (met bs o b) t) ∙ fit-of _ (a .fields) (fits-after _ _ _ (a .step)))
-        (λ n. ap isFit (refused-call (call bs o b) (met bs o b) n .1) ∙ f)
+      (λ t.
+      let a = step t in
+      ap isFit (accepted-store (call bs o b) (met bs o b) t) ∙ fit-of _ (a .fields) (fits-after _ _ _ (a .step)))
+      (λ n. ap isFit (refused-call (call bs o b) (met bs o b) n .1) ∙ f)
 
   output-bytes : Bytes o → Bytes (callOutput bs o b)
   output-bytes r =
       by-number
-        (λ t.
-          let a = step t in
-          let e = emitted-bytes _ _ _ (a .step .effect) (a .digest) (a .sent) (a .carried) (a .step .how) in
-          let x : List ℕ = effectIn (storeIn bs) (datagramIn b) .emitted in
-          subst Bytes (sym (accepted-output (call bs o b) (met bs o b) t))
-            (every-append Byte x (drop (length x) o) (subst (λ (y : Effect). Bytes (y .emitted)) (a .effect) e)
-              (every-drop Byte (length x) o r)))
-        (λ n. subst Bytes (sym (refused-call (call bs o b) (met bs o b) n .2)) r)
+      (λ t.
+      let a = step t in
+      let e = emitted-bytes _ _ _ (a .step .effect) (a .digest) (a .sent) (a .carried) (a .step .how) in
+      let x : List ℕ = effectIn (storeIn bs) (datagramIn b) .emitted in
+      subst Bytes (sym (accepted-output (call bs o b) (met bs o b) t))
+      (every-append Byte x (drop (length x) o) (subst (λ (y : Effect). Bytes (y .emitted)) (a .effect) e)
+      (every-drop Byte (length x) o r)))
+      (λ n. subst Bytes (sym (refused-call (call bs o b) (met bs o b) n .2)) r)
 
 pub stays : Stays
 stays =
@@ -88,4 +93,5 @@ stays =
       made = λ bs os p h. ap isFit (make-told bs os h) ∙ fit-of _ (made-fields (length bs) os p h) (made-fits (length bs) os h);
       fit = λ bs o b p q f. stays-fit bs o b p q f;
       bytes = λ bs o b p r q. (left-bytes (call bs o b) (met bs o b) p q, output-bytes bs o b p q r);
-      refused = λ bs o b n. refused-call (call bs o b) (met bs o b) n }
+      refused = λ bs o b n. refused-call (call bs o b) (met bs o b) n;
+    }

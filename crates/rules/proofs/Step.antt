@@ -1,35 +1,33 @@
 -- One accepted call on one ledger, on stores and not on bytes: what it does to the end and to the records. Assumes nothing.
 use mathlib.Core.Path.{_≡_, refl, sym, ap, subst, subst₂, _∙_}
-use mathlib.Core.Bool.{Bool, true, false, not}
-use mathlib.Core.List.{List, [], _∷_}
+use mathlib.Core.Bool.{true, not}
+use mathlib.Core.List.{List}
 use mathlib.Core.Logic.{_⊎_, inl, inr}
 use mathlib.Core.Option.{Option, none, some}
-use Prim.Native.Nat.{ℕ, zero, suc, _+_, _≤_, _<_}
+use Prim.Native.Nat.{ℕ, zero, suc, _≤_, _<_}
 use native.Mathlib.Omega.{arith}
-use lib.Dec.{ltb, leb, eqb}
-use borrow.Author.Tests.{eqb-true, eqb-false, eq-eqb, ltb-true, not-true, not-false}
-use Rattle.wire.specs.Choice.{_and_, _or_, pick, isSome}
+use lib.Dec.{eqb}
+use borrow.Author.Tests.{eqb-true, eqb-false}
+use Rattle.wire.specs.Choice.{_and_, _or_, isSome}
 use Rattle.wire.specs.Bytes.{noDigest}
-use Rattle.wire.proofs.ChoiceLaws.{and-both, both-and, clash, cases, of-pick, not-some, none-if, some-if}
+use Rattle.wire.proofs.ChoiceLaws.{cases, of-pick, not-some, none-if}
 use Rattle.store.specs.declared.End.{End}
 use Rattle.store.specs.declared.Channel.{Channel}
 use Rattle.store.specs.declared.Counters.{Counters}
 use Rattle.store.specs.declared.Record.{Record}
-use Rattle.store.specs.Table.{Key, commitmentKey, receiptKey, acknowledgementKey, keyOf, lookup, insert, remove, hasFree, all, channelAt, withChannel, sameEnd}
+use Rattle.store.specs.Table.{Key, commitmentKey, keyOf, lookup, hasFree, channelAt, withChannel}
 use Rattle.store.specs.Layout.{Store}
 use Rattle.store.specs.Ordering.{isOrdered}
-use Rattle.store.specs.Fit.{fitsEnd, recordFits, recordsFit, channelsFit, storeFits}
-use Rattle.store.proofs.TableLaws.{Each, all-each, each-find}
-use Rattle.store.proofs.RecordLaws.{Single, insert-keeps, insert-from, lookup-remove-other, remove-from}
+use Rattle.store.specs.Fit.{storeFits}
+use Rattle.store.proofs.RecordLaws.{Single, insert-keeps, lookup-remove-other}
 use Rattle.store.proofs.FitRecordLaws.{fit-single, committed-end}
 use Rattle.store.proofs.ChannelLaws.{channel-number, channel-own, channel-with, channel-with-other}
 use Rattle.datagram.specs.declared.Packet.{Packet}
-use Rattle.datagram.specs.Datagram.{Datagram, isProved}
-use Rattle.rules.specs.Verdict.{hasValues}
-use Rattle.rules.specs.Ordering.{Edit, keeps, writes, frees, plainRecord, counted, closed, raisedSend, raisedReceive, raisedAcknowledge, isReceiptThere, raisesReceive, receivedEnd, receivedEdit, raisesAcknowledge, acknowledgedEnd, timedOutEnd, needsRecord}
-use Rattle.rules.specs.Refusals.{fitsPacket, isCommitted, lowest, table}
+use Rattle.datagram.specs.Datagram.{Datagram}
+use Rattle.rules.specs.Ordering.{Edit, keeps, writes, frees, plainRecord, counted, closed, raisedSend, raisedReceive, raisedAcknowledge, raisesReceive, receivedEnd, receivedEdit, raisesAcknowledge, acknowledgedEnd, timedOutEnd}
+use Rattle.rules.specs.Refusals.{isCommitted, lowest, table}
 use Rattle.rules.specs.Acceptance.{Effect, sentPacket, commitment, sends, receives, writesAcknowledgement, acknowledges, timesOut, effectOf, edited, applied}
-use Rattle.rules.proofs.VerdictLaws.{Has, has-values}
+use Rattle.rules.proofs.VerdictLaws.{has-values}
 use Rattle.rules.proofs.OrderingLaws.{receive-room, receive-absent}
 use Rattle.rules.proofs.Accepted.{SendOk, ReceiveOk, WriteOk, AcknowledgeOk, TimeoutOk, send-ok, receive-ok, write-ok, acknowledge-ok, timeout-ok}
 
@@ -85,7 +83,14 @@ counts-up : (c : Channel) (n : Counters) → c .next .send ≤ n .send → c .ne
 unfolding counted
 counts-up c n p q r =
     record {
-      own = refl; counterparty = refl; order = refl; send = p; receive = q; acknowledge = r; state = inl refl }
+      own = refl;
+      counterparty = refl;
+      order = refl;
+      send = p;
+      receive = q;
+      acknowledge = r;
+      state = inl refl;
+    }
 
 pub grown-refl : (c : Channel) → Grown c c
 unfolding counted
@@ -96,19 +101,25 @@ unfolding closed
 closes c =
     let g = grown-refl c in
     record {
-      own = refl; counterparty = refl; order = refl; send = g .send; receive = g .receive; acknowledge = g .acknowledge;
-      state = inr refl }
+      own = refl;
+      counterparty = refl;
+      order = refl;
+      send = g .send;
+      receive = g .receive;
+      acknowledge = g .acknowledge;
+      state = inr refl;
+    }
 
 pub grown : (s : Store) (d : Datagram) (c : Channel) (e : Effect) → How s d c e → Grown c (e .end)
 unfolding sends receives writesAcknowledgement acknowledges timesOut receivedEnd acknowledgedEnd timedOutEnd
 grown s d c e (sending k ok) = counts-up c (raisedSend (c .next)) (omega arith) (omega arith) (omega arith)
 grown s d c e (receiving k ok) =
     of-pick (Grown c) (raisesReceive c) (counted c (raisedReceive (c .next))) c
-      (λ q. counts-up c (raisedReceive (c .next)) (omega arith) (omega arith) (omega arith)) (λ q. grown-refl c)
+    (λ q. counts-up c (raisedReceive (c .next)) (omega arith) (omega arith) (omega arith)) (λ q. grown-refl c)
 grown s d c e (writing k ok) = grown-refl c
 grown s d c e (acknowledging k ok) =
     of-pick (Grown c) (raisesAcknowledge c) (counted c (raisedAcknowledge (c .next))) c
-      (λ q. counts-up c (raisedAcknowledge (c .next)) (omega arith) (omega arith) (omega arith)) (λ q. grown-refl c)
+    (λ q. counts-up c (raisedAcknowledge (c .next)) (omega arith) (omega arith) (omega arith)) (λ q. grown-refl c)
 grown s d c e (timing k ok) = of-pick (Grown c) (isOrdered c) (closed c) c (λ q. closes c) (λ q. grown-refl c)
 
 -- THE RECORDS: a new one has room and a key of its own; one that becomes free is a commitment that is there
@@ -128,12 +139,12 @@ unused : (s : Store) (c : Channel) → storeFits s ≡ true → channelAt (c .ow
     lookup (commitmentKey (c .own .channel) (c .next .send)) (s .records) ≡ none
 unused s c f h =
     none-if (lookup (commitmentKey (c .own .channel) (c .next .send)) (s .records))
-      (λ r e.
-        let a = committed-end s (c .own .channel) (c .next .send) r f e in
-        let b = a .1 in
-        let q : a .0 ≡ c = cc in
-        let l : c .next .send < c .next .send = rw q at (a .2) in
-        omega arith)
+    (λ r e.
+    let a = committed-end s (c .own .channel) (c .next .send) r f e in
+    let b = a .1 in
+    let q : a .0 ≡ c = cc in
+    let l : c .next .send < c .next .send = rw q at (a .2) in
+    omega arith)
 
 legal-of : (s : Store) (d : Datagram) (c : Channel) (e : Effect) → storeFits s ≡ true → channelAt (c .own .channel) (s .channels) ≡ some c →
     ((d .kind ≡ 4) ⊎ (d .kind ≡ 5) → c .own .channel ≡ d .packet .source .channel) → How s d c e → Legal (s .records) (e .edit)
@@ -141,7 +152,7 @@ unfolding sends receives writesAcknowledgement acknowledges timesOut receivedEdi
 legal-of s d c e f h w (sending k ok) = adding (ok .room) (unused s c f h)
 legal-of s d c e f h w (receiving k ok) =
     of-pick (Legal (s .records)) (raisesReceive c) keeps (writes (plainRecord 2 (c .own .channel) (d .packet .sequence) noDigest)) (λ q. keeping)
-      (λ q. adding (receive-room c (hasFree (s .records)) q (ok .room)) (receive-absent (s .records) c (d .packet .sequence) q (ok .new)))
+    (λ q. adding (receive-room c (hasFree (s .records)) q (ok .room)) (receive-absent (s .records) c (d .packet .sequence) q (ok .new)))
 legal-of s d c e f h w (writing k ok) = adding (ok .room) (not-some _ (ap not (ok .new)))
 legal-of s d c e f h w (acknowledging k ok) =
     freeing {c = c .own .channel} {n = d .packet .sequence} (rw (w (inl k)) (committed-there (s .records) (d .packet) (ok .committed)))
@@ -204,9 +215,9 @@ module _ (s : Store) (d : Datagram) (t : Store) (st : Step s d t) where
   pub later : (n : ℕ) → Later (channelAt n (s .channels)) (channelAt n (t .channels))
   later n =
       cases (eqb own n)
-        (λ q. subst (λ (m : ℕ). Later (channelAt m (s .channels)) (channelAt m (t .channels))) (eqb-true own n q)
-          (subst₂ Later (sym own-found) (sym own-after) own-grown))
-        (λ q. subst (Later (channelAt n (s .channels))) (sym (other-after n (eqb-false own n q))) (later-refl (channelAt n (s .channels))))
+      (λ q. subst (λ (m : ℕ). Later (channelAt m (s .channels)) (channelAt m (t .channels))) (eqb-true own n q)
+      (subst₂ Later (sym own-found) (sym own-after) own-grown))
+      (λ q. subst (Later (channelAt n (s .channels))) (sym (other-after n (eqb-false own n q))) (later-refl (channelAt n (s .channels))))
 
   -- a record that is no commitment stays
   pub record-stays : (k : Key) → (k .kind ≡ 1 → ⊥) → isSome (lookup k (s .records)) ≡ true → isSome (lookup k (t .records)) ≡ true

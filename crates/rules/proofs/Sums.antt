@@ -1,23 +1,23 @@
 -- Demand 3: the sums, for each end on its own store. Assumes nothing.
-use mathlib.Core.Path.{_≡_, refl, sym, ap, subst, _∙_}
-use mathlib.Core.Bool.{Bool, true, false}
+use mathlib.Core.Path.{_≡_, sym, ap, subst, _∙_}
+use mathlib.Core.Bool.{true}
 use mathlib.Core.List.{List}
 use mathlib.Core.Logic.{_⊎_, inl, inr, ⊎-elim}
-use Prim.Native.Nat.{ℕ, zero, suc, _+_, _≤_, _<_}
+use Prim.Native.Nat.{ℕ, zero, suc, _+_}
 use native.Mathlib.Omega.{arith}
 use lib.Dec.{eqb}
 use lib.ListN.{length, take}
 use lib.Seq.{take-length}
 use borrow.Author.Tests.{eqb-true, eqb-false, eq-eqb, ne-eqb}
 use Rattle.wire.specs.Choice.{_and_, pick}
-use Rattle.wire.proofs.ChoiceLaws.{and-both, both-and, cases}
+use Rattle.wire.proofs.ChoiceLaws.{and-both, cases}
 use Rattle.store.specs.Table.{commitments}
 use Rattle.store.specs.Layout.{Store, storeIn}
 use Rattle.store.proofs.MakerLaws.{made-commitments}
 use Rattle.datagram.specs.declared.Packet.{Packet}
-use Rattle.datagram.specs.Datagram.{Datagram, datagramIn, kindIn}
+use Rattle.datagram.specs.Datagram.{datagramIn, kindIn}
 use Rattle.rules.specs.Acceptance.{sentPacket}
-use Rattle.rules.specs.Promise.{Side, Call, fold, storeAfter, howMany, isOn, Run, Made, isAccepted, emitted, emits, isSend, isAcknowledgement, isTimeout, packetOf, isBy, Sums}
+use Rattle.rules.specs.Promise.{Side, Call, fold, storeAfter, howMany, isOn, isAccepted, emitted, emits, isSend, isAcknowledgement, isTimeout, packetOf, isBy, Sums}
 use Rattle.rules.proofs.Commitment.{sum, finish-source}
 use Rattle.rules.proofs.Acted.{Acted, acted-sent, acted-carried}
 use Rattle.rules.proofs.History.{side-refl, made-read, World, ledger, Turn, Quiet, turn, turn-count, quiet-count}
@@ -45,15 +45,15 @@ module _ (z : Side) (n : ℕ) (c : Call) (on : c .side ≡ z) (told : c .told .n
       let t = eq-eqb (c .told .number) 0 told in
       let w = a .kind in
       cases (eqb kind k)
-        (λ e.
-          let q = eqb-true kind k e in
-          let x = source-own (h q) in
-          let y = eq-eqb (kindIn (emitted c)) (256 + k) (omega arith) in
-          cc)
-        (λ e.
-          let q = eqb-false kind k e in
-          let y = ne-eqb (kindIn (emitted c)) (256 + k) (λ v. q (omega arith)) in
-          cc)
+      (λ e.
+      let q = eqb-true kind k e in
+      let x = source-own (h q) in
+      let y = eq-eqb (kindIn (emitted c)) (256 + k) (omega arith) in
+      cc)
+      (λ e.
+      let q = eqb-false kind k e in
+      let y = ne-eqb (kindIn (emitted c)) (256 + k) (λ v. q (omega arith)) in
+      cc)
 
 -- a call that counts is an accepted one of its ledger
 by-on : (z : Side) (n : ℕ) (k : ℕ) (c : Call) → isBy z n (emits k) c ≡ true → (isOn z c ≡ true) × (isAccepted c ≡ true)
@@ -72,7 +72,7 @@ module _ (w : World) (z : Side) (n : ℕ) where
   sums-at (suc i) = go (turn w z i) (sums-at i)
     where
       go : Quiet w z i ⊎ Turn w z i → tally 1 i ≡ tally 4 i + tally 5 i + commitments n (ledger w z i .records) →
-        tally 1 (suc i) ≡ tally 4 (suc i) + tally 5 (suc i) + commitments n (ledger w z (suc i) .records)
+          tally 1 (suc i) ≡ tally 4 (suc i) + tally 5 (suc i) + commitments n (ledger w z (suc i) .records)
       go (inl q) ih =
           let same : (k : ℕ) → tally k (suc i) ≡ tally k i = λ k. quiet-count w z i q (isBy z n (emits (256 + k))) (by-on z n (256 + k)) in
           let e = ap (λ (s : Store). commitments n (s .records)) (q .same) in
@@ -80,7 +80,7 @@ module _ (w : World) (z : Side) (n : ℕ) where
       go (inr u) ih =
           let a = u .acts .acted in
           let x : (k : ℕ) → tally k (suc i) ≡ pick (isBy z n (emits (256 + k)) (u .call)) 1 0 + tally k i =
-            λ k. turn-count w z i u (isBy z n (emits (256 + k))) in
+          λ k. turn-count w z i u (isBy z n (emits (256 + k))) in
           let y = counts z n (u .call) (u .acts .side) (u .acts .told) a in
           let e = ap (λ (s : Store). commitments n (s .records)) (u .acts .before) in
           let f = ap (λ (s : Store). commitments n (s .records)) (u .acts .after) in
@@ -89,4 +89,4 @@ module _ (w : World) (z : Side) (n : ℕ) where
 pub sums : (w : World) → Sums (w .start) (w .calls)
 sums w z n =
     subst (λ (cs : List Call). howMany (isBy z n isSend) cs ≡ howMany (isBy z n isAcknowledgement) cs + howMany (isBy z n isTimeout) cs +
-      commitments n (storeIn (storeAfter (isOn z) (w .start z) cs) .records)) (take-length (w .calls)) (sums-at w z n (length (w .calls)))
+    commitments n (storeIn (storeAfter (isOn z) (w .start z) cs) .records)) (take-length (w .calls)) (sums-at w z n (length (w .calls)))

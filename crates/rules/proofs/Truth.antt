@@ -1,48 +1,45 @@
 -- Demand 3 under true verdicts: each packet is delivered as it was sent, and none is both delivered and timed out.
 -- Assumes nothing.
 use mathlib.Core.Path.{_≡_, refl, sym, ap, subst, subst₂, subst₃, _∙_}
-use mathlib.Core.Bool.{Bool, true, false}
-use mathlib.Core.List.{List}
+use mathlib.Core.Bool.{true, false}
 use mathlib.Core.Logic.{_⊎_, inl, inr, ⊎-elim}
-use mathlib.Core.Option.{Option, none, some}
-use Prim.Native.Nat.{ℕ, zero, suc, _+_, _≤_, _<_}
+use mathlib.Core.Option.{none, some}
+use Prim.Native.Nat.{ℕ, suc, _+_, _≤_, _<_}
 use native.Mathlib.Omega.{arith}
 use lib.Dec.{ltb, leb, eqb}
-use lib.ListN.{length}
 use borrow.Author.Tests.{eqb-true, eqb-false, eq-eqb, ltb-true, ltb-false, leb-true, leb-false, le-leb}
-use Rattle.wire.specs.Choice.{_and_, _or_, pick, isSome}
-use Rattle.wire.specs.Bytes.{noDigest}
+use Rattle.wire.specs.Choice.{_and_, _or_}
 use Rattle.wire.proofs.ChoiceLaws.{and-both, both-and, or-either, or-neither, clash, cases}
 use Rattle.store.specs.declared.End.{End}
 use Rattle.store.specs.declared.OtherHeight.{OtherHeight}
 use Rattle.store.specs.declared.Timeout.{Timeout}
 use Rattle.store.specs.declared.Channel.{Channel}
 use Rattle.store.specs.declared.Record.{Record}
-use Rattle.store.specs.Height.{isPast, UpToOther, BelowOther, noTimeout}
+use Rattle.store.specs.Height.{isPast, UpToOther, BelowOther}
 use Rattle.store.specs.Table.{commitmentKey, lookup, channelAt}
 use Rattle.store.specs.Layout.{Store, storeIn}
 use Rattle.store.specs.Ordering.{isReceived}
 use Rattle.store.proofs.ChannelLaws.{channel-number}
 use Rattle.datagram.specs.declared.Packet.{Packet}
 use Rattle.datagram.specs.declared.Verdict.{Verdict}
-use Rattle.datagram.specs.Datagram.{Datagram, datagramIn, kindIn, contextIn, verdictFrom, isProved, packetSize}
+use Rattle.datagram.specs.Datagram.{Datagram, datagramIn, kindIn, contextIn, isProved}
 use Rattle.datagram.specs.Emitted.{framed, packetBytes}
 use Rattle.rules.specs.Verdict.{claimHolds}
 use Rattle.rules.specs.Refusals.{verdictDifference, isLate, isProvedLate, isCommitted, isInOrder, fitsPacket}
 use Rattle.rules.specs.Acceptance.{Effect, sentPacket, commitment}
-use Rattle.rules.specs.Promise.{Side, across, isSide, Call, At, isAccepted, emitted, emits, isSend, isDelivery, isTimeout, packetOf, sender, SamePacket, Paired, Peers, verdictOf, heightOf, timeOf, AcceptedOn, True, Honest, SentBefore, AsSent, NotBoth}
-use Rattle.rules.proofs.Accepted.{ReceiveOk, TimeoutOk}
-use Rattle.rules.proofs.VerdictLaws.{About, about, Has, has-values, claim-committed}
+use Rattle.rules.specs.Promise.{Side, across, isSide, Call, At, emitted, packetOf, sender, Paired, heightOf, timeOf, AcceptedOn, True, Honest, AsSent, NotBoth}
+use Rattle.rules.proofs.Accepted.{TimeoutOk}
+use Rattle.rules.proofs.VerdictLaws.{about, has-values, claim-committed}
 use Rattle.rules.proofs.OrderingLaws.{absent-not-received}
-use Rattle.rules.proofs.Step.{How, sending, receiving, writing, acknowledging, timing, Step, Grown, own-number, own-found}
-use Rattle.rules.proofs.Commitment.{Used, committed-used, SentNow, finish-source}
-use Rattle.rules.proofs.Receipt.{Received, receive-of}
-use Rattle.rules.proofs.Acted.{Acted, packetFor, acted-packet, acted-sent, acted-bytes, acted-size}
-use Rattle.rules.proofs.History.{across-across, side-refl, not-across, World, ledger, Acts, Turn, kept, used-back, ledger-fits, SentAt, sent-at}
+use Rattle.rules.proofs.Step.{How, sending, receiving, writing, acknowledging, timing, Step, own-found}
+use Rattle.rules.proofs.Commitment.{committed-used, SentNow, finish-source}
+use Rattle.rules.proofs.Receipt.{receive-of}
+use Rattle.rules.proofs.Acted.{acted-sent, acted-bytes, acted-size}
+use Rattle.rules.proofs.History.{across-across, side-refl, not-across, World, ledger, Turn, used-back, ledger-fits, sent-at}
 use Rattle.rules.proofs.Once.{Did, did, did-packet, delivery-sender, finish-sender}
 use Rattle.rules.proofs.Pairing.{made-end, same-end, Delivered, delivered, sender-end}
 use Rattle.rules.proofs.Delivery.{received-since}
-use Rattle.rules.proofs.Block.{Within, within}
+use Rattle.rules.proofs.Block.{within}
 
 module _ (w : World) (honest : Honest (w .start) (w .calls)) where
   -- the verdict of a call that carries one is true
@@ -72,20 +69,23 @@ module _ (w : World) (honest : Honest (w .start) (w .calls)) where
       let h = claim-committed v (ledger w (across (c .side)) (b .time)) (ap (claimHolds v) (sym (b .store)) ∙ t .holds) (a .claim) in
       let q = d .packet in
       record {
-        time = b .time; earlier = before (b .last) (t .closed); stored = h .stored;
+        time = b .time;
+        earlier = before (b .last) (t .closed);
+        stored = h .stored;
         there = subst₂ (λ (n m : ℕ). lookup (commitmentKey n m) (ledger w (across (c .side)) (b .time) .records) ≡ some (h .stored))
-          (ap (λ (y : End). y .channel) (a .end) ∙ ap (λ (y : Packet). y .source .channel) (sym q)) (a .sequence ∙ ap (λ (y : Packet). y .sequence) (sym q)) (h .there);
+            (ap (λ (y : End). y .channel) (a .end) ∙ ap (λ (y : Packet). y .source .channel) (sym q)) (a .sequence ∙ ap (λ (y : Packet). y .sequence) (sym q)) (h .there);
         timeout = h .timeout ∙ a .timeout ∙ ap (λ (y : Packet). y .timeout) (sym q);
-        digest = h .digest ∙ a .digest ∙ ap (λ (y : Packet). y .digest) (sym q) }
+        digest = h .digest ∙ a .digest ∙ ap (λ (y : Packet). y .digest) (sym q);
+      }
     where
       -- the block is closed, so its last call came before
       before : {n : ℕ} {h : OtherHeight} → (n ≡ 0) ⊎ ((k : ℕ) × (e : Call) × (n ≡ suc k) × AcceptedOn (across (c .side)) (w .calls) k e × UpToOther (heightOf e) h) →
-        ((j : ℕ) (e : Call) → AcceptedOn (across (c .side)) (w .calls) j e → i < j → BelowOther h (heightOf e)) → n ≤ i
+          ((j : ℕ) (e : Call) → AcceptedOn (across (c .side)) (w .calls) j e → i < j → BelowOther h (heightOf e)) → n ≤ i
       before (inl e) closed = omega arith
       before (inr (k, e, s, a, u)) closed =
           cases (ltb i k) (λ l. let x = closed k e a (ltb-true i k l) in absurd (omega arith))
-            (λ l. cases (eqb k i) (λ q. absurd (apart k e a (eqb-true k i q)))
-              (λ q. let x = ltb-false i k l in let y = eqb-false k i q in omega arith))
+          (λ l. cases (eqb k i) (λ q. absurd (apart k e a (eqb-true k i q)))
+          (λ q. let x = ltb-false i k l in let y = eqb-false k i q in omega arith))
         where
           apart : (k : ℕ) (e : Call) → AcceptedOn (across (c .side)) (w .calls) k e → k ≡ i → ⊥
           apart k e a q =
@@ -106,10 +106,11 @@ module _ (w : World) (honest : Honest (w .start) (w .calls)) where
         let x = p .1 in
         let y = b .1 in
         let q : b .0 ≡ p .0 = cc in
-        let g = b .2 in
-        (g .own ∙ ap (λ (v : Channel). v .own) q ∙ p .2 .own ∙ sym (d .source),
+        let g = b .2 in (
+          g .own ∙ ap (λ (v : Channel). v .own) q ∙ p .2 .own ∙ sym (d .source),
           g .counterparty ∙ ap (λ (v : Channel). v .counterparty) q ∙ p .2 .counterparty ∙ sym (d .destination),
-          g .order ∙ ap (λ (v : Channel). v .order) q ∙ p .2 .order)
+          g .order ∙ ap (λ (v : Channel). v .order) q ∙ p .2 .order,
+        )
 
     -- a send of that source and sequence, with the values claimed, sent this packet
     sent-same : (i : ℕ) (c : Call) → Delivered w i c → (k : Claimed i c) (j : ℕ) (u : Turn w (across (c .side)) j) →
@@ -140,13 +141,21 @@ module _ (w : World) (honest : Honest (w .start) (w .calls)) where
         let l = s .earlier in
         let l′ = k .earlier in
         let f : emitted (u .call) ≡ framed 0x0101 (packetBytes (packetOf c)) =
-          acted-bytes (u .call) a (λ q. omega arith) (λ q. omega arith) ∙ rw (n, p) refl in
+        acted-bytes (u .call) a (λ q. omega arith) (λ q. omega arith) ∙ rw (n, p) refl in
         let g : emitted c ≡ framed 0x0102 (packetBytes (packetOf c)) =
-          acted-bytes c (d .did .acts .acted) (λ q. omega arith) (λ q. omega arith) ∙ rw m refl in
+        acted-bytes c (d .did .acts .acted) (λ q. omega arith) (λ q. omega arith) ∙ rw m refl in
         record {
-          place = s .place; call = u .call; at = u .acts .at; earlier = omega arith; side = u .acts .side;
+          place = s .place;
+          call = u .call;
+          at = u .acts .at;
+          earlier = omega arith;
+          side = u .acts .side;
           send = both-and (eq-eqb (u .call .told .number) 0 (u .acts .told)) (eq-eqb (kindIn (emitted (u .call))) 0x0101 (a .kind ∙ ap (256 +_) n));
-          packet = packetBytes (packetOf c); size = acted-size c (d .did .acts .acted) (λ q. omega arith); sent = f; delivered = g }
+          packet = packetBytes (packetOf c);
+          size = acted-size c (d .did .acts .acted) (λ q. omega arith);
+          sent = f;
+          delivered = g;
+        }
 
     -- NOT BOTH
     either : (a b : ℕ) → (a ≤ b) ⊎ (b ≤ a)
@@ -171,10 +180,10 @@ module _ (w : World) (honest : Honest (w .start) (w .calls)) where
     in-block c t u v late early above =
         let n = or-neither early in
         cases (leb (heightOf c .0) (v .height .0)) (λ q. leb-true _ _ q)
-          (λ q.
-            let l = leb-false (heightOf c .0) (v .height .0) q in
-            ⊎-elim (λ p. clash (still-past (u .height) (v .height .0) (heightOf c .0) (omega arith) p) (n .0))
-              (λ p. clash (still-past (u .time) (v .time) (timeOf c) (above l) p) (n .1)) (or-either late))
+        (λ q.
+        let l = leb-false (heightOf c .0) (v .height .0) q in
+        ⊎-elim (λ p. clash (still-past (u .height) (v .height .0) (heightOf c .0) (omega arith) p) (n .0))
+        (λ p. clash (still-past (u .time) (v .time) (timeOf c) (above l) p) (n .1)) (or-either late))
 
     timeout-of : (s : Store) (d : Datagram) (t : Store) (st : Step s d t) → d .kind ≡ 5 → TimeoutOk s d (st .channel)
     timeout-of s d t st k = go (st .effect) (st .how)
@@ -221,8 +230,8 @@ module _ (w : World) (honest : Honest (w .start) (w .calls)) where
           let r = has-values (p .timeout) (p .digest) _ (ok .committed) in
           let there = subst₃ (λ (s : Store) (n m : ℕ). lookup (commitmentKey n m) (s .records) ≡ some (r .stored)) here source sequence (r .there) in
           let one : k .stored ≡ r .stored = ⊎-elim
-            (λ l. one-record (across (c .side)) _ _ (k .time) j (k .stored) (r .stored) l (k .there) there)
-            (λ l. sym (one-record (across (c .side)) _ _ j (k .time) (r .stored) (k .stored) l there (k .there))) (either (k .time) j) in
+          (λ l. one-record (across (c .side)) _ _ (k .time) j (k .stored) (r .stored) l (k .there) there)
+          (λ l. sym (one-record (across (c .side)) _ _ j (k .time) (r .stored) (k .stored) l there (k .there))) (either (k .time) j) in
           sym (r .timeout) ∙ ap (λ (x : Record). x .timeout) (sym one) ∙ k .timeout ∙ ap (λ (x : Packet). x .timeout) (d .packet)
 
       -- the time-out's end is the one that the packet was sent from, and names the one that it came to
@@ -253,10 +262,10 @@ module _ (w : World) (honest : Honest (w .start) (w .calls)) where
           let y1 = y .1 in
           let same : x .0 ≡ y .0 = cc in
           let order : r .channel .order ≡ st .channel .order =
-            x .2 .order ∙ ap (λ (h : Channel). h .order) same ∙ sym (y .2 .order) ∙ sym (sent-from .1) in
+          x .2 .order ∙ ap (λ (h : Channel). h .order) same ∙ sym (y .2 .order) ∙ sym (sent-from .1) in
           let found = ap (λ (m : ℕ). channelAt m (ledger w (c .side) (b .time) .channels)) n ∙ r .found in
           let absent = absent-not-received (ledger w (c .side) (b .time)) (st .channel) (r .channel) p v order found (channel-number _ _ _ found) (ok .about) (ok .inOrder)
-            (ap (claimHolds v) (sym (b .store)) ∙ truth-here .holds) in
+          (ap (claimHolds v) (sym (b .store)) ∙ truth-here .holds) in
           clash (r .received) (ap (isReceived (ledger w (c .side) (b .time) .records) (r .channel)) (sym sequence) ∙ absent)
 
     pub not-both : NotBoth (w .calls)

@@ -6,10 +6,10 @@ use mathlib.Core.Option.{Option, none, some}
 use Prim.Native.Nat.{ℕ, suc}
 use native.Mathlib.Omega.{arith}
 use lib.Dec.{eqb}
-use borrow.Author.Tests.{eqb-true, not-true, not-false}
+use borrow.Author.Tests.{eqb-true, not-true}
 use Rattle.wire.specs.Choice.{_and_, pick, isSome}
 use Rattle.wire.specs.Bytes.{same}
-use Rattle.wire.proofs.ChoiceLaws.{and-both, clash, cases}
+use Rattle.wire.proofs.ChoiceLaws.{and-both, clash}
 use Rattle.store.specs.declared.End.{End}
 use Rattle.store.specs.declared.Timeout.{Timeout}
 use Rattle.store.specs.declared.Channel.{Channel}
@@ -53,8 +53,12 @@ about v k e n t d h =
     let q = eqb-true (v .end .channel) (e .channel) (c .0) in
     let w : v .end ≡ e = λ j. record { port = p j; channel = q j } in
     record {
-      claim = eqb-true (v .claim) k (a .0); end = w; sequence = eqb-true (v .sequence) n (f .0);
-      timeout = same-timeout (v .timeout) t (g .0); digest = same-eq (v .digest) d (i .0) }
+      claim = eqb-true (v .claim) k (a .0);
+      end = w;
+      sequence = eqb-true (v .sequence) n (f .0);
+      timeout = same-timeout (v .timeout) t (g .0);
+      digest = same-eq (v .digest) d (i .0);
+    }
 
 -- a record with these values
 pub record Has (x : Option Record) (t : Timeout) (d : List ℕ) : Type 0 where
@@ -68,7 +72,11 @@ unfolding hasValues
 has-values t d none h = clash {b = false} h refl
 has-values t d (some r) h =
     record {
-      stored = r; there = refl; timeout = same-timeout (r .timeout) t (and-both h .0); digest = same-eq (r .digest) d (and-both h .1) }
+      stored = r;
+      there = refl;
+      timeout = same-timeout (r .timeout) t (and-both h .0);
+      digest = same-eq (r .digest) d (and-both h .1);
+    }
 
 -- CLAIMS, each by its number
 module _ (v : Verdict) (s : Store) (h : claimHolds v s ≡ true) where

@@ -5,11 +5,10 @@ use mathlib.Core.List.{List, [], _∷_}
 use mathlib.Core.Logic.{_↔_}
 use mathlib.Core.Option.{some}
 use Prim.Native.Nat.{ℕ, suc, _+_, _≤_, _<_}
-use lib.Dec.{leb, eqb}
+use lib.Dec.{eqb}
 use lib.ListN.{length, take, drop, getElem?}
 use Rattle.wire.specs.Choice.{_and_, _or_, pick}
 use Rattle.wire.specs.Bytes.{Every, Bytes}
-use Rattle.store.specs.declared.OwnHeight.{OwnHeight}
 use Rattle.store.specs.declared.OtherHeight.{OtherHeight}
 use Rattle.store.specs.declared.Channel.{Channel}
 use Rattle.store.specs.Height.{seenAcross, isUpToOther, UpToOther, BelowOther}
@@ -143,13 +142,13 @@ pub record SamePacket (c e : Call) : Type 0 where
 pub record Answered (c : Call) : Type 0 where
   pub number : c .told .number ≡ answerTo (c .store) (c .output) (c .datagram)
   pub accepts : (c .told .number ≡ 0) ↔
-    Every (λ l. given (datagramIn (c .datagram) .kind) l ≡ 0) (refusals (c .store) (length (c .output)) (c .datagram))
+      Every (λ l. given (datagramIn (c .datagram) .kind) l ≡ 0) (refusals (c .store) (length (c .output)) (c .datagram))
   pub store : c .told .number ≡ 0 → c .storeLeft ≡ bytesOf (nextStore (storeIn (c .store)) (datagramIn (c .datagram)))
   pub emits : c .told .number ≡ 0 → emitted c ≡ effectIn (storeIn (c .store)) (datagramIn (c .datagram)) .emitted
   pub size : c .told .number ≡ 0 → c .told .size ≡ length (effectIn (storeIn (c .store)) (datagramIn (c .datagram)) .emitted)
   pub rest : c .told .number ≡ 0 → drop (c .told .size) (c .outputLeft) ≡ drop (c .told .size) (c .output)
   pub refuses : (c .told .number ≡ 0 → ⊥) →
-    (c .told .size ≡ 0) × (c .storeLeft ≡ c .store) × (c .outputLeft ≡ c .output)
+      (c .told .size ≡ 0) × (c .storeLeft ≡ c .store) × (c .outputLeft ≡ c .output)
 
 -- THE SUMS, for each end on its own store: sends are acknowledged, timed out, or commitments still in the table
 abbrev pub isBy : Side → (channel : ℕ) → (Call → Bool) → Call → Bool
@@ -254,4 +253,4 @@ pub record Stays : Type 0 where
   pub fit : (bs o b : List ℕ) → Bytes bs → Bytes b → isFit bs ≡ true → isFit (callStore bs o b) ≡ true
   pub bytes : (bs o b : List ℕ) → Bytes bs → Bytes o → Bytes b → Bytes (callStore bs o b) × Bytes (callOutput bs o b)
   pub refused : (bs o b : List ℕ) → (callTold bs o b .number ≡ 0 → ⊥) →
-    (callTold bs o b .size ≡ 0) × (callStore bs o b ≡ bs) × (callOutput bs o b ≡ o)
+      (callTold bs o b .size ≡ 0) × (callStore bs o b ≡ bs) × (callOutput bs o b ≡ o)

@@ -16,8 +16,14 @@ pub record Request : Type 0 where
 abbrev pub answerOn : (store : List ℕ) → Request → Call
 answerOn bs r =
     record {
-      side = r .side; store = bs; output = r .output; datagram = r .datagram; told = callTold bs (r .output) (r .datagram);
-      storeLeft = callStore bs (r .output) (r .datagram); outputLeft = callOutput bs (r .output) (r .datagram) }
+      side = r .side;
+      store = bs;
+      output = r .output;
+      datagram = r .datagram;
+      told = callTold bs (r .output) (r .datagram);
+      storeLeft = callStore bs (r .output) (r .datagram);
+      outputLeft = callOutput bs (r .output) (r .datagram);
+    }
 
 -- the two stores after a call
 abbrev pub leftBy : (Side → List ℕ) → Call → Side → List ℕ

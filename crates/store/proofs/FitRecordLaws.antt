@@ -1,17 +1,16 @@
 -- What a fit store tells of its records: no key stands twice, and a commitment's sequence is below its end's next send.
 -- Assumes nothing.
 use mathlib.Core.Path.{_≡_, refl, sym, ap, subst, _∙_}
-use mathlib.Core.Bool.{Bool, true, false}
-use mathlib.Core.List.{List}
+use mathlib.Core.Bool.{true, false}
 use mathlib.Core.Option.{Option, none, some}
-use Prim.Native.Nat.{ℕ, _≤_, _<_}
-use lib.Dec.{ltb, eqb}
-use borrow.Author.Tests.{eq-eqb, ltb-true}
-use Rattle.wire.specs.Choice.{_and_, pick}
+use Prim.Native.Nat.{ℕ, _<_}
+use lib.Dec.{ltb}
+use borrow.Author.Tests.{ltb-true}
+use Rattle.wire.specs.Choice.{_and_}
 use Rattle.wire.proofs.ChoiceLaws.{and-both, clash}
 use Rattle.store.specs.declared.Channel.{Channel}
 use Rattle.store.specs.declared.Record.{Record}
-use Rattle.store.specs.Table.{Key, commitmentKey, keyOf, hasKey, lookup, channelAt}
+use Rattle.store.specs.Table.{Key, commitmentKey, hasKey, lookup, channelAt}
 use Rattle.store.specs.Layout.{Store}
 use Rattle.store.specs.Fit.{fitsEnd, recordFits, recordsFit, storeFits}
 use Rattle.store.proofs.TableLaws.{Each, all-each, each-find, find-passes}

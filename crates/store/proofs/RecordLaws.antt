@@ -1,20 +1,19 @@
 -- Laws of the table of packet records: lookup and count after a record is written or becomes free. All above goes by
 -- these, so a table kept in another way has these to prove and no more. Assumes nothing.
 use mathlib.Core.Path.{_≡_, refl, sym, ap, _∙_}
-use mathlib.Core.Bool.{Bool, true, false, not}
+use mathlib.Core.Bool.{true, false}
 use mathlib.Core.List.{List}
 use mathlib.Core.Logic.{_⊎_, inl, inr}
 use mathlib.Core.Option.{Option, none, some}
-use Prim.Native.Nat.{ℕ, suc, _+_}
+use Prim.Native.Nat.{ℕ, _+_}
 use native.Mathlib.Omega.{arith}
 use lib.Dec.{eqb}
-use lib.ListN.{length}
-use borrow.Author.Tests.{eqb-true, eqb-false, eq-eqb, ne-eqb}
+use borrow.Author.Tests.{eqb-true, eq-eqb}
 use Rattle.wire.specs.Choice.{_and_, pick, isSome}
 use Rattle.wire.proofs.ChoiceLaws.{and-both, both-and, clash, cases, some-if}
 use Rattle.store.specs.declared.Record.{Record}
 use Rattle.store.specs.Table.{Key, commitmentKey, keyOf, hasKey, sameKey, lookup, find, remove, insert, hasFree, distinct, isCommitmentOn, commitments}
-use Rattle.store.proofs.TableLaws.{Each, find-passes, find-replace-other, find-remove, count-remove, find-insert, find-insert-other, count-insert, distinct-insert, distinct-replace}
+use Rattle.store.proofs.TableLaws.{find-passes, find-replace-other, find-remove, count-remove, find-insert, find-insert-other, count-insert, distinct-insert, distinct-replace}
 
 -- no two have the same key
 abbrev pub Single : List (Option Record) → Type 0

@@ -6,9 +6,8 @@ use mathlib.Core.Option.{Option, none, some}
 use Prim.Native.Nat.{ℕ, suc}
 use native.Mathlib.Omega.{arith}
 use lib.ListN.{length}
-use borrow.Author.Tests.{not-true}
 use Rattle.wire.specs.Choice.{_and_, pick, isSome}
-use Rattle.wire.proofs.ChoiceLaws.{and-both, both-and, clash, cases, of-pick, not-some, none-if}
+use Rattle.wire.proofs.ChoiceLaws.{and-both, both-and, clash, cases, of-pick, not-some}
 use Rattle.store.specs.Table.{find, replace, insert, hasFree, count, all, distinct}
 
 -- every entry has a property
