@@ -47,31 +47,31 @@ packetFor c d = pick (eqb (d .kind) 1) (sentPacket c d) (d .packet)
 abbrev restFor : Datagram → List ℕ
 restFor d = pick (eqb (d .kind) 4) (d .digest) []
 
-kind-emitted : (s : Store) (d : Datagram) (c : Channel) (e : Effect) → How s d c e → kindIn (e .emitted) ≡ 256 + d .kind
+kind-emitted : {s : Store} {d : Datagram} {c : Channel} {e : Effect} → How s d c e → kindIn (e .emitted) ≡ 256 + d .kind
 unfolding sends receives writesAcknowledgement acknowledges timesOut
-kind-emitted s d c e (sending k ok) = kind-framed 0x0101 _ (omega arith) ∙ omega arith
-kind-emitted s d c e (receiving k ok) = kind-framed 0x0102 _ (omega arith) ∙ omega arith
-kind-emitted s d c e (writing k ok) = kind-framed 0x0103 _ (omega arith) ∙ omega arith
-kind-emitted s d c e (acknowledging k ok) = kind-framed 0x0104 _ (omega arith) ∙ omega arith
-kind-emitted s d c e (timing k ok) = kind-framed 0x0105 _ (omega arith) ∙ omega arith
+kind-emitted (sending k ok) = kind-framed 0x0101 _ (omega arith) ∙ omega arith
+kind-emitted (receiving k ok) = kind-framed 0x0102 _ (omega arith) ∙ omega arith
+kind-emitted (writing k ok) = kind-framed 0x0103 _ (omega arith) ∙ omega arith
+kind-emitted (acknowledging k ok) = kind-framed 0x0104 _ (omega arith) ∙ omega arith
+kind-emitted (timing k ok) = kind-framed 0x0105 _ (omega arith) ∙ omega arith
 
-packet-emitted : (s : Store) (d : Datagram) (c : Channel) (e : Effect) → How s d c e → (d .kind ≡ 3 → ⊥) →
+packet-emitted : {s : Store} {d : Datagram} {c : Channel} {e : Effect} → How s d c e → (d .kind ≡ 3 → ⊥) →
     e .emitted ≡ framed (256 + d .kind) (packetBytes (packetFor c d) ++ restFor d)
 unfolding sends receives acknowledges timesOut
-packet-emitted s d c e (sending k ok) n = rw (k, append-nil) refl
-packet-emitted s d c e (receiving k ok) n = rw (k, append-nil) refl
-packet-emitted s d c e (writing k ok) n = absurd (n k)
-packet-emitted s d c e (acknowledging k ok) n = rw k refl
-packet-emitted s d c e (timing k ok) n = rw (k, append-nil) refl
+packet-emitted (sending k ok) n = rw (k, append-nil) refl
+packet-emitted (receiving k ok) n = rw (k, append-nil) refl
+packet-emitted (writing k ok) n = absurd (n k)
+packet-emitted (acknowledging k ok) n = rw k refl
+packet-emitted (timing k ok) n = rw (k, append-nil) refl
 
-fields-emitted : (s : Store) (d : Datagram) (c : Channel) (e : Effect) → PacketFields (sentPacket c d) → (isProved (d .kind) ≡ true → PacketFields (d .packet)) →
+fields-emitted : {s : Store} {d : Datagram} {c : Channel} {e : Effect} → PacketFields (sentPacket c d) → (isProved (d .kind) ≡ true → PacketFields (d .packet)) →
     How s d c e → (d .kind ≡ 3 → ⊥) → PacketFields (packetFor c d)
 unfolding isProved _or_ sentPacket
-fields-emitted s d c e f g (sending k ok) n = rw k f
-fields-emitted s d c e f g (receiving k ok) n = rw k (g (cc))
-fields-emitted s d c e f g (writing k ok) n = absurd (n k)
-fields-emitted s d c e f g (acknowledging k ok) n = rw k (g (cc))
-fields-emitted s d c e f g (timing k ok) n = rw k (g (cc))
+fields-emitted f g (sending k ok) n = rw k f
+fields-emitted f g (receiving k ok) n = rw k (g (cc))
+fields-emitted f g (writing k ok) n = absurd (n k)
+fields-emitted f g (acknowledging k ok) n = rw k (g (cc))
+fields-emitted f g (timing k ok) n = rw k (g (cc))
 
 pub record Acted (c : Call) : Type 0 where
   pub step : Step (storeIn (c .store)) (datagramIn (c .datagram)) (storeIn (c .storeLeft))
@@ -135,9 +135,9 @@ module _ (c : Call) (met : Met c) where
             how = st .how;
             left = ap storeIn (accepted-store told) ∙ read-back next (a .fields) ∙ st .left;
           };
-          kind = ap kindIn out-is ∙ kind-emitted (storeIn (c .store)) d (st .channel) (st .effect) (st .how);
-          emits = λ n. out-is ∙ packet-emitted (storeIn (c .store)) d (st .channel) (st .effect) (st .how) n;
-          fields = fields-emitted (storeIn (c .store)) d (st .channel) (st .effect) (a .sent) (a .carried) (st .how);
+          kind = ap kindIn out-is ∙ kind-emitted (st .how);
+          emits = λ n. out-is ∙ packet-emitted (st .how) n;
+          fields = fields-emitted (a .sent) (a .carried) (st .how);
         }
 
     -- bytes stay bytes
@@ -151,7 +151,7 @@ module _ (c : Call) (met : Met c) where
         (λ e. rw (refused-call (eqb-false (c .told .number) 0 e) .1) bs)
 
 -- THE PACKET of an accepted call, and its bytes where nothing follows them
-module _ (c : Call) (a : Acted c) (n : datagramIn (c .datagram) .kind ≡ 3 → ⊥) where
+module _ {c : Call} (a : Acted c) (n : datagramIn (c .datagram) .kind ≡ 3 → ⊥) where
   pub acted-packet : packetOf c ≡ packetFor (a .step .channel) (datagramIn (c .datagram))
   acted-packet =
       ap emittedPacket (a .emits n) ∙
@@ -166,13 +166,13 @@ module _ (c : Call) (a : Acted c) (n : datagramIn (c .datagram) .kind ≡ 3 → 
   acted-size = rw acted-packet (length-packet (packetFor (a .step .channel) (datagramIn (c .datagram))) (a .fields n))
 
 -- sent, or carried by the datagram
-module _ (c : Call) (a : Acted c) where
+module _ {c : Call} (a : Acted c) where
   pub acted-sent : datagramIn (c .datagram) .kind ≡ 1 → packetOf c ≡ sentPacket (a .step .channel) (datagramIn (c .datagram))
   acted-sent k =
       let q = eq-eqb (datagramIn (c .datagram) .kind) 1 k in
-      acted-packet c a (λ w. omega arith) ∙ rw q refl
+      acted-packet a (λ w. omega arith) ∙ rw q refl
 
   pub acted-carried : (datagramIn (c .datagram) .kind ≡ 1 → ⊥) → (datagramIn (c .datagram) .kind ≡ 3 → ⊥) → packetOf c ≡ datagramIn (c .datagram) .packet
   acted-carried m n =
       let q = ne-eqb (datagramIn (c .datagram) .kind) 1 m in
-      acted-packet c a n ∙ rw q refl
+      acted-packet a n ∙ rw q refl

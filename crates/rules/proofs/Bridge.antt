@@ -39,31 +39,31 @@ use Rattle.rules.proofs.Step.{How, sending, receiving, writing, acknowl
 raised : (n : ℕ) → n < 256 ^ 8 → eqb n top ≡ false → n + 1 < 256 ^ 8
 raised n h e = let z = eqb-false n top e in omega arith
 
-counted-fields : (c : Channel) (n : Counters) → ChannelFields c → CounterFields n → ChannelFields (counted c n)
+counted-fields : {c : Channel} {n : Counters} → ChannelFields c → CounterFields n → ChannelFields (counted c n)
 unfolding counted
-counted-fields c n h k = record { state = h .state; order = h .order; own = h .own; counterparty = h .counterparty; next = k }
+counted-fields h k = record { state = h .state; order = h .order; own = h .own; counterparty = h .counterparty; next = k }
 
-closed-fields : (c : Channel) → ChannelFields c → ChannelFields (closed c)
+closed-fields : {c : Channel} → ChannelFields c → ChannelFields (closed c)
 unfolding closed
-closed-fields c h = record { state = omega arith; order = h .order; own = h .own; counterparty = h .counterparty; next = h .next }
+closed-fields h = record { state = omega arith; order = h .order; own = h .own; counterparty = h .counterparty; next = h .next }
 
-end-fields : (s : Store) (d : Datagram) (c : Channel) (e : Effect) → ChannelFields c → How s d c e → ChannelFields (e .end)
+end-fields : {s : Store} {d : Datagram} {c : Channel} {e : Effect} → ChannelFields c → How s d c e → ChannelFields (e .end)
 unfolding sends receives writesAcknowledgement acknowledges timesOut receivedEnd acknowledgedEnd timedOutEnd
-end-fields s d c e h (sending k ok) =
-    counted-fields c (raisedSend (c .next)) h
+end-fields {c = c} h (sending k ok) =
+    counted-fields h
     (record { send = raised (c .next .send) (h .next .send) (ok .below); receive = h .next .receive; acknowledge = h .next .acknowledge })
-end-fields s d c e h (receiving k ok) =
+end-fields {c = c} h (receiving k ok) =
     of-pick ChannelFields (raisesReceive c) (counted c (raisedReceive (c .next))) c
-    (λ q. counted-fields c (raisedReceive (c .next)) h
+    (λ q. counted-fields h
     (record { send = h .next .send; receive = raised (c .next .receive) (h .next .receive) (receive-below c q (ok .below)); acknowledge = h .next .acknowledge }))
     (λ q. h)
-end-fields s d c e h (writing k ok) = h
-end-fields s d c e h (acknowledging k ok) =
+end-fields {c = c} h (writing k ok) = h
+end-fields {c = c} h (acknowledging k ok) =
     of-pick ChannelFields (raisesAcknowledge c) (counted c (raisedAcknowledge (c .next))) c
-    (λ q. counted-fields c (raisedAcknowledge (c .next)) h
+    (λ q. counted-fields h
     (record { send = h .next .send; receive = h .next .receive; acknowledge = raised (c .next .acknowledge) (h .next .acknowledge) (acknowledge-below c q (ok .below)) }))
     (λ q. h)
-end-fields s d c e h (timing k ok) = of-pick ChannelFields (isOrdered c) (closed c) c (λ q. closed-fields c h) (λ q. h)
+end-fields {c = c} h (timing k ok) = of-pick ChannelFields (isOrdered c) (closed c) c (λ q. closed-fields h) (λ q. h)
 
 plain-fields : (k n m : ℕ) (a : List ℕ) → 1 ≤ k → k ≤ 3 → n < 256 ^ 4 → m < 256 ^ 8 → length a ≡ digestSize → Bytes a → RecordFields (plainRecord k n m a)
 unfolding plainRecord
@@ -148,7 +148,7 @@ module _ (s : Store) (b : List ℕ) (c : Channel) (fields : StoreFields s) (byte
         slots = length-replace _ _ (s .channels) ∙ fields .slots;
         low = omega arith;
         high = omega arith;
-        channels = each-replace ChannelFields _ (some (e .end)) (s .channels) (end-fields s (datagramIn b) c e channel-fields h, tt) (fields .channels);
+        channels = each-replace ChannelFields _ (some (e .end)) (s .channels) (end-fields channel-fields h, tt) (fields .channels);
         records = r .1;
       }
     where

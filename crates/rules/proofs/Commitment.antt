@@ -29,8 +29,8 @@ pub record Used (s : Store) (n m : ℕ) : Type 0 where
   pub found : channelAt n (s .channels) ≡ some channel
   pub below : m < channel .next .send
 
-pub committed-used : (s : Store) (n m : ℕ) (r : Record) → storeFits s ≡ true → lookup (commitmentKey n m) (s .records) ≡ some r → Used s n m
-committed-used s n m r f h =
+pub committed-used : {s : Store} {r : Record} (n m : ℕ) → storeFits s ≡ true → lookup (commitmentKey n m) (s .records) ≡ some r → Used s n m
+committed-used {s} {r} n m f h =
     let a = committed-end s n m r f h in
     record { channel = a .0; found = a .1; below = a .2 }
 
@@ -40,24 +40,24 @@ later-some none y c l h = let z : _≡_ {A = ℕ} 0 1 = cc in absurd (omega arit
 later-some (some a) none c l h = absurd l
 later-some (some a) (some e) c l h = let z : a ≡ c = cc in (e, refl, subst (λ (v : Channel). Grown v e) z l)
 
-pub used-stays : (s : Store) (d : Datagram) (t : Store) (n m : ℕ) → Step s d t → Used s n m → Used t n m
-used-stays s d t n m st u =
-    let l = later-some (channelAt n (s .channels)) (channelAt n (t .channels)) (u .channel) (later s d t st n) (u .found) in
+pub used-stays : {s t : Store} {d : Datagram} {n m : ℕ} → Step s d t → Used s n m → Used t n m
+used-stays {s} {t} {n = n} {m} st u =
+    let l = later-some (channelAt n (s .channels)) (channelAt n (t .channels)) (u .channel) (later st n) (u .found) in
     let b = u .below in
     let g = l .2 .send in
     record { channel = l .0; found = l .1; below = omega arith }
 
 -- the one edit that writes a commitment is a send's
-written-by : (s : Store) (d : Datagram) (c : Channel) (e : Effect) (r : Record) → How s d c e → e .edit ≡ writes r → r .kind ≡ 1 →
+written-by : {s : Store} {d : Datagram} {c : Channel} {e : Effect} {r : Record} → How s d c e → e .edit ≡ writes r → r .kind ≡ 1 →
     (d .kind ≡ 1) × (r ≡ commitment (sentPacket c d))
 unfolding sends receives writesAcknowledgement acknowledges timesOut receivedEdit plainRecord
-written-by s d c e r (sending k ok) w h = (k, cc)
-written-by s d c e r (receiving k ok) w h =
+written-by {c = c} (sending k ok) w h = (k, cc)
+written-by {c = c} (receiving k ok) w h =
     let z : _≡_ {A = ℕ} 1 2 = cases (raisesReceive c) (λ q. cc) (λ q. cc) in
     absurd (omega arith)
-written-by s d c e r (writing k ok) w h = let z : _≡_ {A = ℕ} 1 3 = cc in absurd (omega arith)
-written-by s d c e r (acknowledging k ok) w h = let z : _≡_ {A = ℕ} 1 2 = cc in absurd (omega arith)
-written-by s d c e r (timing k ok) w h = let z : _≡_ {A = ℕ} 1 2 = cc in absurd (omega arith)
+written-by {c = c} (writing k ok) w h = let z : _≡_ {A = ℕ} 1 3 = cc in absurd (omega arith)
+written-by {c = c} (acknowledging k ok) w h = let z : _≡_ {A = ℕ} 1 2 = cc in absurd (omega arith)
+written-by {c = c} (timing k ok) w h = let z : _≡_ {A = ℕ} 1 2 = cc in absurd (omega arith)
 
 -- this call sent it
 pub record SentNow (d : Datagram) (c : Channel) (n m : ℕ) (r : Record) : Type 0 where
@@ -67,20 +67,20 @@ pub record SentNow (d : Datagram) (c : Channel) (n m : ℕ) (r : Record) : Type 
   pub sequence : c .next .send ≡ m
 
 -- a commitment that is there was there, or this call sent it
-pub stems : (s : Store) (d : Datagram) (t : Store) (n m : ℕ) (r : Record) (st : Step s d t) → lookup (commitmentKey n m) (t .records) ≡ some r →
+pub stems : {s t : Store} {d : Datagram} {r : Record} (n m : ℕ) (st : Step s d t) → lookup (commitmentKey n m) (t .records) ≡ some r →
     (lookup (commitmentKey n m) (s .records) ≡ some r) ⊎ SentNow d (st .channel) n m r
 unfolding edited commitment sentPacket
-stems s d t n m r st h =
-    go (st .effect .edit) refl (legal s d t st) (ap (λ (rs : List (Option Record)). lookup (commitmentKey n m) rs) (sym (records-left s d t st)) ∙ h)
+stems {s} {t} {d} {r} n m st h =
+    go (st .effect .edit) refl (legal st) (ap (lookup (commitmentKey n m)) (sym (records-left st)) ∙ h)
   where
     go : (e : Edit) → st .effect .edit ≡ e → Legal (s .records) e → lookup (commitmentKey n m) (edited e (s .records)) ≡ some r →
         (lookup (commitmentKey n m) (s .records) ≡ some r) ⊎ SentNow d (st .channel) n m r
     go e w keeping l = inl l
     go e w (adding {r = x} room new) l =
-        elim (insert-from (s .records) (single s d t st) x room new (commitmentKey n m) r l) [
+        elim (insert-from (s .records) (single st) x room new (commitmentKey n m) r l) [
           | inl q ↦
               let k = q .0 in
-              let b = written-by s d (st .channel) (st .effect) x (st .how) w (ap (λ (y : Key). y .kind) k) in
+              let b = written-by (st .how) w (ap (λ (y : Key). y .kind) k) in
               let y = b .1 in
               inr (record {
                 kind = b .0;
@@ -90,17 +90,17 @@ stems s d t n m r st h =
               })
           | inr q ↦ inl q
         ]
-    go e w (freeing {c = c} {n = k} there) l = inl (remove-from (s .records) (single s d t st) (commitmentKey c k) (commitmentKey n m) r l)
+    go e w (freeing {c = c} {n = k} there) l = inl (remove-from (s .records) (single st) (commitmentKey c k) (commitmentKey n m) r l)
 
 -- so a used sequence's commitment was there
-pub used-from : (s : Store) (d : Datagram) (t : Store) (n m : ℕ) (r : Record) → Step s d t → Used s n m → lookup (commitmentKey n m) (t .records) ≡ some r →
+pub used-from : {s t : Store} {d : Datagram} {r : Record} {n m : ℕ} → Step s d t → Used s n m → lookup (commitmentKey n m) (t .records) ≡ some r →
     lookup (commitmentKey n m) (s .records) ≡ some r
-used-from s d t n m r st u h =
-    elim (stems s d t n m r st h) [
+used-from {s} {d = d} {n = n} {m} st u h =
+    elim (stems n m st h) [
       | inl q ↦ q
       | inr q ↦
           let f = u .found in
-          let g : channelAt n (s .channels) ≡ some (st .channel) = ap (λ (k : ℕ). channelAt k (s .channels)) (sym (q .channel)) ∙ own-found s d t st in
+          let g : channelAt n (s .channels) ≡ some (st .channel) = ap (λ (k : ℕ). channelAt k (s .channels)) (sym (q .channel)) ∙ own-found st in
           let e : u .channel ≡ st .channel = cc in
           let b : m < st .channel .next .send = subst (λ (c : Channel). m < c .next .send) e (u .below) in
           let a = q .sequence in
@@ -108,7 +108,7 @@ used-from s d t n m r st u h =
     ]
 
 -- TO FINISH
-module _ (s : Store) (d : Datagram) (t : Store) (st : Step s d t) (k : (d .kind ≡ 4) ⊎ (d .kind ≡ 5)) where
+module _ {s t : Store} {d : Datagram} (st : Step s d t) (k : (d .kind ≡ 4) ⊎ (d .kind ≡ 5)) where
   abbrev key : Key
   key = commitmentKey (d .packet .source .channel) (d .packet .sequence)
 
@@ -128,7 +128,7 @@ module _ (s : Store) (d : Datagram) (t : Store) (st : Step s d t) (k : (d .kind 
       go e (timing q ok) = (ok .committed, refl)
 
   pub finish-source : st .channel .own .channel ≡ d .packet .source .channel
-  finish-source = own-number s d t st ∙ st .shape .fromSource k
+  finish-source = own-number st ∙ st .shape .fromSource k
 
   -- the commitment was there
   pub finish-needs : isSome (lookup key (s .records)) ≡ true
@@ -137,40 +137,40 @@ module _ (s : Store) (d : Datagram) (t : Store) (st : Step s d t) (k : (d .kind 
   pub finish-left : t .records ≡ remove key (s .records)
   unfolding edited
   finish-left =
-      records-left s d t st ∙ ap (λ (e : Edit). edited e (s .records)) (finishing .1) ∙
+      records-left st ∙ ap (λ (e : Edit). edited e (s .records)) (finishing .1) ∙
       ap (λ (n : ℕ). remove (commitmentKey n (d .packet .sequence)) (s .records)) finish-source
 
   -- and is gone
   pub finish-removes : lookup key (t .records) ≡ none
-  finish-removes = ap (λ (rs : List (Option Record)). lookup key rs) finish-left ∙ lookup-remove (s .records) (single s d t st) key
+  finish-removes = ap (lookup key) finish-left ∙ lookup-remove (s .records) (single st) key
 
 -- THE SUM: what a call adds to and takes from the commitments of a channel
-wrote : (rs : List (Option Record)) (r : Record) → Single rs → Legal rs (writes r) → (n : ℕ) →
+wrote : {rs : List (Option Record)} {r : Record} → Single rs → Legal rs (writes r) → (n : ℕ) →
     commitments n (edited (writes r) rs) ≡ pick (isCommitmentOn n r) 1 0 + commitments n rs
 unfolding edited
-wrote rs r s (adding room new) n = commitments-insert rs s r room new n
+wrote {rs} {r} s (adding room new) n = commitments-insert rs s r room new n
 
-module _ (s : Store) (d : Datagram) (t : Store) (st : Step s d t) (n : ℕ) where
+module _ {s t : Store} {d : Datagram} (st : Step s d t) (n : ℕ) where
   abbrev tally : (kind : ℕ) → ℕ
   tally k = pick (eqb (d .kind) k and eqb (st .channel .own .channel) n) 1 0
 
   finished-sum : (k : (d .kind ≡ 4) ⊎ (d .kind ≡ 5)) →
       commitments n (s .records) ≡ pick (eqb (st .channel .own .channel) n) 1 0 + commitments n (t .records)
   finished-sum k =
-      commitments-remove (d .packet .source .channel) (d .packet .sequence) n (s .records) (finish-needs s d t st k) ∙
-      (rw (finish-left s d t st k, ← (finish-source s d t st k)) refl)
+      commitments-remove (d .packet .source .channel) (d .packet .sequence) n (s .records) (finish-needs st k) ∙
+      (rw (finish-left st k, ← (finish-source st k)) refl)
 
   pub sum : tally 1 + commitments n (s .records) ≡ tally 4 + tally 5 + commitments n (t .records)
   unfolding sends receives writesAcknowledgement receivedEdit edited isCommitmentOn commitment sentPacket plainRecord _and_
-  sum = go (st .effect) (st .how) (legal s d t st) (records-left s d t st)
+  sum = go (st .effect) (st .how) (legal st) (records-left st)
     where
       go : (e : Effect) → How s d (st .channel) e → Legal (s .records) (e .edit) → t .records ≡ edited (e .edit) (s .records) →
           tally 1 + commitments n (s .records) ≡ tally 4 + tally 5 + commitments n (t .records)
-      go e (sending k ok) l w = rw (k, w) (omega (arith, wrote (s .records) _ (single s d t st) l n))
+      go e (sending k ok) l w = rw (k, w) (omega (arith, wrote (single st) l n))
       go e (receiving k ok) l w =
           cases (raisesReceive (st .channel))
           (λ q. rw (k, w, q) (omega arith))
-          (λ q. rw (k, w, q) (omega (arith, wrote (s .records) _ (single s d t st) (rw (receivedEdit, q) at l) n)))
-      go e (writing k ok) l w = rw (k, w) (omega (arith, wrote (s .records) _ (single s d t st) l n))
+          (λ q. rw (k, w, q) (omega (arith, wrote (single st) (rw (receivedEdit, q) at l) n)))
+      go e (writing k ok) l w = rw (k, w) (omega (arith, wrote (single st) l n))
       go e (acknowledging k ok) l w = let q = finished-sum (inl k) in rw k (omega arith)
       go e (timing k ok) l w = let q = finished-sum (inr k) in rw k (omega arith)

@@ -30,14 +30,14 @@ module _ (w : World) where
       Received (ledger w (c .side) j) (packetOf c .destination .channel) (packetOf c .sequence)
   received-since i c d j l =
       let a = d .did .acts in
-      kept w (λ (s : Store). Received s (packetOf c .destination .channel) (packetOf c .sequence)) (λ s x t st. received-stays s x t _ _ st) (c .side) (suc i) j l
+      kept w (λ (s : Store). Received s (packetOf c .destination .channel) (packetOf c .sequence)) (λ s t d. received-stays) (c .side) (suc i) j l
       (subst₂ (λ (p : Packet) (s : Store). Received s (p .destination .channel) (p .sequence)) (sym (d .packet)) (a .after)
-      (receive-makes _ _ _ (a .acted .step) (d .did .kind)))
+      (receive-makes (a .acted .step) (d .did .kind)))
 
   not-received : (i : ℕ) (c : Call) → Delivered w i c → Received (ledger w (c .side) i) (packetOf c .destination .channel) (packetOf c .sequence) → ⊥
   not-received i c d r =
       let a = d .did .acts in
-      receive-first _ _ _ (a .acted .step) (d .did .kind)
+      receive-first (a .acted .step) (d .did .kind)
       (subst₂ (λ (p : Packet) (s : Store). Received s (p .destination .channel) (p .sequence)) (d .packet) (sym (a .before)) r)
 
   -- packets of one source go to one end
@@ -72,7 +72,7 @@ module _ (w : World) where
       isDeliveryAt z n c ≡ true
   delivers-at z n i c a k q =
       let e = a .acted .kind in
-      let p = acted-carried c (a .acted) (λ v. omega arith) (λ v. omega arith) in
+      let p = acted-carried (a .acted) (λ v. omega arith) (λ v. omega arith) in
       both-and (both-and (rw (a .side) (side-refl z)) (both-and (eq-eqb (c .told .number) 0 (a .told)) (eq-eqb (kindIn (emitted c)) 0x0102 (omega arith))))
       (eq-eqb (packetOf c .destination .channel) n (ap (λ (x : Packet). x .destination .channel) p ∙ q))
 
@@ -82,7 +82,7 @@ module _ (w : World) where
       let e = a .acted .kind in
       let q = eqb-true (kindIn (emitted c)) 0x0102 (and-both (and-both (and-both h .0) .1) .1) in
       let k : datagramIn (c .datagram) .kind ≡ 2 = omega arith in
-      let p = acted-carried c (a .acted) (λ v. omega arith) (λ v. omega arith) in
+      let p = acted-carried (a .acted) (λ v. omega arith) (λ v. omega arith) in
       (k, ap (λ (x : Packet). x .destination .channel) (sym p) ∙ eqb-true (packetOf c .destination .channel) n (and-both h .1))
 
   waits : (z : Side) (n : ℕ) (e : Channel) → channelAt n (storeIn (w .start z) .channels) ≡ some e → isOrdered e ≡ true → (i : ℕ) →
@@ -99,21 +99,21 @@ module _ (w : World) where
 
       go : Quiet w z i ⊎ Turn w z i → Waits (ledger w z i) n (suc have) → Waits (ledger w z (suc i)) n (suc (howMany (isDeliveryAt z n) (take (suc i) (w .calls))))
       go (inl q) x =
-          subst₂ (λ (s : Store) (m : ℕ). Waits s n (suc m)) (sym (q .same)) (sym (quiet-count w z i q (isDeliveryAt z n) (delivers-on z n))) x
+          subst₂ (λ (s : Store) (m : ℕ). Waits s n (suc m)) (sym (q .same)) (sym (quiet-count w q (isDeliveryAt z n) (delivers-on z n))) x
       go (inr u) x =
           let a = u .acts in
           let st = a .acted .step in
           let y = subst (λ (s : Store). Waits s n (suc have)) (sym (a .before)) x in
-          let t = turn-count w z i u (isDeliveryAt z n) in
+          let t = turn-count w u (isDeliveryAt z n) in
           cases (isDeliveryAt z n (u .call))
           (λ q.
           let d = delivery-at z n i (u .call) a q in
           let m : suc (howMany (isDeliveryAt z n) (take (suc i) (w .calls))) ≡ suc (suc have) = ap suc (rw q at t) ∙ omega arith in
-          subst₂ (λ (s : Store) (m : ℕ). Waits s n m) (a .after) (sym m) (waits-next _ _ _ st n (suc have) y (d .0) (d .1) .1))
+          subst₂ (λ (s : Store) (m : ℕ). Waits s n m) (a .after) (sym m) (waits-next st y (d .0) (d .1) .1))
           (λ q.
           let m : suc (howMany (isDeliveryAt z n) (take (suc i) (w .calls))) ≡ suc have = ap suc (rw q at t) ∙ omega arith in
           subst₂ (λ (s : Store) (m : ℕ). Waits s n m) (a .after) (sym m)
-          (waits-on _ _ _ st n (suc have) y (λ k p. clash (delivers-at z n i (u .call) a k p) q)))
+          (waits-on st y (λ k p. clash (delivers-at z n i (u .call) a k p) q)))
 
   pub in-order : InOrder (w .start) (w .calls)
   in-order i c e h k f o =
@@ -122,4 +122,4 @@ module _ (w : World) where
       let n = packetOf c .destination .channel in
       let x = subst (λ (s : Store). Waits s n (suc (howMany (isDeliveryAt (c .side) n) (take i (w .calls))))) (sym (a .before)) (waits (c .side) n e f o i) in
       ap (λ (p : Packet). p .sequence) (d .packet) ∙
-      waits-next _ _ _ (a .acted .step) n _ x (d .did .kind) (ap (λ (p : Packet). p .destination .channel) (sym (d .packet))) .0
+      waits-next (a .acted .step) x (d .did .kind) (ap (λ (p : Packet). p .destination .channel) (sym (d .packet))) .0

@@ -29,9 +29,9 @@ use Rattle.rules.proofs.Step.{How, sending, receiving, writing, acknowl
 use Rattle.rules.proofs.OrderingLaws as ordering
 
 -- THE END
-grown-fits : (c e : Channel) → Grown c e → channelFits c ≡ true → channelFits e ≡ true
+grown-fits : {c e : Channel} → Grown c e → channelFits c ≡ true → channelFits e ≡ true
 unfolding channelFits
-grown-fits c e g h =
+grown-fits {c} {e} g h =
     let a = and-both h in
     let b = and-both (a .0) in
     let n = and-both (a .1) in
@@ -80,7 +80,7 @@ new-acknowledgement : (t : Store) (n m : ℕ) (a : List ℕ) (e : Channel) → i
 unfolding fitsEnd plainRecord sameTimeout
 new-acknowledgement t n m a e h = both-and (both-and refl (both-and refl refl)) h
 
-module _ (s : Store) (d : Datagram) (t : Store) (st : Step s d t) where
+module _ {s t : Store} {d : Datagram} (st : Step s d t) where
   own-fits : channelFits (st .channel) ≡ true
   unfolding storeFits channelsFit
   own-fits =
@@ -91,28 +91,28 @@ module _ (s : Store) (d : Datagram) (t : Store) (st : Step s d t) where
   unfolding storeFits channelsFit
   ends-fit =
       let h = and-both (and-both (st .fits) .0) in
-      let f = grown-fits (st .channel) (st .effect .end) (own-grown s d t st) own-fits in
-      ap (λ (cs : List (Option Channel)). all channelFits cs and distinct sameNumber cs) (channels-left s d t st) ∙
+      let f = grown-fits (own-grown st) own-fits in
+      ap (λ (cs : List (Option Channel)). all channelFits cs and distinct sameNumber cs) (channels-left st) ∙
       both-and (each-all channelFits _ (each-replace (λ c. channelFits c ≡ true) _ (some (st .effect .end)) (s .channels) (f, tt)
       (all-each channelFits (s .channels) (h .0)))) (numbers-with (st .effect .end) (s .channels) (h .1))
 
   stays-received : (m : ℕ) (c e : Channel) → Grown c e → isReceived (s .records) c m ≡ true → isReceived (t .records) e m ≡ true
   stays-received m c e g h =
       ordering.received-stays (s .records) (t .records) c e m (g .order) (g .own) (g .receive)
-      (record-stays s d t st (receiptKey (c .own .channel) m) (λ q. absurd (omega arith))) h
+      (record-stays st (receiptKey (c .own .channel) m) (λ q. absurd (omega arith))) h
 
   old-fits : Each (λ r. recordFits t r ≡ true) (s .records)
   unfolding recordFits
   old-fits =
       each-map (λ r h. both-and (and-both h .0)
-      (end-fits s t r _ _ (later s d t st (r .channel)) (stays-received (r .sequence)) (and-both h .1))) (s .records) (fit-records s (st .fits))
+      (end-fits s t r _ _ (later st (r .channel)) (stays-received (r .sequence)) (and-both h .1))) (s .records) (fit-records s (st .fits))
 
   -- the end as it is left
   fits-own : (r : Record) → r .channel ≡ st .channel .own .channel → 1 ≤ r .sequence → fitsEnd t r (some (st .effect .end)) ≡ true → recordFits t r ≡ true
   unfolding recordFits
   fits-own r q n h =
       both-and (le-leb 1 (r .sequence) n)
-      (ap (λ (x : Option Channel). fitsEnd t r x) (ap (λ (k : ℕ). channelAt k (t .channels)) q ∙ own-after s d t st) ∙ h)
+      (ap (λ (x : Option Channel). fitsEnd t r x) (ap (λ (k : ℕ). channelAt k (t .channels)) q ∙ own-after st) ∙ h)
 
   fits-as : (r x : Record) (e : Effect) → st .effect ≡ e → writes x ≡ writes r → x .channel ≡ st .channel .own .channel → 1 ≤ x .sequence →
       fitsEnd t x (some (e .end)) ≡ true → recordFits t r ≡ true
@@ -142,16 +142,16 @@ module _ (s : Store) (d : Datagram) (t : Store) (st : Step s d t) where
   records-fit : recordsFit t ≡ true
   unfolding recordsFit edited
   records-fit =
-      ap (λ (rs : List (Option Record)). all (recordFits t) rs and distinct sameKey rs) (records-left s d t st) ∙ go (st .effect .edit) refl (legal s d t st)
+      ap (λ (rs : List (Option Record)). all (recordFits t) rs and distinct sameKey rs) (records-left st) ∙ go (st .effect .edit) refl (legal st)
     where
       go : (e : Edit) → st .effect .edit ≡ e → Legal (s .records) e → (all (recordFits t) (edited e (s .records)) and distinct sameKey (edited e (s .records))) ≡ true
-      go e w keeping = both-and (each-all (recordFits t) (s .records) old-fits) (single s d t st)
+      go e w keeping = both-and (each-all (recordFits t) (s .records) old-fits) (single st)
       go e w (adding {r = r} room new) =
           both-and (each-all (recordFits t) _ (each-insert (λ r. recordFits t r ≡ true) r (s .records) (new-fits r w) old-fits))
-          (single-insert (s .records) (single s d t st) r room new)
+          (single-insert (s .records) (single st) r room new)
       go e w (freeing {c = c} {n = n} there) =
           both-and (each-all (recordFits t) _ (each-replace (λ r. recordFits t r ≡ true) (hasKey (commitmentKey c n)) none (s .records) tt old-fits))
-          (single-remove (s .records) (single s d t st) (commitmentKey c n))
+          (single-remove (s .records) (single st) (commitmentKey c n))
 
   pub fits-after : storeFits t ≡ true
   unfolding storeFits

@@ -165,7 +165,7 @@ module _ (w : World) where
           }))
 
   -- WHAT A STEP KEEPS is kept
-  module _ (P : Store → Type 0) (stays : (s : Store) (d : Datagram) (t : Store) → Step s d t → P s → P t) (z : Side) where
+  module _ (P : Store → Type 0) (stays : (s t : Store) (d : Datagram) → Step s d t → P s → P t) (z : Side) where
     turned : (i : ℕ) → P (ledger z i) → P (ledger z (suc i))
     turned i p =
         elim (turn z i) [
@@ -184,7 +184,7 @@ module _ (w : World) where
   unfolding fold
   ledger-fits z i =
       let k = w .made z in
-      kept (λ s. storeFits s ≡ true) (λ s d t st f. fits-after s d t st) z 0 i (omega arith)
+      kept (λ s. storeFits s ≡ true) (λ s t d st f. fits-after st) z 0 i (omega arith)
       (ap storeFits (made-read (w .start z) k) ∙ made-fits (length (k .slice)) (k .openings) (k .told))
 
   -- COUNTS go up by what the next call passes; by nothing where all is quiet
@@ -192,12 +192,12 @@ module _ (w : World) where
   next-count t i c h =
       fold-next (λ (n : ℕ) (c : Call). pick (t c) (suc n) n) 0 (w .calls) i c h ∙ cases (t c) (λ e. rw e (omega arith)) (λ e. rw e (omega arith))
 
-  pub turn-count : (z : Side) (i : ℕ) (u : Turn z i) (t : Call → Bool) → howMany t (take (suc i) (w .calls)) ≡ pick (t (u .call)) 1 0 + howMany t (take i (w .calls))
-  turn-count z i u t = next-count t i (u .call) (u .acts .at)
+  pub turn-count : {z : Side} {i : ℕ} (u : Turn z i) (t : Call → Bool) → howMany t (take (suc i) (w .calls)) ≡ pick (t (u .call)) 1 0 + howMany t (take i (w .calls))
+  turn-count {i = i} u t = next-count t i (u .call) (u .acts .at)
 
-  pub quiet-count : (z : Side) (i : ℕ) → Quiet z i → (t : Call → Bool) → ((c : Call) → t c ≡ true → (isOn z c ≡ true) × (isAccepted c ≡ true)) →
+  pub quiet-count : {z : Side} {i : ℕ} → Quiet z i → (t : Call → Bool) → ((c : Call) → t c ≡ true → (isOn z c ≡ true) × (isAccepted c ≡ true)) →
       howMany t (take (suc i) (w .calls)) ≡ howMany t (take i (w .calls))
-  quiet-count z i q t h = go (getElem? (w .calls) i) refl
+  quiet-count {i = i} q t h = go (getElem? (w .calls) i) refl
     where
       go : (x : Option Call) → getElem? (w .calls) i ≡ x → howMany t (take (suc i) (w .calls)) ≡ howMany t (take i (w .calls))
       go none e = fold-end _ 0 (w .calls) i e
@@ -205,17 +205,17 @@ module _ (w : World) where
           cases (t c) (λ a. let k = h c a in absurd (q .nobody c e (k .0) (k .1))) (λ a. next-count t i c e ∙ rw a (omega arith))
 
   -- COMMITMENTS: a used sequence's commitment was there all the time since
-  pub used-back : (z : Side) (n m : ℕ) (r : Record) (i j : ℕ) → i ≤ j → Used (ledger z i) n m →
+  pub used-back : (z : Side) (n m : ℕ) {r : Record} (i j : ℕ) → i ≤ j → Used (ledger z i) n m →
       lookup (commitmentKey n m) (ledger z j .records) ≡ some r → lookup (commitmentKey n m) (ledger z i .records) ≡ some r
-  used-back z n m r i zero l u h =
+  used-back z n m {r} i zero l u h =
       let e : 0 ≡ i = omega arith in
       subst (λ (k : ℕ). lookup (commitmentKey n m) (ledger z k .records) ≡ some r) e h
-  used-back z n m r i (suc j) l u h =
-      let ih = used-back z n m r i j in
+  used-back z n m {r} i (suc j) l u h =
+      let ih = used-back z n m {r = r} i j in
       cases (leb i j)
       (λ e.
       let q = leb-true i j e in
-      let v = kept (λ s. Used s n m) (λ s d t st. used-stays s d t n m st) z i j q u in
+      let v = kept (λ s. Used s n m) (λ s t d. used-stays) z i j q u in
       ih q u (back (turn z j) v))
       (λ e. let q = leb-false i j e in let v : suc j ≡ i = omega arith in subst (λ (k : ℕ). lookup (commitmentKey n m) (ledger z k .records) ≡ some r) v h)
     where
@@ -225,7 +225,7 @@ module _ (w : World) where
       back : Quiet z j ⊎ Turn z j → Used (ledger z j) n m → has (ledger z j)
       back (inl e) v = subst has (e .same) h
       back (inr t) v =
-          subst has (t .acts .before) (used-from _ _ _ n m r (t .acts .acted .step) (subst (λ (s : Store). Used s n m) (sym (t .acts .before)) v) (subst has (sym (t .acts .after)) h))
+          subst has (t .acts .before) (used-from (t .acts .acted .step) (subst (λ (s : Store). Used s n m) (sym (t .acts .before)) v) (subst has (sym (t .acts .after)) h))
 
   -- each stems from a send
   pub record SentAt (z : Side) (n m : ℕ) (r : Record) (j : ℕ) : Type 0 where
@@ -234,16 +234,16 @@ module _ (w : World) where
     pub turn : Turn z place
     pub sent : SentNow (datagramIn (turn .call .datagram)) (turn .acts .acted .step .channel) n m r
 
-  pub sent-at : (z : Side) (n m : ℕ) (r : Record) (j : ℕ) → lookup (commitmentKey n m) (ledger z j .records) ≡ some r → SentAt z n m r j
+  pub sent-at : (z : Side) (n m : ℕ) {r : Record} (j : ℕ) → lookup (commitmentKey n m) (ledger z j .records) ≡ some r → SentAt z n m r j
   unfolding fold
-  sent-at z n m r zero h =
+  sent-at z n m {r} zero h =
       let k = w .made z in
       let e = made-lookup (length (k .slice)) (k .openings) (commitmentKey n m) in
       let q = made-read (w .start z) k in
       let v : lookup (commitmentKey n m) (storeIn (w .start z) .records) ≡ none = ap (λ (s : Store). lookup (commitmentKey n m) (s .records)) q ∙ e in
       let x : _≡_ {A = ℕ} 0 1 = cc in
       absurd (omega arith)
-  sent-at z n m r (suc j) h = go (turn z j) (sent-at z n m r j)
+  sent-at z n m {r} (suc j) h = go (turn z j) (sent-at z n m j)
     where
       has : Store → Type 0
       has s = lookup (commitmentKey n m) (s .records) ≡ some r
@@ -254,7 +254,7 @@ module _ (w : World) where
       go : Quiet z j ⊎ Turn z j → (has (ledger z j) → SentAt z n m r j) → SentAt z n m r (suc j)
       go (inl e) ih = more (ih (subst has (e .same) h))
       go (inr t) ih =
-          elim (stems _ _ _ n m r (t .acts .acted .step) (subst has (sym (t .acts .after)) h)) [
+          elim (stems n m (t .acts .acted .step) (subst has (sym (t .acts .after)) h)) [
             | inl q ↦ more (ih (subst has (t .acts .before) q))
             | inr q ↦ record { place = j; earlier = omega arith; turn = t; sent = q }
           ]

@@ -34,7 +34,7 @@ module _ (w : World) where
 
   -- the packet of a receive, an acknowledge or a time-out is the datagram's
   pub did-packet : (k i : ℕ) (c : Call) → Did k i c → (k ≡ 1 → ⊥) → (k ≡ 3 → ⊥) → packetOf c ≡ datagramIn (c .datagram) .packet
-  did-packet k i c d m n = let q = d .kind in acted-carried c (d .acts .acted) (λ e. m (omega arith)) (λ e. n (omega arith))
+  did-packet k i c d m n = let q = d .kind in acted-carried (d .acts .acted) (λ e. m (omega arith)) (λ e. n (omega arith))
 
   -- the sender's ledger: across for a delivery, its own otherwise
   pub delivery-sender : (c : Call) → isDelivery c ≡ true → sender c ≡ across (c .side)
@@ -79,16 +79,16 @@ module _ (w : World) where
       let p = datagramIn (c .datagram) .packet in
       let g : (datagramIn (c .datagram) .kind ≡ 4) ⊎ (datagramIn (c .datagram) .kind ≡ 5) =
       ⊎-elim (λ q. inl (d .kind ∙ q)) (λ q. inr (d .kind ∙ q)) f in
-      let n = finish-needs _ _ _ st g in
+      let n = finish-needs st g in
       let r = some-if (lookup (commitmentKey (p .source .channel) (p .sequence)) (storeIn (c .store) .records)) n in
-      let u = used-stays _ _ _ _ _ st (committed-used _ (p .source .channel) (p .sequence) (r .0) (st .fits) (r .1)) in
+      let u = used-stays st (committed-used (p .source .channel) (p .sequence) (st .fits) (r .1)) in
       let e = sym (did-packet w k i c d (λ q. ⊎-elim (λ v. omega arith) (λ v. omega arith) f) (λ q. ⊎-elim (λ v. omega arith) (λ v. omega arith) f)) in
       record {
         side = finish-sender w k i c d (λ q. ⊎-elim (λ v. omega arith) (λ v. omega arith) f);
         there = subst₂ (λ (x : Packet) (s : Store). isSome (lookup (commitmentKey (x .source .channel) (x .sequence)) (s .records)) ≡ true) e (a .before) n;
         used = subst₂ (λ (x : Packet) (s : Store). Used s (x .source .channel) (x .sequence)) e (a .after) u;
         gone = subst₂ (λ (x : Packet) (s : Store). lookup (commitmentKey (x .source .channel) (x .sequence)) (s .records) ≡ none) e (a .after)
-            (finish-removes _ _ _ st g);
+            (finish-removes st g);
       }
 
   finish-at : (i : ℕ) (c : Call) → At (w .calls) i c → finishes c ≡ true → Finish i c
@@ -103,7 +103,7 @@ module _ (w : World) where
           let z : e .side ≡ c .side = sym (g .side) ∙ sym (s .sender) ∙ f .side in
           let h = subst₃ (λ (y : Side) (n m : ℕ). Committed y j n m) z (sym (s .channel)) (sym (s .sequence)) (g .there) in
           let r = some-if (lookup (commitmentKey (packetOf c .source .channel) (packetOf c .sequence)) (ledger w (c .side) j .records)) h in
-          let b = used-back w (c .side) (packetOf c .source .channel) (packetOf c .sequence) (r .0) (suc i) j l (f .used) (r .1) in
+          let b = used-back w (c .side) (packetOf c .source .channel) (packetOf c .sequence) (suc i) j l (f .used) (r .1) in
           let q = f .gone in
           let x : _≡_ {A = ℕ} 0 1 = cc in
           omega arith

@@ -61,7 +61,7 @@ module _ (w : World) where
       let start = channelAt n (storeIn (w .start z) .channels) in
       later-back start (channelAt n (ledger w z i .channels)) c
       (kept w (λ (s : Store). Later start (channelAt n (s .channels)))
-      (λ s d t st l. later-trans start (channelAt n (s .channels)) (channelAt n (t .channels)) l (later s d t st n)) z 0 i (omega arith) (later-refl start)) h
+      (λ s t d st l. later-trans start (channelAt n (s .channels)) (channelAt n (t .channels)) l (later st n)) z 0 i (omega arith) (later-refl start)) h
 
   -- the end that it names, as it was made
   pub peer : Paired (w .start) → (z : Side) (i n : ℕ) (c : Channel) → channelAt n (ledger w z i .channels) ≡ some c →
@@ -98,16 +98,16 @@ module _ (w : World) where
       let d = did w 2 i c h e in
       let st = d .acts .acted .step in
       let q = did-packet w 2 i c d (λ v. omega arith) (λ v. omega arith) in
-      let f = and-both (receive-of _ _ _ st (d .kind) .0 .fits) in
+      let f = and-both (receive-of st (d .kind) .0 .fits) in
       let port = eqb-true (datagramIn (c .datagram) .packet .destination .port) (st .channel .own .port) (f .0) in
-      let number = sym (receive-destination _ _ _ st (d .kind)) in
+      let number = sym (receive-destination st (d .kind)) in
       let own : datagramIn (c .datagram) .packet .destination ≡ st .channel .own = λ j. record { port = port j; channel = number j } in
       record {
         did = d;
         packet = q;
         end = st .channel;
         found = subst₂ (λ (p : Packet) (s : Store). channelAt (p .destination .channel) (s .channels) ≡ some (st .channel)) (sym q) (d .acts .before)
-            (receive-found _ _ _ st (d .kind));
+            (receive-found st (d .kind));
         source = ap (λ (p : Packet). p .source) q ∙ same-end _ _ (f .1);
         destination = ap (λ (p : Packet). p .destination) q ∙ own;
       }

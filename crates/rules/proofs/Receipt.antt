@@ -28,19 +28,19 @@ pub record Received (s : Store) (n m : ℕ) : Type 0 where
   pub found : channelAt n (s .channels) ≡ some channel
   pub received : isReceived (s .records) channel m ≡ true
 
-pub received-stays : (s : Store) (d : Datagram) (t : Store) (n m : ℕ) → Step s d t → Received s n m → Received t n m
-received-stays s d t n m st r =
-    let l = later-some (channelAt n (s .channels)) (channelAt n (t .channels)) (r .channel) (later s d t st n) (r .found) in
+pub received-stays : {s t : Store} {d : Datagram} {n m : ℕ} → Step s d t → Received s n m → Received t n m
+received-stays {s} {t} {n = n} {m} st r =
+    let l = later-some (channelAt n (s .channels)) (channelAt n (t .channels)) (r .channel) (later st n) (r .found) in
     let g = l .2 in
     record {
       channel = l .0;
       found = l .1;
       received = ordering.received-stays (s .records) (t .records) (r .channel) (l .0) m (g .order) (g .own) (g .receive)
-          (record-stays s d t st (receiptKey (r .channel .own .channel) m) (λ q. absurd (omega arith))) (r .received);
+          (record-stays st (receiptKey (r .channel .own .channel) m) (λ q. absurd (omega arith))) (r .received);
     }
 
 -- A DELIVERY
-module _ (s : Store) (d : Datagram) (t : Store) (st : Step s d t) (k : d .kind ≡ 2) where
+module _ {s t : Store} {d : Datagram} (st : Step s d t) (k : d .kind ≡ 2) where
   pub receive-of : ReceiveOk s d (st .channel) × (st .effect ≡ receives (st .channel) (d .packet))
   receive-of = go (st .effect) (st .how)
     where
@@ -52,10 +52,10 @@ module _ (s : Store) (d : Datagram) (t : Store) (st : Step s d t) (k : d .kind �
       go e (timing q ok) = absurd (omega arith)
 
   pub receive-destination : st .channel .own .channel ≡ d .packet .destination .channel
-  receive-destination = own-number s d t st ∙ st .shape .toDestination k
+  receive-destination = own-number st ∙ st .shape .toDestination k
 
   pub receive-found : channelAt (d .packet .destination .channel) (s .channels) ≡ some (st .channel)
-  receive-found = ap (λ (n : ℕ). channelAt n (s .channels)) (sym receive-destination) ∙ own-found s d t st
+  receive-found = ap (λ (n : ℕ). channelAt n (s .channels)) (sym receive-destination) ∙ own-found st
 
   pub receive-first : Received s (d .packet .destination .channel) (d .packet .sequence) → ⊥
   unfolding isInOrder
@@ -75,13 +75,13 @@ module _ (s : Store) (d : Datagram) (t : Store) (st : Step s d t) (k : d .kind �
   unfolding isInOrder receives
   receive-makes =
       let ok = receive-of .0 in
-      let q = ordering.receive-received (s .records) (st .channel) (d .packet .sequence) (single s d t st) (ok .inOrder) (ok .new)
+      let q = ordering.receive-received (s .records) (st .channel) (d .packet .sequence) (single st) (ok .inOrder) (ok .new)
       (λ r. ordering.receive-room (st .channel) (hasFree (s .records)) r (ok .room)) in
       let w : t .records ≡ edited (receivedEdit (st .channel) (d .packet .sequence)) (s .records) =
-      records-left s d t st ∙ ap (λ (e : Effect). edited (e .edit) (s .records)) (receive-of .1) in
+      records-left st ∙ ap (λ (e : Effect). edited (e .edit) (s .records)) (receive-of .1) in
       record {
         channel = receivedEnd (st .channel);
-        found = ap (λ (n : ℕ). channelAt n (t .channels)) (sym receive-destination) ∙ own-after s d t st ∙ ap some receive-end;
+        found = ap (λ (n : ℕ). channelAt n (t .channels)) (sym receive-destination) ∙ own-after st ∙ ap some receive-end;
         received = ap (λ (rs : List (Option Record)). isReceived rs (receivedEnd (st .channel)) (d .packet .sequence)) w ∙ q;
       }
 
@@ -92,33 +92,33 @@ pub record Waits (s : Store) (n m : ℕ) : Type 0 where
   pub ordered : isOrdered channel ≡ true
   pub next : channel .next .receive ≡ m
 
-receive-kept : (s : Store) (d : Datagram) (c : Channel) (e : Effect) → How s d c e → (d .kind ≡ 2 → ⊥) → e .end .next .receive ≡ c .next .receive
+receive-kept : {s : Store} {d : Datagram} {c : Channel} {e : Effect} → How s d c e → (d .kind ≡ 2 → ⊥) → e .end .next .receive ≡ c .next .receive
 unfolding sends writesAcknowledgement acknowledges timesOut acknowledgedEnd timedOutEnd counted closed
-receive-kept s d c e (sending q ok) k = refl
-receive-kept s d c e (receiving q ok) k = absurd (k q)
-receive-kept s d c e (writing q ok) k = refl
-receive-kept s d c e (acknowledging q ok) k =
+receive-kept {c = c} (sending q ok) k = refl
+receive-kept {c = c} (receiving q ok) k = absurd (k q)
+receive-kept {c = c} (writing q ok) k = refl
+receive-kept {c = c} (acknowledging q ok) k =
     of-pick (λ (x : Channel). x .next .receive ≡ c .next .receive) (raisesAcknowledge c) (counted c (raisedAcknowledge (c .next))) c (λ q. refl) (λ q. refl)
-receive-kept s d c e (timing q ok) k =
+receive-kept {c = c} (timing q ok) k =
     of-pick (λ (x : Channel). x .next .receive ≡ c .next .receive) (isOrdered c) (closed c) c (λ q. refl) (λ q. refl)
 
-module _ (s : Store) (d : Datagram) (t : Store) (st : Step s d t) (n m : ℕ) (w : Waits s n m) where
+module _ {s t : Store} {d : Datagram} {n m : ℕ} (st : Step s d t) (w : Waits s n m) where
   own-waits : st .channel .own .channel ≡ n → st .channel ≡ w .channel
   own-waits q =
       let f = w .found in
-      let g : channelAt n (s .channels) ≡ some (st .channel) = ap (λ (k : ℕ). channelAt k (s .channels)) (sym q) ∙ own-found s d t st in
+      let g : channelAt n (s .channels) ≡ some (st .channel) = ap (λ (k : ℕ). channelAt k (s .channels)) (sym q) ∙ own-found st in
       cc
 
   own-order : st .channel .own .channel ≡ n → isOrdered (st .effect .end) ≡ true
   unfolding isOrdered
   own-order q =
-      ap (λ (k : ℕ). eqb k 1) (own-grown s d t st .order) ∙ ap (λ (c : Channel). eqb (c .order) 1) (own-waits q) ∙ w .ordered
+      ap (λ (k : ℕ). eqb k 1) (own-grown st .order) ∙ ap (λ (c : Channel). eqb (c .order) 1) (own-waits q) ∙ w .ordered
 
   waits-own : st .channel .own .channel ≡ n → (j : ℕ) → st .effect .end .next .receive ≡ j → Waits t n j
   waits-own q j h =
       record {
         channel = st .effect .end;
-        found = ap (λ (k : ℕ). channelAt k (t .channels)) (sym q) ∙ own-after s d t st;
+        found = ap (λ (k : ℕ). channelAt k (t .channels)) (sym q) ∙ own-after st;
         ordered = own-order q;
         next = h;
       }
@@ -130,11 +130,11 @@ module _ (s : Store) (d : Datagram) (t : Store) (st : Step s d t) (n m : ℕ) (w
       (λ q.
       let e = eqb-true (st .channel .own .channel) n q in
       waits-own e m
-      (receive-kept s d (st .channel) (st .effect) (st .how) (λ k. h k (sym (receive-destination s d t st k) ∙ e)) ∙
+      (receive-kept (st .how) (λ k. h k (sym (receive-destination st k) ∙ e)) ∙
       ap (λ (c : Channel). c .next .receive) (own-waits e) ∙ w .next))
       (λ q. record {
         channel = w .channel;
-        found = other-after s d t st n (eqb-false (st .channel .own .channel) n q) ∙ w .found;
+        found = other-after st n (eqb-false (st .channel .own .channel) n q) ∙ w .found;
         ordered = w .ordered;
         next = w .next;
       })
@@ -143,8 +143,8 @@ module _ (s : Store) (d : Datagram) (t : Store) (st : Step s d t) (n m : ℕ) (w
   pub waits-next : d .kind ≡ 2 → d .packet .destination .channel ≡ n → (d .packet .sequence ≡ m) × Waits t n (suc m)
   unfolding isInOrder
   waits-next k q =
-      let e : st .channel .own .channel ≡ n = receive-destination s d t st k ∙ q in
+      let e : st .channel .own .channel ≡ n = receive-destination st k ∙ q in
       let o : isOrdered (st .channel) ≡ true = ap isOrdered (own-waits e) ∙ w .ordered in
-      let r = ordering.ordered-next (st .channel) (d .packet .sequence) o (receive-of s d t st k .0 .inOrder) in
+      let r = ordering.ordered-next (st .channel) (d .packet .sequence) o (receive-of st k .0 .inOrder) in
       let x : d .packet .sequence ≡ m = r .0 ∙ ap (λ (c : Channel). c .next .receive) (own-waits e) ∙ w .next in
-      (x, waits-own e (suc m) (ap (λ (c : Channel). c .next .receive) (receive-end s d t st k) ∙ r .1 ∙ ap suc x))
+      (x, waits-own e (suc m) (ap (λ (c : Channel). c .next .receive) (receive-end st k) ∙ r .1 ∙ ap suc x))

@@ -51,14 +51,14 @@ written-bytes p n m a h =
     (every-append Byte (little 2 p ++ little 4 n) (little 8 m)
     (every-append Byte (little 2 p) (little 4 n) (bytes-little 2 p) (bytes-little 4 n)) (bytes-little 8 m)) h
 
-emitted-bytes : (s : Store) (d : Datagram) (c : Channel) (e : Effect) → Bytes (d .digest) → PacketFields (sentPacket c d) →
+emitted-bytes : {s : Store} {d : Datagram} {c : Channel} {e : Effect} → Bytes (d .digest) → PacketFields (sentPacket c d) →
     (isProved (d .kind) ≡ true → PacketFields (d .packet)) → How s d c e → Bytes (e .emitted)
 unfolding sends receives writesAcknowledgement acknowledges timesOut isProved _or_
-emitted-bytes s d c e a f g (sending k ok) = bytes-framed _ _ (bytes-packet (sentPacket c d) (f .bytes))
-emitted-bytes s d c e a f g (receiving k ok) = bytes-framed _ _ (bytes-packet (d .packet) (g (cc) .bytes))
-emitted-bytes s d c e a f g (writing k ok) = bytes-framed _ _ (written-bytes (c .own .port) (c .own .channel) (d .sequence) (d .digest) a)
-emitted-bytes s d c e a f g (acknowledging k ok) = bytes-framed _ _ (every-append Byte (packetBytes (d .packet)) (d .digest) (bytes-packet (d .packet) (g (cc) .bytes)) a)
-emitted-bytes s d c e a f g (timing k ok) = bytes-framed _ _ (bytes-packet (d .packet) (g (cc) .bytes))
+emitted-bytes {d = d} {c} a f g (sending k ok) = bytes-framed _ _ (bytes-packet (sentPacket c d) (f .bytes))
+emitted-bytes {d = d} {c} a f g (receiving k ok) = bytes-framed _ _ (bytes-packet (d .packet) (g (cc) .bytes))
+emitted-bytes {d = d} {c} a f g (writing k ok) = bytes-framed _ _ (written-bytes (c .own .port) (c .own .channel) (d .sequence) (d .digest) a)
+emitted-bytes {d = d} {c} a f g (acknowledging k ok) = bytes-framed _ _ (every-append Byte (packetBytes (d .packet)) (d .digest) (bytes-packet (d .packet) (g (cc) .bytes)) a)
+emitted-bytes {d = d} {c} a f g (timing k ok) = bytes-framed _ _ (bytes-packet (d .packet) (g (cc) .bytes))
 
 module _ (bs o b : List ℕ) (p : Bytes bs) (q : Bytes b) where
   step : callTold bs o b .number ≡ 0 → Acceptance bs b
@@ -72,7 +72,7 @@ module _ (bs o b : List ℕ) (p : Bytes bs) (q : Bytes b) where
       by-number
       (λ t.
       let a = step t in
-      ap isFit (accepted-store (call bs o b) (met bs o b) t) ∙ fit-of _ (a .fields) (fits-after _ _ _ (a .step)))
+      ap isFit (accepted-store (call bs o b) (met bs o b) t) ∙ fit-of _ (a .fields) (fits-after (a .step)))
       (λ n. ap isFit (refused-call (call bs o b) (met bs o b) n .1) ∙ f)
 
   output-bytes : Bytes o → Bytes (callOutput bs o b)
@@ -80,7 +80,7 @@ module _ (bs o b : List ℕ) (p : Bytes bs) (q : Bytes b) where
       by-number
       (λ t.
       let a = step t in
-      let e = emitted-bytes _ _ _ (a .step .effect) (a .digest) (a .sent) (a .carried) (a .step .how) in
+      let e = emitted-bytes (a .digest) (a .sent) (a .carried) (a .step .how) in
       let x : List ℕ = effectIn (storeIn bs) (datagramIn b) .emitted in
       subst Bytes (sym (accepted-output (call bs o b) (met bs o b) t))
       (every-append Byte x (drop (length x) o) (subst (λ (y : Effect). Bytes (y .emitted)) (a .effect) e)

@@ -110,17 +110,17 @@ closes c =
       state = inr refl;
     }
 
-pub grown : (s : Store) (d : Datagram) (c : Channel) (e : Effect) → How s d c e → Grown c (e .end)
+pub grown : {s : Store} {d : Datagram} {c : Channel} {e : Effect} → How s d c e → Grown c (e .end)
 unfolding sends receives writesAcknowledgement acknowledges timesOut receivedEnd acknowledgedEnd timedOutEnd
-grown s d c e (sending k ok) = counts-up c (raisedSend (c .next)) (omega arith) (omega arith) (omega arith)
-grown s d c e (receiving k ok) =
+grown {c = c} (sending k ok) = counts-up c (raisedSend (c .next)) (omega arith) (omega arith) (omega arith)
+grown {c = c} (receiving k ok) =
     of-pick (Grown c) (raisesReceive c) (counted c (raisedReceive (c .next))) c
     (λ q. counts-up c (raisedReceive (c .next)) (omega arith) (omega arith) (omega arith)) (λ q. grown-refl c)
-grown s d c e (writing k ok) = grown-refl c
-grown s d c e (acknowledging k ok) =
+grown {c = c} (writing k ok) = grown-refl c
+grown {c = c} (acknowledging k ok) =
     of-pick (Grown c) (raisesAcknowledge c) (counted c (raisedAcknowledge (c .next))) c
     (λ q. counts-up c (raisedAcknowledge (c .next)) (omega arith) (omega arith) (omega arith)) (λ q. grown-refl c)
-grown s d c e (timing k ok) = of-pick (Grown c) (isOrdered c) (closed c) c (λ q. closes c) (λ q. grown-refl c)
+grown {c = c} (timing k ok) = of-pick (Grown c) (isOrdered c) (closed c) c (λ q. closes c) (λ q. grown-refl c)
 
 -- THE RECORDS: a new one has room and a key of its own; one that becomes free is a commitment that is there
 pub data Legal (rs : List (Option Record)) : Edit → Type 0 where
@@ -146,17 +146,17 @@ unused s c f h =
     let l : c .next .send < c .next .send = rw q at (a .2) in
     omega arith)
 
-legal-of : (s : Store) (d : Datagram) (c : Channel) (e : Effect) → storeFits s ≡ true → channelAt (c .own .channel) (s .channels) ≡ some c →
+legal-of : {s : Store} {d : Datagram} {c : Channel} {e : Effect} → storeFits s ≡ true → channelAt (c .own .channel) (s .channels) ≡ some c →
     ((d .kind ≡ 4) ⊎ (d .kind ≡ 5) → c .own .channel ≡ d .packet .source .channel) → How s d c e → Legal (s .records) (e .edit)
 unfolding sends receives writesAcknowledgement acknowledges timesOut receivedEdit commitment sentPacket plainRecord
-legal-of s d c e f h w (sending k ok) = adding (ok .room) (unused s c f h)
-legal-of s d c e f h w (receiving k ok) =
+legal-of {s} {d} {c} f h w (sending k ok) = adding (ok .room) (unused s c f h)
+legal-of {s} {d} {c} f h w (receiving k ok) =
     of-pick (Legal (s .records)) (raisesReceive c) keeps (writes (plainRecord 2 (c .own .channel) (d .packet .sequence) noDigest)) (λ q. keeping)
     (λ q. adding (receive-room c (hasFree (s .records)) q (ok .room)) (receive-absent (s .records) c (d .packet .sequence) q (ok .new)))
-legal-of s d c e f h w (writing k ok) = adding (ok .room) (not-some _ (ap not (ok .new)))
-legal-of s d c e f h w (acknowledging k ok) =
+legal-of {s} {d} {c} f h w (writing k ok) = adding (ok .room) (not-some _ (ap not (ok .new)))
+legal-of {s} {d} {c} f h w (acknowledging k ok) =
     freeing {c = c .own .channel} {n = d .packet .sequence} (rw (w (inl k)) (committed-there (s .records) (d .packet) (ok .committed)))
-legal-of s d c e f h w (timing k ok) =
+legal-of {s} {d} {c} f h w (timing k ok) =
     freeing {c = c .own .channel} {n = d .packet .sequence} (rw (w (inr k)) (committed-there (s .records) (d .packet) (ok .committed)))
 
 -- ENDS from one store to a later one
@@ -170,7 +170,7 @@ pub later-refl : (x : Option Channel) → Later x x
 later-refl none = tt
 later-refl (some c) = grown-refl c
 
-module _ (s : Store) (d : Datagram) (t : Store) (st : Step s d t) where
+module _ {s t : Store} {d : Datagram} (st : Step s d t) where
   abbrev own : ℕ
   own = st .channel .own .channel
 
@@ -181,10 +181,10 @@ module _ (s : Store) (d : Datagram) (t : Store) (st : Step s d t) where
   own-found = channel-own (d .channel) (s .channels) (st .channel) (st .found)
 
   pub own-grown : Grown (st .channel) (st .effect .end)
-  own-grown = grown s d (st .channel) (st .effect) (st .how)
+  own-grown = grown (st .how)
 
   pub legal : Legal (s .records) (st .effect .edit)
-  legal = legal-of s d (st .channel) (st .effect) (st .fits) own-found (λ k. own-number ∙ st .shape .fromSource k) (st .how)
+  legal = legal-of (st .fits) own-found (λ k. own-number ∙ st .shape .fromSource k) (st .how)
 
   pub single : Single (s .records)
   single = fit-single s (st .fits)

@@ -33,10 +33,10 @@ module _ (z : Side) (n : ℕ) (c : Call) (on : c .side ≡ z) (told : c .told .n
   -- the source channel of a packet that is sent or finished is the end's own
   source-own : (kind ≡ 1) ⊎ ((kind ≡ 4) ⊎ (kind ≡ 5)) → packetOf c .source .channel ≡ own
   unfolding sentPacket
-  source-own (inl q) = ap (λ (p : Packet). p .source .channel) (acted-sent c a q)
+  source-own (inl q) = ap (λ (p : Packet). p .source .channel) (acted-sent a q)
   source-own (inr q) =
-      ap (λ (p : Packet). p .source .channel) (acted-carried c a (λ w. ⊎-elim (λ v. omega arith) (λ v. omega arith) q) (λ w. ⊎-elim (λ v. omega arith) (λ v. omega arith) q)) ∙
-      sym (finish-source _ _ _ (a .step) q)
+      ap (λ (p : Packet). p .source .channel) (acted-carried a (λ w. ⊎-elim (λ v. omega arith) (λ v. omega arith) q) (λ w. ⊎-elim (λ v. omega arith) (λ v. omega arith) q)) ∙
+      sym (finish-source (a .step) q)
 
   counts : (k : ℕ) → (kind ≡ k → (kind ≡ 1) ⊎ ((kind ≡ 4) ⊎ (kind ≡ 5))) → isBy z n (emits (256 + k)) c ≡ (eqb kind k and eqb own n)
   unfolding _and_
@@ -74,17 +74,17 @@ module _ (w : World) (z : Side) (n : ℕ) where
       go : Quiet w z i ⊎ Turn w z i → tally 1 i ≡ tally 4 i + tally 5 i + commitments n (ledger w z i .records) →
           tally 1 (suc i) ≡ tally 4 (suc i) + tally 5 (suc i) + commitments n (ledger w z (suc i) .records)
       go (inl q) ih =
-          let same : (k : ℕ) → tally k (suc i) ≡ tally k i = λ k. quiet-count w z i q (isBy z n (emits (256 + k))) (by-on z n (256 + k)) in
+          let same : (k : ℕ) → tally k (suc i) ≡ tally k i = λ k. quiet-count w q (isBy z n (emits (256 + k))) (by-on z n (256 + k)) in
           let e = ap (λ (s : Store). commitments n (s .records)) (q .same) in
           omega (arith, same 1, same 4, same 5)
       go (inr u) ih =
           let a = u .acts .acted in
           let x : (k : ℕ) → tally k (suc i) ≡ pick (isBy z n (emits (256 + k)) (u .call)) 1 0 + tally k i =
-          λ k. turn-count w z i u (isBy z n (emits (256 + k))) in
+          λ k. turn-count w u (isBy z n (emits (256 + k))) in
           let y = counts z n (u .call) (u .acts .side) (u .acts .told) a in
           let e = ap (λ (s : Store). commitments n (s .records)) (u .acts .before) in
           let f = ap (λ (s : Store). commitments n (s .records)) (u .acts .after) in
-          omega (arith, sum _ _ _ (a .step) n, rw (y 1 (λ q. inl q)) at (x 1), rw (y 4 (λ q. inr (inl q))) at (x 4), rw (y 5 (λ q. inr (inr q))) at (x 5))
+          omega (arith, sum (a .step) n, rw (y 1 (λ q. inl q)) at (x 1), rw (y 4 (λ q. inr (inl q))) at (x 4), rw (y 5 (λ q. inr (inr q))) at (x 5))
 
 pub sums : (w : World) → Sums (w .start) (w .calls)
 sums w z n =

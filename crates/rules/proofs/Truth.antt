@@ -65,7 +65,7 @@ module _ (w : World) (honest : Honest (w .start) (w .calls)) where
       let v = x .verdict in
       let t = truth 2 i c (d .did) refl in
       let b = within w (across (c .side)) (v .height) in
-      let a = about v 1 (p .source) (p .sequence) (p .timeout) (p .digest) (receive-of _ _ _ (d .did .acts .acted .step) (d .did .kind) .0 .about) in
+      let a = about v 1 (p .source) (p .sequence) (p .timeout) (p .digest) (receive-of (d .did .acts .acted .step) (d .did .kind) .0 .about) in
       let h = claim-committed v (ledger w (across (c .side)) (b .time)) (ap (claimHolds v) (sym (b .store)) ∙ t .holds) (a .claim) in
       let q = d .packet in
       record {
@@ -119,12 +119,12 @@ module _ (w : World) (honest : Honest (w .start) (w .calls)) where
     unfolding sentPacket commitment
     sent-same i c d k j u n =
         let st = u .acts .acted .step in
-        let f = subst₂ (λ (x : ℕ) (s : Store). channelAt x (s .channels) ≡ some (st .channel)) (n .channel) (u .acts .before) (own-found _ _ _ st) in
+        let f = subst₂ (λ (x : ℕ) (s : Store). channelAt x (s .channels) ≡ some (st .channel)) (n .channel) (u .acts .before) (own-found st) in
         let e = source-end i c d j (st .channel) f in
         let a = n .sequence in
         let b = ap (λ (r : Record). r .timeout) (sym (n .committed)) ∙ k .timeout in
         let g = ap (λ (r : Record). r .digest) (sym (n .committed)) ∙ k .digest in
-        acted-sent (u .call) (u .acts .acted) (n .kind) ∙
+        acted-sent (u .acts .acted) (n .kind) ∙
         (λ x. record { sequence = a x; timeout = b x; source = e .0 x; destination = e .1 x; digest = g x })
 
     pub as-sent : AsSent (w .calls)
@@ -132,7 +132,7 @@ module _ (w : World) (honest : Honest (w .start) (w .calls)) where
     as-sent i c h e =
         let d = delivered w i c h e in
         let k = claimed i c d in
-        let s = sent-at w (across (c .side)) (packetOf c .source .channel) (packetOf c .sequence) (k .stored) (k .time) (k .there) in
+        let s = sent-at w (across (c .side)) (packetOf c .source .channel) (packetOf c .sequence) (k .time) (k .there) in
         let u = s .turn in
         let a = u .acts .acted in
         let n = s .sent .kind in
@@ -141,9 +141,9 @@ module _ (w : World) (honest : Honest (w .start) (w .calls)) where
         let l = s .earlier in
         let l′ = k .earlier in
         let f : emitted (u .call) ≡ framed 0x0101 (packetBytes (packetOf c)) =
-        acted-bytes (u .call) a (λ q. omega arith) (λ q. omega arith) ∙ rw (n, p) refl in
+        acted-bytes a (λ q. omega arith) (λ q. omega arith) ∙ rw (n, p) refl in
         let g : emitted c ≡ framed 0x0102 (packetBytes (packetOf c)) =
-        acted-bytes c (d .did .acts .acted) (λ q. omega arith) (λ q. omega arith) ∙ rw m refl in
+        acted-bytes (d .did .acts .acted) (λ q. omega arith) (λ q. omega arith) ∙ rw m refl in
         record {
           place = s .place;
           call = u .call;
@@ -152,7 +152,7 @@ module _ (w : World) (honest : Honest (w .start) (w .calls)) where
           side = u .acts .side;
           send = both-and (eq-eqb (u .call .told .number) 0 (u .acts .told)) (eq-eqb (kindIn (emitted (u .call))) 0x0101 (a .kind ∙ ap (256 +_) n));
           packet = packetBytes (packetOf c);
-          size = acted-size c (d .did .acts .acted) (λ q. omega arith);
+          size = acted-size (d .did .acts .acted) (λ q. omega arith);
           sent = f;
           delivered = g;
         }
@@ -162,10 +162,10 @@ module _ (w : World) (honest : Honest (w .start) (w .calls)) where
     either a b = cases (leb a b) (λ q. inl (leb-true a b q)) (λ q. let l = leb-false a b q in inr (omega arith))
 
     -- the commitment of a channel and sequence is one record
-    one-record : (z : Side) (n m i j : ℕ) (r x : Record) → i ≤ j → lookup (commitmentKey n m) (ledger w z i .records) ≡ some r →
+    one-record : (z : Side) (n m i j : ℕ) {r x : Record} → i ≤ j → lookup (commitmentKey n m) (ledger w z i .records) ≡ some r →
         lookup (commitmentKey n m) (ledger w z j .records) ≡ some x → r ≡ x
-    one-record z n m i j r x l p q =
-        let b = used-back w z n m x i j l (committed-used (ledger w z i) n m r (ledger-fits w z i) p) q in
+    one-record z n m i j l p q =
+        let b = used-back w z n m i j l (committed-used n m (ledger-fits w z i) p) q in
         cc
 
     -- what passed by then has passed later too
@@ -185,8 +185,8 @@ module _ (w : World) (honest : Honest (w .start) (w .calls)) where
         ⊎-elim (λ p. clash (still-past (u .height) (v .height .0) (heightOf c .0) (omega arith) p) (n .0))
         (λ p. clash (still-past (u .time) (v .time) (timeOf c) (above l) p) (n .1)) (or-either late))
 
-    timeout-of : (s : Store) (d : Datagram) (t : Store) (st : Step s d t) → d .kind ≡ 5 → TimeoutOk s d (st .channel)
-    timeout-of s d t st k = go (st .effect) (st .how)
+    timeout-of : {s t : Store} {d : Datagram} (st : Step s d t) → d .kind ≡ 5 → TimeoutOk s d (st .channel)
+    timeout-of {s} {d = d} st k = go (st .effect) (st .how)
       where
         go : (e : Effect) → How s d (st .channel) e → TimeoutOk s d (st .channel)
         go e (sending q ok) = absurd (omega arith)
@@ -208,7 +208,7 @@ module _ (w : World) (honest : Honest (w .start) (w .calls)) where
       st = f .acts .acted .step
 
       ok : TimeoutOk (storeIn (e .store)) (datagramIn (e .datagram)) (st .channel)
-      ok = timeout-of _ _ _ st (f .kind)
+      ok = timeout-of st (f .kind)
 
       e-packet : packetOf e ≡ p
       e-packet = did-packet w 5 j e f (λ x. omega arith) (λ x. omega arith)
@@ -230,14 +230,14 @@ module _ (w : World) (honest : Honest (w .start) (w .calls)) where
           let r = has-values (p .timeout) (p .digest) _ (ok .committed) in
           let there = subst₃ (λ (s : Store) (n m : ℕ). lookup (commitmentKey n m) (s .records) ≡ some (r .stored)) here source sequence (r .there) in
           let one : k .stored ≡ r .stored = ⊎-elim
-          (λ l. one-record (across (c .side)) _ _ (k .time) j (k .stored) (r .stored) l (k .there) there)
-          (λ l. sym (one-record (across (c .side)) _ _ j (k .time) (r .stored) (k .stored) l there (k .there))) (either (k .time) j) in
+          (λ l. one-record (across (c .side)) _ _ (k .time) j l (k .there) there)
+          (λ l. sym (one-record (across (c .side)) _ _ j (k .time) l there (k .there))) (either (k .time) j) in
           sym (r .timeout) ∙ ap (λ (x : Record). x .timeout) (sym one) ∙ k .timeout ∙ ap (λ (x : Packet). x .timeout) (d .packet)
 
       -- the time-out's end is the one that the packet was sent from, and names the one that it came to
       sent-from : (st .channel .counterparty ≡ packetOf c .destination) × (st .channel .order ≡ d .end .order)
       sent-from =
-          let g = subst₂ (λ (n : ℕ) (s : Store). channelAt n (s .channels) ≡ some (st .channel)) (finish-source _ _ _ st (inr (f .kind)) ∙ source) here (own-found _ _ _ st) in
+          let g = subst₂ (λ (n : ℕ) (s : Store). channelAt n (s .channels) ≡ some (st .channel)) (finish-source st (inr (f .kind)) ∙ source) here (own-found st) in
           let q = source-end i c d j (st .channel) g in
           (q .1, q .2)
 
@@ -250,7 +250,7 @@ module _ (w : World) (honest : Honest (w .start) (w .calls)) where
       unfolding fitsPacket verdictDifference isInOrder datagramIn
       never =
           let a : AcceptedOn (c .side) (w .calls) i c = record { at = d .did .acts .at; side = refl; told = d .did .acts .told } in
-          let early = receive-of _ _ _ (d .did .acts .acted .step) (d .did .kind) .0 .early in
+          let early = receive-of (d .did .acts .acted .step) (d .did .kind) .0 .early in
           let l = in-block c (datagramIn (c .datagram) .timeout) (p .timeout) v (ok .late) (rw one-timeout early) (truth-here .notAbove i c a) in
           let b = within w (c .side) (v .height) in
           let r = received-since w i c d (b .time) (b .all i c a l) in
