@@ -73,8 +73,9 @@ fields-emitted f g (writing k ok) n = absurd (n k)
 fields-emitted f g (acknowledging k ok) n = rw k (g (cc))
 fields-emitted f g (timing k ok) n = rw k (g (cc))
 
-pub record Acted (c : Call) : Type 0 where
-  pub step : Step (storeIn (c .store)) (datagramIn (c .datagram)) (storeIn (c .storeLeft))
+-- a step from one store to another
+pub record Acted (c : Call) (s t : Store) : Type 0 where
+  pub step : Step s (datagramIn (c .datagram)) t
   pub kind : kindIn (emitted c) ≡ 256 + datagramIn (c .datagram) .kind
   pub emits : (datagramIn (c .datagram) .kind ≡ 3 → ⊥) →
       emitted c ≡ framed (256 + datagramIn (c .datagram) .kind)
@@ -119,7 +120,7 @@ module _ (c : Call) (met : Met c) where
       )
 
   module _ (bs : Bytes (c .store)) (bd : Bytes (c .datagram)) where
-    pub acted : c .told .number ≡ 0 → Acted c
+    pub acted : c .told .number ≡ 0 → Acted c (storeIn (c .store)) (storeIn (c .storeLeft))
     acted told =
         let a = accepted-step (c .store) (c .output) (c .datagram) bs bd (accepts told .0) in
         let d : Datagram = datagramIn (c .datagram) in
@@ -151,7 +152,7 @@ module _ (c : Call) (met : Met c) where
         (λ e. rw (refused-call (eqb-false (c .told .number) 0 e) .1) bs)
 
 -- THE PACKET of an accepted call, and its bytes where nothing follows them
-module _ {c : Call} (a : Acted c) (n : datagramIn (c .datagram) .kind ≡ 3 → ⊥) where
+module _ {c : Call} {s t : Store} (a : Acted c s t) (n : datagramIn (c .datagram) .kind ≡ 3 → ⊥) where
   pub acted-packet : packetOf c ≡ packetFor (a .step .channel) (datagramIn (c .datagram))
   acted-packet =
       ap emittedPacket (a .emits n) ∙
@@ -166,7 +167,7 @@ module _ {c : Call} (a : Acted c) (n : datagramIn (c .datagram) .kind ≡ 3 → 
   acted-size = rw acted-packet (length-packet (packetFor (a .step .channel) (datagramIn (c .datagram))) (a .fields n))
 
 -- sent, or carried by the datagram
-module _ {c : Call} (a : Acted c) where
+module _ {c : Call} {s t : Store} (a : Acted c s t) where
   pub acted-sent : datagramIn (c .datagram) .kind ≡ 1 → packetOf c ≡ sentPacket (a .step .channel) (datagramIn (c .datagram))
   acted-sent k =
       let q = eq-eqb (datagramIn (c .datagram) .kind) 1 k in

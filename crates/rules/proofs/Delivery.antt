@@ -29,16 +29,12 @@ module _ (w : World) where
   pub received-since : (i : ℕ) (c : Call) → Delivered w i c → (j : ℕ) → i < j →
       Received (ledger w (c .side) j) (packetOf c .destination .channel) (packetOf c .sequence)
   received-since i c d j l =
-      let a = d .did .acts in
-      kept w (λ (s : Store). Received s (packetOf c .destination .channel) (packetOf c .sequence)) (λ s t d. received-stays) (c .side) (suc i) j l
-      (subst₂ (λ (p : Packet) (s : Store). Received s (p .destination .channel) (p .sequence)) (sym (d .packet)) (a .after)
-      (receive-makes (a .acted .step) (d .did .kind)))
+      kept w (λ (s : Store). Received s (packetOf c .destination .channel) (packetOf c .sequence)) (λ s t d. received-stays)
+        (c .side) (suc i) j l (rw (d .packet) (receive-makes (d .did .acts .acted .step) (d .did .kind)))
 
-  not-received : (i : ℕ) (c : Call) → Delivered w i c → Received (ledger w (c .side) i) (packetOf c .destination .channel) (packetOf c .sequence) → ⊥
-  not-received i c d r =
-      let a = d .did .acts in
-      receive-first (a .acted .step) (d .did .kind)
-      (subst₂ (λ (p : Packet) (s : Store). Received s (p .destination .channel) (p .sequence)) (d .packet) (sym (a .before)) r)
+  not-received : (i : ℕ) (c : Call) → Delivered w i c →
+      Received (ledger w (c .side) i) (packetOf c .destination .channel) (packetOf c .sequence) → ⊥
+  not-received i c d r = receive-first (d .did .acts .acted .step) (d .did .kind) (rw (d .packet) at r)
 
   -- packets of one source go to one end
   same-destination : Paired (w .start) → (i j : ℕ) (c e : Call) (d : Delivered w i c) (f : Delivered w j e) → c .side ≡ e .side →
@@ -103,23 +99,21 @@ module _ (w : World) where
       go (inr u) x =
           let a = u .acts in
           let st = a .acted .step in
-          let y = subst (λ (s : Store). Waits s n (suc have)) (sym (a .before)) x in
           let t = turn-count w u (isDeliveryAt z n) in
           cases (isDeliveryAt z n (u .call))
           (λ q.
           let d = delivery-at z n i (u .call) a q in
           let m : suc (howMany (isDeliveryAt z n) (take (suc i) (w .calls))) ≡ suc (suc have) = ap suc (rw q at t) ∙ omega arith in
-          subst₂ (λ (s : Store) (m : ℕ). Waits s n m) (a .after) (sym m) (waits-next st y (d .0) (d .1) .1))
+          subst (λ (m : ℕ). Waits (ledger w z (suc i)) n m) (sym m) (waits-next st x (d .0) (d .1) .1))
           (λ q.
           let m : suc (howMany (isDeliveryAt z n) (take (suc i) (w .calls))) ≡ suc have = ap suc (rw q at t) ∙ omega arith in
-          subst₂ (λ (s : Store) (m : ℕ). Waits s n m) (a .after) (sym m)
-          (waits-on st y (λ k p. clash (delivers-at z n i (u .call) a k p) q)))
+          subst (λ (m : ℕ). Waits (ledger w z (suc i)) n m) (sym m)
+          (waits-on st x (λ k p. clash (delivers-at z n i (u .call) a k p) q)))
 
   pub in-order : InOrder (w .start) (w .calls)
   in-order i c e h k f o =
       let d = delivered w i c h k in
       let a = d .did .acts in
       let n = packetOf c .destination .channel in
-      let x = subst (λ (s : Store). Waits s n (suc (howMany (isDeliveryAt (c .side) n) (take i (w .calls))))) (sym (a .before)) (waits (c .side) n e f o i) in
       ap (λ (p : Packet). p .sequence) (d .packet) ∙
-      waits-next (a .acted .step) x (d .did .kind) (ap (λ (p : Packet). p .destination .channel) (sym (d .packet))) .0
+      waits-next (a .acted .step) (waits (c .side) n e f o i) (d .did .kind) (ap (λ (p : Packet). p .destination .channel) (sym (d .packet))) .0

@@ -1,6 +1,6 @@
 -- Two ledgers through a list of calls: the store of each after the first `i` calls. Between one and the next nothing
 -- happens or one accepted call does. Assumes nothing.
-use mathlib.Core.Path.{_≡_, refl, sym, ap, subst, _∙_}
+use mathlib.Core.Path.{_≡_, refl, sym, ap, subst, subst₂, _∙_}
 use mathlib.Core.Bool.{Bool, true, false}
 use mathlib.Core.List.{List, [], _∷_}
 use mathlib.Core.Logic.{_⊎_, inl, inr}
@@ -110,22 +110,15 @@ module _ (w : World) where
     pub at : At (w .calls) i c
     pub side : c .side ≡ z
     pub told : c .told .number ≡ 0
-    pub acted : Acted c
-    pub before : storeIn (c .store) ≡ ledger z i
-    pub after : storeIn (c .storeLeft) ≡ ledger z (suc i)
+    pub acted : Acted c (ledger z i) (ledger z (suc i))
 
   pub acts : (i : ℕ) (c : Call) → At (w .calls) i c → c .told .number ≡ 0 → Acts (c .side) i c
   acts i c h t =
       let e = side-refl (c .side) in
       let g = w .run .got i c h in
-      record {
-        at = h;
-        side = refl;
-        told = t;
-        acted = acted c (w .run .met i c h) (subst Bytes (sym g) (bytes-at (c .side) i)) (w .run .bytes i c h) t;
-        before = ap storeIn g;
-        after = ap storeIn (sym (next-on (c .side) i c h ∙ rw e refl));
-      }
+      let l : c .storeLeft ≡ bytesAt (c .side) (suc i) = sym (next-on (c .side) i c h ∙ rw e refl) in
+      let a = acted c (w .run .met i c h) (subst Bytes (sym g) (bytes-at (c .side) i)) (w .run .bytes i c h) t in
+      record { at = h; side = refl; told = t; acted = subst₂ (Acted c) (ap storeIn g) (ap storeIn l) a }
 
   -- A TURN of a ledger: such a call
   pub record Turn (z : Side) (i : ℕ) : Type 0 where
@@ -170,7 +163,7 @@ module _ (w : World) where
     turned i p =
         elim (turn z i) [
           | inl e ↦ subst P (sym (e .same)) p
-          | inr t ↦ subst P (t .acts .after) (stays _ _ _ (t .acts .acted .step) (subst P (sym (t .acts .before)) p))
+          | inr t ↦ stays _ _ _ (t .acts .acted .step) p
         ]
 
     pub kept : (i j : ℕ) → i ≤ j → P (ledger z i) → P (ledger z j)
@@ -224,8 +217,7 @@ module _ (w : World) where
 
       back : Quiet z j ⊎ Turn z j → Used (ledger z j) n m → has (ledger z j)
       back (inl e) v = subst has (e .same) h
-      back (inr t) v =
-          subst has (t .acts .before) (used-from (t .acts .acted .step) (subst (λ (s : Store). Used s n m) (sym (t .acts .before)) v) (subst has (sym (t .acts .after)) h))
+      back (inr t) v = used-from (t .acts .acted .step) v h
 
   -- each stems from a send
   pub record SentAt (z : Side) (n m : ℕ) (r : Record) (j : ℕ) : Type 0 where
@@ -254,7 +246,7 @@ module _ (w : World) where
       go : Quiet z j ⊎ Turn z j → (has (ledger z j) → SentAt z n m r j) → SentAt z n m r (suc j)
       go (inl e) ih = more (ih (subst has (e .same) h))
       go (inr t) ih =
-          elim (stems n m (t .acts .acted .step) (subst has (sym (t .acts .after)) h)) [
-            | inl q ↦ more (ih (subst has (t .acts .before) q))
+          elim (stems n m (t .acts .acted .step) h) [
+            | inl q ↦ more (ih q)
             | inr q ↦ record { place = j; earlier = omega arith; turn = t; sent = q }
           ]

@@ -74,22 +74,18 @@ module _ (w : World) where
 
   finish-by : (k i : ℕ) (c : Call) → Did w k i c → (k ≡ 4) ⊎ (k ≡ 5) → Finish i c
   finish-by k i c d f =
-      let a = d .acts in
-      let st = a .acted .step in
-      let p = datagramIn (c .datagram) .packet in
+      let st = d .acts .acted .step in
       let g : (datagramIn (c .datagram) .kind ≡ 4) ⊎ (datagramIn (c .datagram) .kind ≡ 5) =
-      ⊎-elim (λ q. inl (d .kind ∙ q)) (λ q. inr (d .kind ∙ q)) f in
-      let n = finish-needs st g in
-      let r = some-if (lookup (commitmentKey (p .source .channel) (p .sequence)) (storeIn (c .store) .records)) n in
-      let u = used-stays st (committed-used (p .source .channel) (p .sequence) (st .fits) (r .1)) in
-      let e = sym (did-packet w k i c d (λ q. ⊎-elim (λ v. omega arith) (λ v. omega arith) f) (λ q. ⊎-elim (λ v. omega arith) (λ v. omega arith) f)) in
+        ⊎-elim (λ q. inl (d .kind ∙ q)) (λ q. inr (d .kind ∙ q)) f in
+      let e = did-packet w k i c d (not-finish f 1 (omega arith)) (not-finish f 3 (omega arith)) in
+      let r = some-if _ (finish-needs st g) in
       record {
-        side = finish-sender w k i c d (λ q. ⊎-elim (λ v. omega arith) (λ v. omega arith) f);
-        there = subst₂ (λ (x : Packet) (s : Store). isSome (lookup (commitmentKey (x .source .channel) (x .sequence)) (s .records)) ≡ true) e (a .before) n;
-        used = subst₂ (λ (x : Packet) (s : Store). Used s (x .source .channel) (x .sequence)) e (a .after) u;
-        gone = subst₂ (λ (x : Packet) (s : Store). lookup (commitmentKey (x .source .channel) (x .sequence)) (s .records) ≡ none) e (a .after)
-            (finish-removes st g);
-      }
+        side = finish-sender w k i c d (not-finish f 2 (omega arith)); there = rw e (finish-needs st g);
+        used = rw e (used-stays st (committed-used _ _ (st .fits) (r .1))); gone = rw e (finish-removes st g) }
+    where
+      not-finish : {k : ℕ} → (k ≡ 4) ⊎ (k ≡ 5) → (n : ℕ) → n < 4 → k ≡ n → ⊥
+      not-finish (inl p) n l q = omega arith
+      not-finish (inr p) n l q = omega arith
 
   finish-at : (i : ℕ) (c : Call) → At (w .calls) i c → finishes c ≡ true → Finish i c
   finish-at i c h f =

@@ -106,8 +106,7 @@ module _ (w : World) where
         did = d;
         packet = q;
         end = st .channel;
-        found = subst₂ (λ (p : Packet) (s : Store). channelAt (p .destination .channel) (s .channels) ≡ some (st .channel)) (sym q) (d .acts .before)
-            (receive-found st (d .kind));
+        found = rw q (receive-found st (d .kind));
         source = ap (λ (p : Packet). p .source) q ∙ same-end _ _ (f .1);
         destination = ap (λ (p : Packet). p .destination) q ∙ own;
       }

@@ -23,7 +23,7 @@ use Rattle.rules.proofs.Acted.{Acted, acted-sent, acted-carried}
 use Rattle.rules.proofs.History.{side-refl, made-read, World, ledger, Turn, Quiet, turn, turn-count, quiet-count}
 
 -- what counts for the sum: a call of this kind, on this channel
-module _ (z : Side) (n : ℕ) (c : Call) (on : c .side ≡ z) (told : c .told .number ≡ 0) (a : Acted c) where
+module _ (z : Side) (n : ℕ) (c : Call) (on : c .side ≡ z) (told : c .told .number ≡ 0) {s t : Store} (a : Acted c s t) where
   abbrev kind : ℕ
   kind = datagramIn (c .datagram) .kind
 
@@ -82,8 +82,6 @@ module _ (w : World) (z : Side) (n : ℕ) where
           let x : (k : ℕ) → tally k (suc i) ≡ pick (isBy z n (emits (256 + k)) (u .call)) 1 0 + tally k i =
           λ k. turn-count w u (isBy z n (emits (256 + k))) in
           let y = counts z n (u .call) (u .acts .side) (u .acts .told) a in
-          let e = ap (λ (s : Store). commitments n (s .records)) (u .acts .before) in
-          let f = ap (λ (s : Store). commitments n (s .records)) (u .acts .after) in
           omega (arith, sum (a .step) n, rw (y 1 (λ q. inl q)) at (x 1), rw (y 4 (λ q. inr (inl q))) at (x 4), rw (y 5 (λ q. inr (inr q))) at (x 5))
 
 pub sums : (w : World) → Sums (w .start) (w .calls)

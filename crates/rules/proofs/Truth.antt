@@ -119,7 +119,7 @@ module _ (w : World) (honest : Honest (w .start) (w .calls)) where
     unfolding sentPacket commitment
     sent-same i c d k j u n =
         let st = u .acts .acted .step in
-        let f = subst₂ (λ (x : ℕ) (s : Store). channelAt x (s .channels) ≡ some (st .channel)) (n .channel) (u .acts .before) (own-found st) in
+        let f = subst (λ (x : ℕ). channelAt x (ledger w (across (c .side)) j .channels) ≡ some (st .channel)) (n .channel) (own-found st) in
         let e = source-end i c d j (st .channel) f in
         let a = n .sequence in
         let b = ap (λ (r : Record). r .timeout) (sym (n .committed)) ∙ k .timeout in
@@ -204,10 +204,10 @@ module _ (w : World) (honest : Honest (w .start) (w .calls)) where
       abbrev v : Verdict
       v = datagramIn (e .datagram) .verdict
 
-      abbrev st : Step (storeIn (e .store)) (datagramIn (e .datagram)) (storeIn (e .storeLeft))
+      abbrev st : Step (ledger w (e .side) j) (datagramIn (e .datagram)) (ledger w (e .side) (suc j))
       st = f .acts .acted .step
 
-      ok : TimeoutOk (storeIn (e .store)) (datagramIn (e .datagram)) (st .channel)
+      ok : TimeoutOk (ledger w (e .side) j) (datagramIn (e .datagram)) (st .channel)
       ok = timeout-of st (f .kind)
 
       e-packet : packetOf e ≡ p
@@ -219,16 +219,13 @@ module _ (w : World) (honest : Honest (w .start) (w .calls)) where
       sequence : p .sequence ≡ packetOf c .sequence
       sequence = sym (same-sequence ∙ ap (λ (x : Packet). x .sequence) e-packet)
 
-      here : storeIn (e .store) ≡ ledger w (across (c .side)) j
-      here = f .acts .before ∙ ap (λ (y : Side). ledger w y j) across-is
-
       -- both go by one commitment, so by one timeout
       one-timeout : p .timeout ≡ datagramIn (c .datagram) .packet .timeout
       unfolding isCommitted
       one-timeout =
           let k = claimed i c d in
           let r = has-values (p .timeout) (p .digest) _ (ok .committed) in
-          let there = subst₃ (λ (s : Store) (n m : ℕ). lookup (commitmentKey n m) (s .records) ≡ some (r .stored)) here source sequence (r .there) in
+          let there = subst₃ (λ (y : Side) (n m : ℕ). lookup (commitmentKey n m) (ledger w y j .records) ≡ some (r .stored)) across-is source sequence (r .there) in
           let one : k .stored ≡ r .stored = ⊎-elim
           (λ l. one-record (across (c .side)) _ _ (k .time) j l (k .there) there)
           (λ l. sym (one-record (across (c .side)) _ _ j (k .time) l there (k .there))) (either (k .time) j) in
@@ -237,7 +234,7 @@ module _ (w : World) (honest : Honest (w .start) (w .calls)) where
       -- the time-out's end is the one that the packet was sent from, and names the one that it came to
       sent-from : (st .channel .counterparty ≡ packetOf c .destination) × (st .channel .order ≡ d .end .order)
       sent-from =
-          let g = subst₂ (λ (n : ℕ) (s : Store). channelAt n (s .channels) ≡ some (st .channel)) (finish-source st (inr (f .kind)) ∙ source) here (own-found st) in
+          let g = subst₂ (λ (n : ℕ) (y : Side). channelAt n (ledger w y j .channels) ≡ some (st .channel)) (finish-source st (inr (f .kind)) ∙ source) across-is (own-found st) in
           let q = source-end i c d j (st .channel) g in
           (q .1, q .2)
 
