@@ -1,22 +1,12 @@
 -- What a sound datagram tells, and bounds of its parts. Assumes nothing.
-use mathlib.Core.Path.{_≡_}
-use mathlib.Core.Bool.{Bool, true, not}
-use mathlib.Core.List.{List}
-use mathlib.Core.Logic.{inl, inr}
-use Prim.Native.Nat.{ℕ, _+_, _^_, _≤_, _<_}
-use native.Mathlib.Omega.{arith}
-use lib.Dec.{eqb}
-use lib.ListN.{length}
-use borrow.Author.Tests.{ltb-true, leb-true, eqb-true, eq-eqb, not-true}
-use Rattle.wire.specs.Choice.{_or_, pick}
-use Rattle.wire.specs.Bytes.{Bytes, digestSize}
-use Rattle.wire.proofs.ChoiceLaws.{and-both, or-either, clash, cases}
-use Rattle.wire.proofs.BytesLaws.{field-below, length-part, bytes-part}
-use Rattle.store.proofs.LayoutLaws.{EndFields, TimeoutFields}
+use Rattle.wire.proofs.Prelude.{_≡_, Bool, true, not, List, inl, inr, ℕ, _+_, _^_, _≤_, _<_, arith, eqb, length}
+use Rattle.wire.proofs.Prelude.{ltb-true, leb-true, eqb-true, eq-eqb, not-true}
+use Rattle.wire.specs.Names.{_or_, pick, Bytes, digestSize}
+use Rattle.wire.proofs.Laws.{and-both, or-either, clash, cases, field-below, length-part, bytes-part}
+use Rattle.store.proofs.Laws.{EndFields, TimeoutFields}
 use Rattle.datagram.specs.declared.Packet.{Packet}
-use Rattle.datagram.specs.Datagram.{bodyFrom, packetSize, sizeOfKind, isProved, isSound}
-use Rattle.datagram.specs.Datagram.{kindIn, contextIn, packetIn}
-use Rattle.datagram.specs.Datagram.{packetFrom, timeoutFrom, sequenceFrom, digestFrom}
+use Rattle.datagram.specs.Names.{bodyFrom, packetSize, sizeOfKind, isProved, isSound, kindIn, contextIn, packetIn}
+use Rattle.datagram.specs.Names.{packetFrom, timeoutFrom, sequenceFrom, digestFrom}
 
 -- what a well-formed datagram tells
 pub record Sound (d : List ℕ) : Type 0 where

@@ -1,17 +1,10 @@
 -- What is handed out is read back: the kind and the packet of a framed record. Assumes nothing.
-use mathlib.Core.Path.{_≡_}
-use mathlib.Core.List.{List, [], _++_, append-nil}
-use Prim.Native.Nat.{ℕ, _^_, _<_}
-use native.Mathlib.Omega.{arith}
-use lib.ListN.{length}
-use lib.Seq.{take-at}
-use Rattle.wire.specs.Bytes.{Bytes, little, field, part, digestSize}
-use Rattle.wire.proofs.EveryLaws.{every-append}
-use Rattle.wire.proofs.BytesLaws.{Byte, read-little, bytes-little}
-use Rattle.store.proofs.LayoutLaws.{read-end, read-timeout}
+use Rattle.wire.proofs.Prelude.{_≡_, List, [], _++_, append-nil, ℕ, _^_, _<_, arith, length, take-at}
+use Rattle.wire.specs.Names.{Bytes, little, field, part, digestSize}
+use Rattle.wire.proofs.Laws.{every-append, Byte, read-little, bytes-little}
+use Rattle.store.proofs.Laws.{read-end, read-timeout}
 use Rattle.datagram.specs.declared.Packet.{Packet}
-use Rattle.datagram.specs.Datagram.{packetSize, kindIn, packetIn}
-use Rattle.datagram.specs.Emitted.{framed, packetBytes, emittedPacket}
+use Rattle.datagram.specs.Names.{packetSize, kindIn, packetIn, framed, packetBytes, emittedPacket}
 use Rattle.datagram.proofs.DatagramLaws.{PacketFields}
 
 pub kind-framed : (k : ℕ) (bs : List ℕ) → k < 256 ^ 2 → kindIn (framed k bs) ≡ k

@@ -1,19 +1,11 @@
 -- What an accepted datagram of each kind tells: the one place that opens the table of answers. Assumes nothing.
-use mathlib.Core.Path.{_≡_}
-use mathlib.Core.Bool.{true, false, not}
-use mathlib.Core.List.{List}
-use Prim.Native.Nat.{ℕ}
-use lib.Dec.{eqb}
-use borrow.Author.Tests.{eqb-true, not-false}
-use Rattle.wire.specs.Choice.{_and_, _or_, isSome}
+use Rattle.wire.proofs.Prelude.{_≡_, true, false, not, List, ℕ, eqb, eqb-true, not-false}
+use Rattle.wire.specs.Names.{_and_, _or_, isSome}
 use Rattle.store.specs.declared.Channel.{Channel}
-use Rattle.store.specs.Limits.{top}
-use Rattle.store.specs.Table.{hasFree, acknowledgementKey, lookup}
-use Rattle.store.specs.Layout.{Store}
-use Rattle.store.specs.Ordering.{isReceived}
-use Rattle.datagram.specs.Datagram.{Datagram}
-use Rattle.rules.specs.Ordering.{isReceiptThere, isAtTop, needsRecord}
-use Rattle.rules.specs.Refusals.{only, lowest, table, fitsPacket, isLate, isProvedLate, isCommitted, verdictDifference, isInOrder, isThere}
+use Rattle.store.specs.Names.{top, hasFree, acknowledgementKey, lookup, Store, isReceived}
+use Rattle.datagram.specs.Names.{Datagram}
+use Rattle.rules.specs.Names.{isReceiptThere, isAtTop, needsRecord, only, lowest, table, fitsPacket, isLate}
+use Rattle.rules.specs.Names.{isProvedLate, isCommitted, verdictDifference, isInOrder, isThere}
 use Rattle.rules.proofs.RefusalLaws.{givenAt, silent, not-given}
 
 pub record SendOk (s : Store) (c : Channel) : Type 0 where

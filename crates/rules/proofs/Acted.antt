@@ -1,41 +1,33 @@
 -- An accepted call as its caller saw it: a step from the store that it got to the store that it left, and what its
 -- emitted record says. A refused call changes nothing. Assumes nothing.
-use mathlib.Core.Path.{_≡_, refl, sym, ap, _∙_}
-use mathlib.Core.Bool.{true}
-use mathlib.Core.List.{List, [], _++_, append-nil}
-use Prim.Native.Nat.{ℕ, _+_}
-use native.Mathlib.Omega.{arith}
-use lib.Dec.{eqb}
-use lib.ListN.{length, drop}
-use lib.Seq.{take-append-seam, drop-append-seam}
-use borrow.Author.Tests.{eqb-true, eqb-false, eq-eqb, ne-eqb}
-use Rattle.wire.specs.Choice.{_and_, _or_, pick}
-use Rattle.wire.specs.Bytes.{Bytes}
-use Rattle.wire.proofs.ChoiceLaws.{cases}
+use Rattle.wire.proofs.Prelude.{_≡_, refl, sym, ap, _∙_, true, List, [], _++_, append-nil, ℕ, _+_, arith, eqb, length}
+use Rattle.wire.proofs.Prelude.{drop, take-append-seam, drop-append-seam, eqb-true, eqb-false, eq-eqb, ne-eqb}
+use Rattle.wire.specs.Names.{_and_, _or_, pick, Bytes}
+use Rattle.wire.proofs.Laws.{cases}
 use Rattle.store.specs.declared.Channel.{Channel}
-use Rattle.store.specs.Layout.{Store, storeIn, bytesOf}
-use Rattle.store.proofs.LayoutLaws.{bytes-of, read-back}
+use Rattle.store.specs.Names.{Store, storeIn, bytesOf}
+use Rattle.store.proofs.Laws.{bytes-of, read-back}
 use Rattle.datagram.specs.declared.Packet.{Packet}
-use Rattle.datagram.specs.Datagram.{Datagram, datagramIn, kindIn, isProved, packetSize}
-use Rattle.datagram.specs.Emitted.{framed, packetBytes, emittedPacket}
-use Rattle.datagram.proofs.DatagramLaws.{PacketFields}
-use Rattle.datagram.proofs.EmittedLaws.{kind-framed, length-packet, packet-framed}
+use Rattle.datagram.specs.Names.{Datagram, datagramIn, kindIn, isProved, packetSize, framed, packetBytes, emittedPacket}
+use Rattle.datagram.proofs.Laws.{PacketFields, kind-framed, length-packet, packet-framed}
 use Rattle.rules.specs.declared.Told.{Told}
-use Rattle.rules.specs.Acceptance.{Effect, sentPacket, sends, receives, writesAcknowledgement, acknowledges, timesOut}
-use Rattle.rules.specs.Call.{Answer, answerTo, effectIn, nextStore, accepted, refused, called}
-use Rattle.rules.specs.Promise.{Call, Met, emitted, packetOf}
+use Rattle.rules.specs.Names.{Effect, sentPacket, sends, receives, writesAcknowledgement, acknowledges, timesOut}
+use Rattle.rules.specs.Names.{Answer, answerTo, effectIn, nextStore, accepted, refused, called, Call, Met}
+use Rattle.rules.specs.Names.{emitted, packetOf}
 use Rattle.rules.proofs.Step.{How, sending, receiving, writing, acknowledging, timing, Step}
 use Rattle.rules.proofs.Bridge.{accepted-step}
 
 -- THE ANSWER, by whether a line of the table gave a number
 called-accepted : (bs o b : List ℕ) → called bs o b .told .number ≡ 0 →
-    (answerTo bs o b ≡ 0) × (called bs o b ≡ accepted (nextStore (storeIn bs) (datagramIn b)) (effectIn (storeIn bs) (datagramIn b) .emitted) o)
+    (answerTo bs o b ≡ 0) × (called bs o b ≡ accepted (nextStore (storeIn bs) (datagramIn b))
+    (effectIn (storeIn bs) (datagramIn b) .emitted) o)
 unfolding called
 called-accepted bs o b h =
     cases (eqb (answerTo bs o b) 0) (λ e. (eqb-true (answerTo bs o b) 0 e, rw (called, e) refl))
     (λ e. let z : answerTo bs o b ≡ 0 = cc in absurd (eqb-false (answerTo bs o b) 0 e z))
 
-called-refused : (bs o b : List ℕ) → (called bs o b .told .number ≡ 0 → ⊥) → called bs o b ≡ refused (answerTo bs o b) bs o
+called-refused : (bs o b : List ℕ) → (called bs o b .told .number ≡ 0 → ⊥) →
+    called bs o b ≡ refused (answerTo bs o b) bs o
 unfolding called
 called-refused bs o b h =
     cases (eqb (answerTo bs o b) 0) (λ e. absurd (h (cc))) (λ e. rw (called, e) refl)
@@ -64,7 +56,8 @@ packet-emitted (writing k ok) n = absurd (n k)
 packet-emitted (acknowledging k ok) n = rw k refl
 packet-emitted (timing k ok) n = rw (k, append-nil) refl
 
-fields-emitted : {s : Store} {d : Datagram} {c : Channel} {e : Effect} → PacketFields (sentPacket c d) → (isProved (d .kind) ≡ true → PacketFields (d .packet)) →
+fields-emitted : {s : Store} {d : Datagram} {c : Channel} {e : Effect} → PacketFields (sentPacket c d) →
+    (isProved (d .kind) ≡ true → PacketFields (d .packet)) →
     How s d c e → (d .kind ≡ 3 → ⊥) → PacketFields (packetFor c d)
 unfolding isProved _or_ sentPacket
 fields-emitted f g (sending k ok) n = rw k f
@@ -80,7 +73,8 @@ pub record Acted (c : Call) (s t : Store) : Type 0 where
   pub emits : (datagramIn (c .datagram) .kind ≡ 3 → ⊥) →
       emitted c ≡ framed (256 + datagramIn (c .datagram) .kind)
       (packetBytes (packetFor (step .channel) (datagramIn (c .datagram))) ++ restFor (datagramIn (c .datagram)))
-  pub fields : (datagramIn (c .datagram) .kind ≡ 3 → ⊥) → PacketFields (packetFor (step .channel) (datagramIn (c .datagram)))
+  pub fields : (datagramIn (c .datagram) .kind ≡ 3 → ⊥) →
+      PacketFields (packetFor (step .channel) (datagramIn (c .datagram)))
 
 module _ (c : Call) (met : Met c) where
   abbrev answer : Answer
@@ -94,7 +88,8 @@ module _ (c : Call) (met : Met c) where
 
   module _ (told : c .told .number ≡ 0) where
     pub accepts : (answerTo (c .store) (c .output) (c .datagram) ≡ 0) × (answer ≡ accepted next out (c .output))
-    accepts = called-accepted (c .store) (c .output) (c .datagram) (ap (λ (t : Told). t .number) (sym (met .told)) ∙ told)
+    accepts = called-accepted (c .store) (c .output) (c .datagram)
+        (ap (λ (t : Told). t .number) (sym (met .told)) ∙ told)
 
     pub accepted-store : c .storeLeft ≡ bytesOf next
     accepted-store = met .store ∙ ap (λ (a : Answer). a .store) (accepts .1)
@@ -111,9 +106,11 @@ module _ (c : Call) (met : Met c) where
     pub accepted-rest : drop (c .told .size) (c .outputLeft) ≡ drop (c .told .size) (c .output)
     accepted-rest = rw (accepted-size, accepted-output) (drop-append-seam out (drop (length out) (c .output)))
 
-  pub refused-call : (c .told .number ≡ 0 → ⊥) → (c .told .size ≡ 0) × (c .storeLeft ≡ c .store) × (c .outputLeft ≡ c .output)
+  pub refused-call : (c .told .number ≡ 0 → ⊥) → (c .told .size ≡ 0) × (c .storeLeft ≡ c .store) ×
+      (c .outputLeft ≡ c .output)
   refused-call n =
-      let r = called-refused (c .store) (c .output) (c .datagram) (λ q. n (ap (λ (t : Told). t .number) (met .told) ∙ q)) in (
+      let r = called-refused (c .store) (c .output) (c .datagram)
+      (λ q. n (ap (λ (t : Told). t .number) (met .told) ∙ q)) in (
         ap (λ (t : Told). t .size) (met .told) ∙ ap (λ (a : Answer). a .told .size) r,
         met .store ∙ ap (λ (a : Answer). a .store) r,
         met .output ∙ ap (λ (a : Answer). a .output) r,
@@ -125,7 +122,8 @@ module _ (c : Call) (met : Met c) where
         let a = accepted-step (c .store) (c .output) (c .datagram) bs bd (accepts told .0) in
         let d : Datagram = datagramIn (c .datagram) in
         let st = a .step in
-        let out-is : emitted c ≡ st .effect .emitted = accepted-record told ∙ ap (λ (e : Effect). e .emitted) (sym (a .effect)) in
+        let out-is : emitted c ≡ st .effect .emitted = accepted-record told ∙
+        ap (λ (e : Effect). e .emitted) (sym (a .effect)) in
         record {
           step = record {
             fits = st .fits;
@@ -156,9 +154,11 @@ module _ {c : Call} {s t : Store} (a : Acted c s t) (n : datagramIn (c .datagram
   pub acted-packet : packetOf c ≡ packetFor (a .step .channel) (datagramIn (c .datagram))
   acted-packet =
       ap emittedPacket (a .emits n) ∙
-      packet-framed _ (packetFor (a .step .channel) (datagramIn (c .datagram))) (restFor (datagramIn (c .datagram))) (a .fields n)
+      packet-framed _ (packetFor (a .step .channel) (datagramIn (c .datagram))) (restFor (datagramIn (c .datagram)))
+      (a .fields n)
 
-  pub acted-bytes : (datagramIn (c .datagram) .kind ≡ 4 → ⊥) → emitted c ≡ framed (256 + datagramIn (c .datagram) .kind) (packetBytes (packetOf c))
+  pub acted-bytes : (datagramIn (c .datagram) .kind ≡ 4 → ⊥) →
+      emitted c ≡ framed (256 + datagramIn (c .datagram) .kind) (packetBytes (packetOf c))
   acted-bytes k =
       let q = ne-eqb (datagramIn (c .datagram) .kind) 4 k in
       a .emits n ∙ rw (acted-packet, q, append-nil) refl
@@ -168,12 +168,14 @@ module _ {c : Call} {s t : Store} (a : Acted c s t) (n : datagramIn (c .datagram
 
 -- sent, or carried by the datagram
 module _ {c : Call} {s t : Store} (a : Acted c s t) where
-  pub acted-sent : datagramIn (c .datagram) .kind ≡ 1 → packetOf c ≡ sentPacket (a .step .channel) (datagramIn (c .datagram))
+  pub acted-sent : datagramIn (c .datagram) .kind ≡ 1 →
+      packetOf c ≡ sentPacket (a .step .channel) (datagramIn (c .datagram))
   acted-sent k =
       let q = eq-eqb (datagramIn (c .datagram) .kind) 1 k in
       acted-packet a (λ w. omega arith) ∙ rw q refl
 
-  pub acted-carried : (datagramIn (c .datagram) .kind ≡ 1 → ⊥) → (datagramIn (c .datagram) .kind ≡ 3 → ⊥) → packetOf c ≡ datagramIn (c .datagram) .packet
+  pub acted-carried : (datagramIn (c .datagram) .kind ≡ 1 → ⊥) → (datagramIn (c .datagram) .kind ≡ 3 → ⊥) →
+      packetOf c ≡ datagramIn (c .datagram) .packet
   acted-carried m n =
       let q = ne-eqb (datagramIn (c .datagram) .kind) 1 m in
       acted-packet a n ∙ rw q refl

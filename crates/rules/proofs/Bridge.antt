@@ -1,36 +1,23 @@
 -- From bytes to stores: an accepted call is a step, what it leaves is bytes and is read back; a refused one changes
 -- nothing. Assumes nothing.
-use mathlib.Core.Path.{_≡_, refl, subst, _∙_}
-use mathlib.Core.Bool.{true, false}
-use mathlib.Core.List.{List}
-use mathlib.Core.Logic.{⊎-elim}
-use mathlib.Core.Option.{Option, none, some}
-use Prim.Native.Nat.{ℕ, _+_, _≤_, _<_, _^_}
-use native.Mathlib.Omega.{arith}
-use lib.Dec.{eqb}
-use lib.ListN.{length}
-use borrow.Author.Tests.{eqb-false, not-false}
-use Rattle.wire.specs.Choice.{_or_, isSome}
-use Rattle.wire.specs.Bytes.{Bytes, noDigest, digestSize}
-use Rattle.wire.proofs.ChoiceLaws.{cases, of-pick, clash}
-use Rattle.wire.proofs.BytesLaws.{bytes-zeros}
+use Rattle.wire.proofs.Prelude.{_≡_, refl, subst, _∙_, true, false, List, ⊎-elim, Option, none, some, ℕ, _+_, _≤_, _<_}
+use Rattle.wire.proofs.Prelude.{_^_, arith, eqb, length, eqb-false, not-false}
+use Rattle.wire.specs.Names.{_or_, isSome, Bytes, noDigest, digestSize}
+use Rattle.wire.proofs.Laws.{cases, of-pick, clash, bytes-zeros}
 use Rattle.store.specs.declared.Channel.{Channel}
 use Rattle.store.specs.declared.Counters.{Counters}
 use Rattle.store.specs.declared.Record.{Record}
-use Rattle.store.specs.Limits.{top}
-use Rattle.store.specs.Table.{isNumbered, hasKey, channelAt}
-use Rattle.store.specs.Layout.{Store, storeIn}
-use Rattle.store.specs.Ordering.{isOrdered}
-use Rattle.store.specs.Fit.{isFit}
-use Rattle.store.proofs.TableLaws.{Each, each-find, each-insert, each-replace, length-insert, length-replace}
-use Rattle.store.proofs.LayoutLaws.{CounterFields, ChannelFields, RecordFields, StoreFields}
-use Rattle.store.proofs.FitLaws.{fit-fields, fit-store}
-use Rattle.datagram.specs.Datagram.{Datagram, datagramIn, kindIn, channelFrom, isProved, isSound}
-use Rattle.datagram.proofs.DatagramLaws.{Sound, sound-is, PacketFields, packet-fields, timeout-fields, sequence-below, length-digest, bytes-digest, height-below, time-below}
-use Rattle.rules.specs.Ordering.{Edit, keeps, writes, frees, plainRecord, counted, closed, raisedSend, raisedReceive, raisedAcknowledge, raisesReceive, raisesAcknowledge, receivedEnd, receivedEdit, acknowledgedEnd, timedOutEnd}
-use Rattle.rules.specs.Refusals.{table, refusals, orNone, endFor}
-use Rattle.rules.specs.Acceptance.{Effect, sentPacket, commitment, sends, receives, writesAcknowledgement, acknowledges, timesOut, edited, applied}
-use Rattle.rules.specs.Call.{answerTo, effectIn, nextStore}
+use Rattle.store.specs.Names.{top, isNumbered, hasKey, channelAt, Store, storeIn, isOrdered, isFit}
+use Rattle.store.proofs.Laws.{Each, each-find, each-insert, each-replace, length-insert, length-replace, CounterFields}
+use Rattle.store.proofs.Laws.{ChannelFields, RecordFields, StoreFields, fit-fields, fit-store}
+use Rattle.datagram.specs.Names.{Datagram, datagramIn, kindIn, channelFrom, isProved, isSound}
+use Rattle.datagram.proofs.Laws.{Sound, sound-is, PacketFields, packet-fields, timeout-fields, sequence-below}
+use Rattle.datagram.proofs.Laws.{length-digest, bytes-digest, height-below, time-below}
+use Rattle.rules.specs.Names.{Edit, keeps, writes, frees, plainRecord, counted, closed, raisedReceive}
+use Rattle.rules.specs.Names.{raisedAcknowledge, raisesReceive, raisesAcknowledge, receivedEnd, receivedEdit}
+use Rattle.rules.specs.Names.{acknowledgedEnd, timedOutEnd, table, refusals, orNone, endFor, Effect, sentPacket}
+use Rattle.rules.specs.Names.{commitment, sends, receives, writesAcknowledgement, acknowledges, timesOut, edited}
+use Rattle.rules.specs.Names.{applied, answerTo, effectIn, nextStore}
 use Rattle.rules.proofs.RefusalLaws.{givenAt, silent, not-given}
 use Rattle.rules.proofs.OrderingLaws.{receive-below, acknowledge-below}
 use Rattle.rules.proofs.Step.{How, sending, receiving, writing, acknowledging, timing, how, Shape, Step}
@@ -41,31 +28,62 @@ raised n h e = let z = eqb-false n top e in omega arith
 
 counted-fields : {c : Channel} {n : Counters} → ChannelFields c → CounterFields n → ChannelFields (counted c n)
 unfolding counted
-counted-fields h k = record { state = h .state; order = h .order; own = h .own; counterparty = h .counterparty; next = k }
+counted-fields h k = record {
+  state = h .state;
+  order = h .order;
+  own = h .own;
+  counterparty = h .counterparty;
+  next =
+      k;
+}
 
 closed-fields : {c : Channel} → ChannelFields c → ChannelFields (closed c)
 unfolding closed
-closed-fields h = record { state = omega arith; order = h .order; own = h .own; counterparty = h .counterparty; next = h .next }
+closed-fields h = record {
+  state = omega arith;
+  order = h .order;
+  own = h .own;
+  counterparty = h .counterparty;
+  next =
+      h .next;
+}
 
-end-fields : {s : Store} {d : Datagram} {c : Channel} {e : Effect} → ChannelFields c → How s d c e → ChannelFields (e .end)
+end-fields : {s : Store} {d : Datagram} {c : Channel} {e : Effect} → ChannelFields c → How s d c e →
+    ChannelFields (e .end)
 unfolding sends receives writesAcknowledgement acknowledges timesOut receivedEnd acknowledgedEnd timedOutEnd
 end-fields {c = c} h (sending k ok) =
     counted-fields h
-    (record { send = raised (c .next .send) (h .next .send) (ok .below); receive = h .next .receive; acknowledge = h .next .acknowledge })
+    (record {
+      send = raised (c .next .send) (h .next .send) (ok .below);
+      receive = h .next .receive;
+      acknowledge =
+          h .next .acknowledge;
+    })
 end-fields {c = c} h (receiving k ok) =
     of-pick ChannelFields (raisesReceive c) (counted c (raisedReceive (c .next))) c
     (λ q. counted-fields h
-    (record { send = h .next .send; receive = raised (c .next .receive) (h .next .receive) (receive-below c q (ok .below)); acknowledge = h .next .acknowledge }))
+    (record {
+      send = h .next .send;
+      receive = raised (c .next .receive) (h .next .receive)
+          (receive-below c q (ok .below));
+      acknowledge = h .next .acknowledge;
+    }))
     (λ q. h)
 end-fields {c = c} h (writing k ok) = h
 end-fields {c = c} h (acknowledging k ok) =
     of-pick ChannelFields (raisesAcknowledge c) (counted c (raisedAcknowledge (c .next))) c
     (λ q. counted-fields h
-    (record { send = h .next .send; receive = h .next .receive; acknowledge = raised (c .next .acknowledge) (h .next .acknowledge) (acknowledge-below c q (ok .below)) }))
+    (record {
+      send = h .next .send;
+      receive = h .next .receive;
+      acknowledge =
+          raised (c .next .acknowledge) (h .next .acknowledge) (acknowledge-below c q (ok .below));
+    }))
     (λ q. h)
 end-fields {c = c} h (timing k ok) = of-pick ChannelFields (isOrdered c) (closed c) c (λ q. closed-fields h) (λ q. h)
 
-plain-fields : (k n m : ℕ) (a : List ℕ) → 1 ≤ k → k ≤ 3 → n < 256 ^ 4 → m < 256 ^ 8 → length a ≡ digestSize → Bytes a → RecordFields (plainRecord k n m a)
+plain-fields : (k n m : ℕ) (a : List ℕ) → 1 ≤ k → k ≤ 3 → n < 256 ^ 4 → m < 256 ^ 8 → length a ≡ digestSize → Bytes a →
+    RecordFields (plainRecord k n m a)
 unfolding plainRecord
 plain-fields k n m a l u p q z b =
     record {
@@ -106,7 +124,8 @@ module _ (s : Store) (b : List ℕ) (c : Channel) (fields : StoreFields s) (byte
   written-fields : RecordFields (plainRecord 3 (c .own .channel) (datagramIn b .sequence) (datagramIn b .digest))
   unfolding datagramIn
   written-fields =
-      plain-fields 3 (c .own .channel) _ _ (omega arith) (omega arith) (channel-fields .own .channel) (sequence-below b bytes)
+      plain-fields 3 (c .own .channel) _ _ (omega arith) (omega arith) (channel-fields .own .channel)
+      (sequence-below b bytes)
       (length-digest b sound) (bytes-digest (kindIn b) b bytes)
 
   new-fields : (e : Effect) (r : Record) → How s (datagramIn b) c e → e .edit ≡ writes r → RecordFields r
@@ -127,7 +146,8 @@ module _ (s : Store) (b : List ℕ) (c : Channel) (fields : StoreFields s) (byte
       cases (raisesReceive c) (λ p. let z : _≡_ {A = ℕ} 0 1 = cc in absurd (omega arith))
       (λ p.
       let z : plainRecord 2 (c .own .channel) (datagramIn b .packet .sequence) noDigest ≡ r = cc in
-      subst RecordFields z (plain-fields 2 (c .own .channel) (datagramIn b .packet .sequence) noDigest (omega arith) (omega arith)
+      subst RecordFields z (plain-fields 2 (c .own .channel) (datagramIn b .packet .sequence) noDigest (omega arith)
+      (omega arith)
       (channel-fields .own .channel) (carried-fields (proved-two k) .sequence) refl (bytes-zeros digestSize)))
   new-fields e r (writing k ok) q =
       let z : plainRecord 3 (c .own .channel) (datagramIn b .sequence) (datagramIn b .digest) ≡ r = cc in
@@ -148,14 +168,22 @@ module _ (s : Store) (b : List ℕ) (c : Channel) (fields : StoreFields s) (byte
         slots = length-replace _ _ (s .channels) ∙ fields .slots;
         low = omega arith;
         high = omega arith;
-        channels = each-replace ChannelFields _ (some (e .end)) (s .channels) (end-fields channel-fields h, tt) (fields .channels);
+        channels = each-replace ChannelFields _ (some (e .end)) (s .channels) (end-fields channel-fields h, tt)
+            (fields .channels);
         records = r .1;
       }
     where
-      records : (x : Edit) → e .edit ≡ x → (length (edited x (s .records)) ≡ length (s .records)) × Each RecordFields (edited x (s .records))
+      records : (x : Edit) → e .edit ≡ x → (length (edited x (s .records)) ≡ length (s .records)) ×
+          Each RecordFields (edited x (s .records))
       records keeps q = (refl, fields .records)
-      records (writes r) q = (length-insert r (s .records), each-insert RecordFields r (s .records) (new-fields e r h q) (fields .records))
-      records (frees k) q = (length-replace (hasKey k) none (s .records), each-replace RecordFields (hasKey k) none (s .records) tt (fields .records))
+      records (writes r) q = (
+        length-insert r (s .records),
+        each-insert RecordFields r (s .records) (new-fields e r h q) (fields .records),
+      )
+      records (frees k) q = (
+        length-replace (hasKey k) none (s .records),
+        each-replace RecordFields (hasKey k) none (s .records) tt (fields .records),
+      )
 
 -- ACCEPTED: a step, to a store whose fields fit
 shape : (b : List ℕ) → Sound b → Shape (datagramIn b)

@@ -1,21 +1,24 @@
 -- The sixteen worked cases. Assumes nothing.
-use mathlib.Core.Path.{refl}
-use Rattle.wire.specs.Choice.{_and_, _or_}
-use Rattle.wire.specs.Bytes.{same, areZero, little, numberOf, part, field, pieces}
-use Rattle.store.specs.Height.{isPast, sameTimeout}
-use Rattle.store.specs.Table.{find, replace, insert, hasFree, count, all, distinct, isNumbered, sameEnd, hasKey, isCommitmentOn}
-use Rattle.store.specs.Layout.{roomIn, channelBytes, recordBytes, slotBytes, tableBytes, headerBytes, bytesOf, channelIn, recordIn, slotIn, storeIn}
-use Rattle.store.specs.Ordering.{isOrdered, isReceived}
-use Rattle.store.specs.Fit.{channelFits, channelsFit, fitsEnd, recordFits, recordsFit, storeFits, sizeFits, isFit}
-use Rattle.store.specs.Maker.{openingFits, allOpeningsFit, openingOf, endsOf, makeNumber, madeStore, makeStore}
-use Rattle.datagram.specs.Datagram.{kindIn, contextIn, packetIn, verdictIn, sizeOfKind, timeoutFrom, sequenceFrom, packetFrom, digestFrom, verdictFrom, channelFrom, datagramIn, isProved, isSound}
-use Rattle.datagram.specs.Emitted.{framed, packetBytes}
-use Rattle.rules.specs.Verdict.{firstDifference, hasValues, holdsOn, claimHolds}
-use Rattle.rules.specs.Ordering.{plainRecord, counted, closed, receivesInOrder, isReceiptThere, raisesReceive, receivedEnd, receivedEdit, acknowledgesInOrder, raisesAcknowledge, acknowledgedEnd, absenceClaim, absenceSequence, timesOutInOrder, timedOutEnd, isAtTop, needsRecord}
-use Rattle.rules.specs.Refusals.{only, lowest, goesBack, noChannel, fitsPacket, isLate, isProvedLate, isCommitted, verdictDifference, isInOrder, isThere, table}
-use Rattle.rules.specs.Acceptance.{sentPacket, commitment, sends, receives, writesAcknowledgement, acknowledges, timesOut, effectOf, edited, applied}
-use Rattle.rules.specs.Call.{answerTo, effectIn, nextStore, called}
-use Rattle.rules.specs.Cases.{Cases, anOpening, aSlice, openings, fresh, aContext, aDigest, aSend, aPacket, aVerdict, aReceive, aTimeout, anOutput, afterOne, afterThirteen}
+use Rattle.wire.proofs.Prelude.{refl}
+use Rattle.wire.specs.Names.{_and_, _or_, same, areZero, little, numberOf, part, field, pieces}
+use Rattle.store.specs.Names.{isPast, sameTimeout, find, replace, insert, hasFree, count, all, distinct, isNumbered}
+use Rattle.store.specs.Names.{sameEnd, hasKey, isCommitmentOn, roomIn, channelBytes, recordBytes, slotBytes, tableBytes}
+use Rattle.store.specs.Names.{headerBytes, bytesOf, channelIn, recordIn, slotIn, storeIn, isOrdered, isReceived}
+use Rattle.store.specs.Names.{channelFits, channelsFit, fitsEnd, recordFits, recordsFit, storeFits, sizeFits, isFit}
+use Rattle.store.specs.Names.{openingFits, allOpeningsFit, openingOf, endsOf, makeNumber, madeStore, makeStore}
+use Rattle.datagram.specs.Names.{kindIn, contextIn, packetIn, verdictIn, sizeOfKind, timeoutFrom, sequenceFrom}
+use Rattle.datagram.specs.Names.{packetFrom, digestFrom, verdictFrom, channelFrom, datagramIn, isProved, isSound}
+use Rattle.datagram.specs.Names.{framed, packetBytes}
+use Rattle.rules.specs.Names.{firstDifference, hasValues, holdsOn, claimHolds, plainRecord, counted, closed}
+use Rattle.rules.specs.Names.{receivesInOrder, isReceiptThere, raisesReceive, receivedEnd, receivedEdit}
+use Rattle.rules.specs.Names.{acknowledgesInOrder, raisesAcknowledge, acknowledgedEnd, absenceClaim}
+use Rattle.rules.specs.Names.{absenceSequence, timesOutInOrder, timedOutEnd, isAtTop, needsRecord, only, lowest}
+use Rattle.rules.specs.Names.{goesBack, noChannel, fitsPacket, isLate, isProvedLate, isCommitted}
+use Rattle.rules.specs.Names.{verdictDifference, isInOrder, isThere, table, sentPacket, commitment, sends}
+use Rattle.rules.specs.Names.{receives, writesAcknowledgement, acknowledges, timesOut, effectOf, edited, applied}
+use Rattle.rules.specs.Names.{answerTo, effectIn, nextStore, called, Cases, anOpening, aSlice, openings, fresh}
+use Rattle.rules.specs.Names.{aContext, aDigest, aSend, aPacket, aVerdict, aReceive, aTimeout, anOutput, afterOne}
+use Rattle.rules.specs.Names.{afterThirteen}
 
 pub cases : Cases
 unfolding _and_ _or_ same areZero little numberOf part field pieces isPast sameTimeout find replace insert hasFree

@@ -1,27 +1,22 @@
 -- One accepted call and the commitments: each stems from a send, a sequence that is used is never used again, and to
 -- finish a packet takes its commitment and removes it. Assumes nothing.
-use mathlib.Core.Path.{_≡_, refl, sym, ap, subst, _∙_}
-use mathlib.Core.Bool.{true}
-use mathlib.Core.List.{List}
-use mathlib.Core.Logic.{_⊎_, inl, inr, ⊎-elim}
-use mathlib.Core.Option.{Option, none, some}
-use Prim.Native.Nat.{ℕ, _+_, _<_}
-use native.Mathlib.Omega.{arith}
-use lib.Dec.{eqb}
-use Rattle.wire.specs.Choice.{_and_, pick, isSome}
-use Rattle.wire.proofs.ChoiceLaws.{cases}
+use Rattle.wire.proofs.Prelude.{_≡_, refl, sym, ap, subst, _∙_, true, List, _⊎_, inl, inr, ⊎-elim, Option, none, some}
+use Rattle.wire.proofs.Prelude.{ℕ, _+_, _<_, arith, eqb}
+use Rattle.wire.specs.Names.{_and_, pick, isSome}
+use Rattle.wire.proofs.Laws.{cases}
 use Rattle.store.specs.declared.Channel.{Channel}
 use Rattle.store.specs.declared.Record.{Record}
-use Rattle.store.specs.Table.{Key, commitmentKey, lookup, remove, commitments, isCommitmentOn, channelAt}
-use Rattle.store.specs.Layout.{Store}
-use Rattle.store.specs.Fit.{storeFits}
-use Rattle.store.proofs.RecordLaws.{Single, insert-from, remove-from, lookup-remove, commitments-insert, commitments-remove}
-use Rattle.store.proofs.FitRecordLaws.{committed-end}
-use Rattle.datagram.specs.Datagram.{Datagram}
-use Rattle.rules.specs.Ordering.{Edit, writes, frees, plainRecord, raisesReceive, receivedEdit}
-use Rattle.rules.specs.Refusals.{isCommitted}
-use Rattle.rules.specs.Acceptance.{Effect, sentPacket, commitment, sends, receives, writesAcknowledgement, acknowledges, timesOut, edited}
-use Rattle.rules.proofs.Step.{How, sending, receiving, writing, acknowledging, timing, Step, Grown, Later, Legal, keeping, adding, freeing, legal, single, later, records-left, own-number, own-found, committed-there}
+use Rattle.store.specs.Names.{Key, commitmentKey, lookup, remove, commitments, isCommitmentOn, channelAt, Store}
+use Rattle.store.specs.Names.{storeFits}
+use Rattle.store.proofs.Laws.{Single, insert-from, remove-from, lookup-remove, commitments-insert, commitments-remove}
+use Rattle.store.proofs.Laws.{committed-end}
+use Rattle.datagram.specs.Names.{Datagram}
+use Rattle.rules.specs.Names.{Edit, writes, frees, plainRecord, raisesReceive, receivedEdit, isCommitted, Effect}
+use Rattle.rules.specs.Names.{sentPacket, commitment, sends, receives, writesAcknowledgement, acknowledges}
+use Rattle.rules.specs.Names.{timesOut, edited}
+use Rattle.rules.proofs.Step.{How, sending, receiving, writing, acknowledging, timing, Step, Grown, Later, Legal}
+use Rattle.rules.proofs.Step.{keeping, adding, freeing, legal, single, later, records-left, own-number}
+use Rattle.rules.proofs.Step.{own-found, committed-there}
 
 -- a sequence that was used: below next send of its end
 pub record Used (s : Store) (n m : ℕ) : Type 0 where
@@ -29,13 +24,15 @@ pub record Used (s : Store) (n m : ℕ) : Type 0 where
   pub found : channelAt n (s .channels) ≡ some channel
   pub below : m < channel .next .send
 
-pub committed-used : {s : Store} {r : Record} (n m : ℕ) → storeFits s ≡ true → lookup (commitmentKey n m) (s .records) ≡ some r → Used s n m
+pub committed-used : {s : Store} {r : Record} (n m : ℕ) → storeFits s ≡ true →
+    lookup (commitmentKey n m) (s .records) ≡ some r → Used s n m
 committed-used {s} {r} n m f h =
     let a = committed-end s n m r f h in
     record { channel = a .0; found = a .1; below = a .2 }
 
 -- an end that was there is there, grown
-pub later-some : (x y : Option Channel) (c : Channel) → Later x y → x ≡ some c → (e : Channel) × (y ≡ some e) × Grown c e
+pub later-some : (x y : Option Channel) (c : Channel) → Later x y → x ≡ some c →
+    (e : Channel) × (y ≡ some e) × Grown c e
 later-some none y c l h = let z : _≡_ {A = ℕ} 0 1 = cc in absurd (omega arith)
 later-some (some a) none c l h = absurd l
 later-some (some a) (some e) c l h = let z : a ≡ c = cc in (e, refl, subst (λ (v : Channel). Grown v e) z l)
@@ -48,7 +45,8 @@ used-stays {s} {t} {n = n} {m} st u =
     record { channel = l .0; found = l .1; below = omega arith }
 
 -- the one edit that writes a commitment is a send's
-written-by : {s : Store} {d : Datagram} {c : Channel} {e : Effect} {r : Record} → How s d c e → e .edit ≡ writes r → r .kind ≡ 1 →
+written-by : {s : Store} {d : Datagram} {c : Channel} {e : Effect} {r : Record} → How s d c e → e .edit ≡ writes r →
+    r .kind ≡ 1 →
     (d .kind ≡ 1) × (r ≡ commitment (sentPacket c d))
 unfolding sends receives writesAcknowledgement acknowledges timesOut receivedEdit plainRecord
 written-by {c = c} (sending k ok) w h = (k, cc)
@@ -67,13 +65,15 @@ pub record SentNow (d : Datagram) (c : Channel) (n m : ℕ) (r : Record) : Type 
   pub sequence : c .next .send ≡ m
 
 -- a commitment that is there was there, or this call sent it
-pub stems : {s t : Store} {d : Datagram} {r : Record} (n m : ℕ) (st : Step s d t) → lookup (commitmentKey n m) (t .records) ≡ some r →
+pub stems : {s t : Store} {d : Datagram} {r : Record} (n m : ℕ) (st : Step s d t) →
+    lookup (commitmentKey n m) (t .records) ≡ some r →
     (lookup (commitmentKey n m) (s .records) ≡ some r) ⊎ SentNow d (st .channel) n m r
 unfolding edited commitment sentPacket
 stems {s} {t} {d} {r} n m st h =
     go (st .effect .edit) refl (legal st) (ap (lookup (commitmentKey n m)) (sym (records-left st)) ∙ h)
   where
-    go : (e : Edit) → st .effect .edit ≡ e → Legal (s .records) e → lookup (commitmentKey n m) (edited e (s .records)) ≡ some r →
+    go : (e : Edit) → st .effect .edit ≡ e → Legal (s .records) e →
+        lookup (commitmentKey n m) (edited e (s .records)) ≡ some r →
         (lookup (commitmentKey n m) (s .records) ≡ some r) ⊎ SentNow d (st .channel) n m r
     go e w keeping l = inl l
     go e w (adding {r = x} room new) l =
@@ -90,17 +90,20 @@ stems {s} {t} {d} {r} n m st h =
               })
           | inr q ↦ inl q
         ]
-    go e w (freeing {c = c} {n = k} there) l = inl (remove-from (s .records) (single st) (commitmentKey c k) (commitmentKey n m) r l)
+    go e w (freeing {c = c} {n = k} there) l = inl (remove-from (s .records) (single st) (commitmentKey c k)
+        (commitmentKey n m) r l)
 
 -- so a used sequence's commitment was there
-pub used-from : {s t : Store} {d : Datagram} {r : Record} {n m : ℕ} → Step s d t → Used s n m → lookup (commitmentKey n m) (t .records) ≡ some r →
+pub used-from : {s t : Store} {d : Datagram} {r : Record} {n m : ℕ} → Step s d t → Used s n m →
+    lookup (commitmentKey n m) (t .records) ≡ some r →
     lookup (commitmentKey n m) (s .records) ≡ some r
 used-from {s} {d = d} {n = n} {m} st u h =
     elim (stems n m st h) [
       | inl q ↦ q
       | inr q ↦
           let f = u .found in
-          let g : channelAt n (s .channels) ≡ some (st .channel) = ap (λ (k : ℕ). channelAt k (s .channels)) (sym (q .channel)) ∙ own-found st in
+          let g : channelAt n (s .channels) ≡ some (st .channel) =
+          ap (λ (k : ℕ). channelAt k (s .channels)) (sym (q .channel)) ∙ own-found st in
           let e : u .channel ≡ st .channel = cc in
           let b : m < st .channel .next .send = subst (λ (c : Channel). m < c .next .send) e (u .below) in
           let a = q .sequence in
@@ -112,7 +115,8 @@ module _ {s t : Store} {d : Datagram} (st : Step s d t) (k : (d .kind ≡ 4) ⊎
   abbrev key : Key
   key = commitmentKey (d .packet .source .channel) (d .packet .sequence)
 
-  finishing : (isCommitted (s .records) (d .packet) ≡ true) × (st .effect .edit ≡ frees (commitmentKey (st .channel .own .channel) (d .packet .sequence)))
+  finishing : (isCommitted (s .records) (d .packet) ≡ true) ×
+      (st .effect .edit ≡ frees (commitmentKey (st .channel .own .channel) (d .packet .sequence)))
   unfolding acknowledges timesOut
   finishing = go (st .effect) (st .how)
     where
@@ -120,7 +124,8 @@ module _ {s t : Store} {d : Datagram} (st : Step s d t) (k : (d .kind ≡ 4) ⊎
       not-k n e l = ⊎-elim (λ q. omega arith) (λ q. omega arith) k
 
       go : (e : Effect) → How s d (st .channel) e →
-          (isCommitted (s .records) (d .packet) ≡ true) × (e .edit ≡ frees (commitmentKey (st .channel .own .channel) (d .packet .sequence)))
+          (isCommitted (s .records) (d .packet) ≡ true) ×
+          (e .edit ≡ frees (commitmentKey (st .channel .own .channel) (d .packet .sequence)))
       go e (sending q ok) = absurd (not-k 1 q (omega arith))
       go e (receiving q ok) = absurd (not-k 2 q (omega arith))
       go e (writing q ok) = absurd (not-k 3 q (omega arith))
@@ -161,10 +166,12 @@ module _ {s t : Store} {d : Datagram} (st : Step s d t) (n : ℕ) where
       (rw (finish-left st k, ← (finish-source st k)) refl)
 
   pub sum : tally 1 + commitments n (s .records) ≡ tally 4 + tally 5 + commitments n (t .records)
-  unfolding sends receives writesAcknowledgement receivedEdit edited isCommitmentOn commitment sentPacket plainRecord _and_
+  unfolding sends receives writesAcknowledgement receivedEdit edited isCommitmentOn commitment sentPacket plainRecord
+      _and_
   sum = go (st .effect) (st .how) (legal st) (records-left st)
     where
-      go : (e : Effect) → How s d (st .channel) e → Legal (s .records) (e .edit) → t .records ≡ edited (e .edit) (s .records) →
+      go : (e : Effect) → How s d (st .channel) e → Legal (s .records) (e .edit) →
+          t .records ≡ edited (e .edit) (s .records) →
           tally 1 + commitments n (s .records) ≡ tally 4 + tally 5 + commitments n (t .records)
       go e (sending k ok) l w = rw (k, w) (omega (arith, wrote (single st) l n))
       go e (receiving k ok) l w =

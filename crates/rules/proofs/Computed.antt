@@ -1,12 +1,8 @@
 -- A computed run is a list of calls as their callers saw them, so all of demand 3 holds of it. Assumes nothing.
-use mathlib.Core.Path.{_≡_, refl, subst}
-use mathlib.Core.List.{List, [], _∷_}
-use Prim.Native.Nat.{ℕ, zero, suc}
-use native.Mathlib.Omega.{arith}
-use lib.ListN.{take}
-use Rattle.wire.specs.Bytes.{Every, Bytes}
-use Rattle.rules.specs.Promise.{Side, Call, Met, At, fold, storeAfter, isOn, Made, Demand3}
-use Rattle.rules.specs.Statements.{Request, answerOn, leftBy, calls, Statements}
+use Rattle.wire.proofs.Prelude.{_≡_, refl, subst, List, [], _∷_, ℕ, zero, suc, arith, take}
+use Rattle.wire.specs.Names.{Every, Bytes}
+use Rattle.rules.specs.Names.{Side, Call, Met, At, fold, storeAfter, isOn, Made, Demand3, Request, answerOn}
+use Rattle.rules.specs.Names.{leftBy, calls, Statements}
 use Rattle.rules.proofs.Demand3.{demand3}
 use Rattle.rules.proofs.Stays.{stays}
 
@@ -16,7 +12,8 @@ record Got (start : Side → List ℕ) (cs : List Call) (i : ℕ) (c : Call) : T
   pub store : c .store ≡ storeAfter (isOn (c .side)) (start (c .side)) (take i cs)
   pub met : Met c
 
-got : (start : Side → List ℕ) (rs : List Request) → Every (λ r. Bytes (r .datagram)) rs → (i : ℕ) (c : Call) → At (calls start rs) i c →
+got : (start : Side → List ℕ) (rs : List Request) → Every (λ r. Bytes (r .datagram)) rs → (i : ℕ) (c : Call) →
+    At (calls start rs) i c →
     Got start (calls start rs) i c
 unfolding calls fold
 got start [] b i c h = let z : _≡_ {A = ℕ} 0 1 = cc in absurd (omega arith)
@@ -28,7 +25,8 @@ got start (r ∷ rs) b (suc i) c h =
     let g = got (leftBy start (answerOn (start (r .side)) r)) rs (b .1) i c h in
     record { bytes = g .bytes; store = g .store; met = g .met }
 
-computed : (start : Side → List ℕ) (rs : List Request) → ((z : Side) → Made (start z)) → Every (λ r. Bytes (r .datagram)) rs →
+computed : (start : Side → List ℕ) (rs : List Request) → ((z : Side) → Made (start z)) →
+    Every (λ r. Bytes (r .datagram)) rs →
     Demand3 start (calls start rs)
 computed start rs made b =
     demand3 start (calls start rs) made

@@ -1,16 +1,9 @@
 -- Demand 3, for every pair of made stores and every list of calls. Assumes nothing.
-use mathlib.Core.Path.{_≡_, sym, ap, _∙_}
-use mathlib.Core.List.{List}
-use Prim.Native.Nat.{ℕ}
-use lib.Dec.{eqb}
-use lib.ListN.{length}
-use borrow.Author.Tests.{eqb-true}
-use Rattle.wire.proofs.ChoiceLaws.{cases}
-use Rattle.datagram.specs.Datagram.{datagramIn}
+use Rattle.wire.proofs.Prelude.{_≡_, sym, ap, _∙_, List, ℕ, eqb, length, eqb-true}
+use Rattle.wire.proofs.Laws.{cases}
+use Rattle.datagram.specs.Names.{datagramIn}
 use Rattle.rules.specs.declared.Told.{Told}
-use Rattle.rules.specs.Refusals.{refusals}
-use Rattle.rules.specs.Call.{answerTo, called}
-use Rattle.rules.specs.Promise.{Call, Met, Answered, Demand3Holds}
+use Rattle.rules.specs.Names.{refusals, answerTo, called, Call, Met, Answered, Demand3Holds}
 use Rattle.rules.proofs.RefusalLaws.{lowest-zero}
 use Rattle.rules.proofs.Acted.{accepted-store, accepted-record, accepted-size, accepted-rest, refused-call}
 use Rattle.rules.proofs.History.{World}
@@ -35,7 +28,7 @@ answered c m =
       accepts = (λ t. l .0 (sym n ∙ t), λ q. n ∙ l .1 q);
       store = accepted-store c m;
       emits = accepted-record c m;
-      size = accepted-size c m;
+      size = λ t. accepted-size c m t ∙ ap length (sym (accepted-record c m t));
       rest = accepted-rest c m;
       refuses = refused-call c m;
     }

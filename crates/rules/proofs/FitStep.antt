@@ -1,31 +1,22 @@
 -- An accepted call leaves a fit store fit. Assumes nothing.
-use mathlib.Core.Path.{_≡_, refl, ap, subst, _∙_}
-use mathlib.Core.Bool.{true, false}
-use mathlib.Core.List.{List}
-use mathlib.Core.Logic.{_⊎_, inl, inr}
-use mathlib.Core.Option.{Option, none, some}
-use Prim.Native.Nat.{ℕ, _+_, _≤_}
-use native.Mathlib.Omega.{arith}
-use lib.Dec.{ltb, eqb}
-use borrow.Author.Tests.{ltb-true, lt-ltb, leb-true, le-leb}
-use Rattle.wire.specs.Choice.{_and_, isIn}
-use Rattle.wire.specs.Bytes.{areZero, noDigest}
-use Rattle.wire.proofs.ChoiceLaws.{and-both, both-and, clash, cases}
+use Rattle.wire.proofs.Prelude.{_≡_, refl, ap, subst, _∙_, true, false, List, _⊎_, inl, inr, Option, none, some, ℕ, _+_}
+use Rattle.wire.proofs.Prelude.{_≤_, arith, ltb, eqb, ltb-true, lt-ltb, leb-true, le-leb}
+use Rattle.wire.specs.Names.{_and_, isIn, areZero, noDigest}
+use Rattle.wire.proofs.Laws.{and-both, both-and, clash, cases}
 use Rattle.store.specs.declared.Channel.{Channel}
 use Rattle.store.specs.declared.Record.{Record}
-use Rattle.store.specs.Height.{noTimeout, sameTimeout}
-use Rattle.store.specs.Table.{receiptKey, commitmentKey, hasKey, sameKey, distinct, all, isNumbered, sameNumber, channelAt}
-use Rattle.store.specs.Layout.{Store}
-use Rattle.store.specs.Ordering.{isOrdered, isReceived}
-use Rattle.store.specs.Fit.{channelFits, channelsFit, fitsEnd, recordFits, recordsFit, storeFits}
-use Rattle.store.proofs.TableLaws.{Each, all-each, each-all, each-map, each-find, each-insert, each-replace}
-use Rattle.store.proofs.RecordLaws.{single-insert, single-remove}
-use Rattle.store.proofs.ChannelLaws.{numbers-with}
-use Rattle.store.proofs.FitRecordLaws.{fit-records}
-use Rattle.datagram.specs.Datagram.{Datagram}
-use Rattle.rules.specs.Ordering.{Edit, writes, plainRecord, counted, raisedSend, raisesReceive, receivedEnd, receivedEdit}
-use Rattle.rules.specs.Acceptance.{Effect, sentPacket, commitment, sends, receives, writesAcknowledgement, acknowledges, timesOut, edited}
-use Rattle.rules.proofs.Step.{How, sending, receiving, writing, acknowledging, timing, Step, Grown, grown-refl, Later, Legal, keeping, adding, freeing, legal, single, later, record-stays, records-left, channels-left, own-grown, own-after}
+use Rattle.store.specs.Names.{noTimeout, sameTimeout, receiptKey, commitmentKey, hasKey, sameKey, distinct, all}
+use Rattle.store.specs.Names.{isNumbered, sameNumber, channelAt, Store, isOrdered, isReceived, channelFits, channelsFit}
+use Rattle.store.specs.Names.{fitsEnd, recordFits, recordsFit, storeFits}
+use Rattle.store.proofs.Laws.{Each, all-each, each-all, each-map, each-find, each-insert, each-replace, single-insert}
+use Rattle.store.proofs.Laws.{single-remove, numbers-with, fit-records}
+use Rattle.datagram.specs.Names.{Datagram}
+use Rattle.rules.specs.Names.{Edit, writes, plainRecord, counted, raisedSend, raisesReceive, receivedEnd}
+use Rattle.rules.specs.Names.{receivedEdit, Effect, sentPacket, commitment, sends, receives}
+use Rattle.rules.specs.Names.{writesAcknowledgement, acknowledges, timesOut, edited}
+use Rattle.rules.proofs.Step.{How, sending, receiving, writing, acknowledging, timing, Step, Grown, grown-refl}
+use Rattle.rules.proofs.Step.{Later, Legal, keeping, adding, freeing, legal, single, later, record-stays}
+use Rattle.rules.proofs.Step.{records-left, channels-left, own-grown, own-after}
 use Rattle.rules.proofs.OrderingLaws as ordering
 
 -- THE END
@@ -48,7 +39,8 @@ grown-fits {c} {e} g h =
 
 -- A RECORD stays fit where its end grows and what was received stays received
 end-fits : (s t : Store) (r : Record) (x y : Option Channel) → Later x y →
-    ((c e : Channel) → Grown c e → isReceived (s .records) c (r .sequence) ≡ true → isReceived (t .records) e (r .sequence) ≡ true) →
+    ((c e : Channel) → Grown c e → isReceived (s .records) c (r .sequence) ≡ true →
+    isReceived (t .records) e (r .sequence) ≡ true) →
     fitsEnd s r x ≡ true → fitsEnd t r y ≡ true
 unfolding fitsEnd isOrdered
 end-fits s t r none y l h f = clash {b = false} f refl
@@ -63,20 +55,24 @@ end-fits s t r (some c) (some e) l h f =
     cc)
     (λ q. cases (eqb (r .kind) 2) (λ w. cc)
     (λ w.
-    let a : (eqb (r .kind) 3 and sameTimeout (r .timeout) noTimeout and isReceived (s .records) c (r .sequence)) ≡ true = cc in
+    let a : (eqb (r .kind) 3 and sameTimeout (r .timeout) noTimeout and isReceived (s .records) c
+    (r .sequence)) ≡ true = cc in
     let z = both-and (and-both a .0) (h c e l (and-both a .1)) in
     cc))
 
 -- THE NEW RECORDS
-new-commitment : (t : Store) (c e : Channel) (d : Datagram) → e .next .send ≡ c .next .send + 1 → fitsEnd t (commitment (sentPacket c d)) (some e) ≡ true
+new-commitment : (t : Store) (c e : Channel) (d : Datagram) → e .next .send ≡ c .next .send + 1 →
+    fitsEnd t (commitment (sentPacket c d)) (some e) ≡ true
 unfolding fitsEnd commitment sentPacket
 new-commitment t c e d h = lt-ltb (c .next .send) (e .next .send) (omega arith)
 
-new-receipt : (t : Store) (n m : ℕ) (e : Channel) → isOrdered e ≡ false → fitsEnd t (plainRecord 2 n m noDigest) (some e) ≡ true
+new-receipt : (t : Store) (n m : ℕ) (e : Channel) → isOrdered e ≡ false →
+    fitsEnd t (plainRecord 2 n m noDigest) (some e) ≡ true
 unfolding fitsEnd plainRecord sameTimeout areZero _and_
 new-receipt t n m e h = cc
 
-new-acknowledgement : (t : Store) (n m : ℕ) (a : List ℕ) (e : Channel) → isReceived (t .records) e m ≡ true → fitsEnd t (plainRecord 3 n m a) (some e) ≡ true
+new-acknowledgement : (t : Store) (n m : ℕ) (a : List ℕ) (e : Channel) → isReceived (t .records) e m ≡ true →
+    fitsEnd t (plainRecord 3 n m a) (some e) ≡ true
 unfolding fitsEnd plainRecord sameTimeout
 new-acknowledgement t n m a e h = both-and (both-and refl (both-and refl refl)) h
 
@@ -93,10 +89,12 @@ module _ {s t : Store} {d : Datagram} (st : Step s d t) where
       let h = and-both (and-both (st .fits) .0) in
       let f = grown-fits (own-grown st) own-fits in
       ap (λ (cs : List (Option Channel)). all channelFits cs and distinct sameNumber cs) (channels-left st) ∙
-      both-and (each-all channelFits _ (each-replace (λ c. channelFits c ≡ true) _ (some (st .effect .end)) (s .channels) (f, tt)
+      both-and (each-all channelFits _ (each-replace (λ c. channelFits c ≡ true) _ (some (st .effect .end))
+      (s .channels) (f, tt)
       (all-each channelFits (s .channels) (h .0)))) (numbers-with (st .effect .end) (s .channels) (h .1))
 
-  stays-received : (m : ℕ) (c e : Channel) → Grown c e → isReceived (s .records) c m ≡ true → isReceived (t .records) e m ≡ true
+  stays-received : (m : ℕ) (c e : Channel) → Grown c e → isReceived (s .records) c m ≡ true →
+      isReceived (t .records) e m ≡ true
   stays-received m c e g h =
       ordering.received-stays (s .records) (t .records) c e m (g .order) (g .own) (g .receive)
       (record-stays st (receiptKey (c .own .channel) m) (λ q. absurd (omega arith))) h
@@ -105,35 +103,44 @@ module _ {s t : Store} {d : Datagram} (st : Step s d t) where
   unfolding recordFits
   old-fits =
       each-map (λ r h. both-and (and-both h .0)
-      (end-fits s t r _ _ (later st (r .channel)) (stays-received (r .sequence)) (and-both h .1))) (s .records) (fit-records s (st .fits))
+      (end-fits s t r _ _ (later st (r .channel)) (stays-received (r .sequence)) (and-both h .1))) (s .records)
+      (fit-records s (st .fits))
 
   -- the end as it is left
-  fits-own : (r : Record) → r .channel ≡ st .channel .own .channel → 1 ≤ r .sequence → fitsEnd t r (some (st .effect .end)) ≡ true → recordFits t r ≡ true
+  fits-own : (r : Record) → r .channel ≡ st .channel .own .channel → 1 ≤ r .sequence →
+      fitsEnd t r (some (st .effect .end)) ≡ true → recordFits t r ≡ true
   unfolding recordFits
   fits-own r q n h =
       both-and (le-leb 1 (r .sequence) n)
       (ap (λ (x : Option Channel). fitsEnd t r x) (ap (λ (k : ℕ). channelAt k (t .channels)) q ∙ own-after st) ∙ h)
 
-  fits-as : (r x : Record) (e : Effect) → st .effect ≡ e → writes x ≡ writes r → x .channel ≡ st .channel .own .channel → 1 ≤ x .sequence →
+  fits-as : (r x : Record) (e : Effect) → st .effect ≡ e → writes x ≡ writes r →
+      x .channel ≡ st .channel .own .channel → 1 ≤ x .sequence →
       fitsEnd t x (some (e .end)) ≡ true → recordFits t r ≡ true
   fits-as r x e w q c n h =
       let z : x ≡ r = cc in
-      subst (λ (y : Record). recordFits t y ≡ true) z (fits-own x c n (ap (λ (v : Effect). fitsEnd t x (some (v .end))) w ∙ h))
+      subst (λ (y : Record). recordFits t y ≡ true) z (fits-own x c n
+      (ap (λ (v : Effect). fitsEnd t x (some (v .end))) w ∙ h))
 
   new-fits : (r : Record) → st .effect .edit ≡ writes r → recordFits t r ≡ true
-  unfolding sends receives writesAcknowledgement acknowledges timesOut receivedEdit counted commitment sentPacket plainRecord channelFits
+  unfolding sends receives writesAcknowledgement acknowledges timesOut receivedEdit counted commitment sentPacket
+      plainRecord channelFits
   new-fits r h = go (st .effect) refl (st .how) h
     where
       go : (e : Effect) → st .effect ≡ e → How s d (st .channel) e → e .edit ≡ writes r → recordFits t r ≡ true
       go e w (sending k ok) q =
-          fits-as r (commitment (sentPacket (st .channel) d)) e w q refl (leb-true 1 (st .channel .next .send) (and-both (and-both (and-both own-fits .1) .0) .0))
+          fits-as r (commitment (sentPacket (st .channel) d)) e w q refl
+          (leb-true 1 (st .channel .next .send) (and-both (and-both (and-both own-fits .1) .0) .0))
           (new-commitment t (st .channel) (counted (st .channel) (raisedSend (st .channel .next))) d refl)
       go e w (receiving k ok) q =
           cases (raisesReceive (st .channel)) (λ p. let z : _≡_ {A = ℕ} 0 1 = cc in absurd (omega arith))
-          (λ p. fits-as r (plainRecord 2 (st .channel .own .channel) (d .packet .sequence) noDigest) e w (cc) refl (st .shape .received k)
-          (new-receipt t (st .channel .own .channel) (d .packet .sequence) (receivedEnd (st .channel)) (ordering.receipt-unordered (st .channel) p)))
+          (λ p. fits-as r (plainRecord 2 (st .channel .own .channel) (d .packet .sequence) noDigest) e w (cc) refl
+          (st .shape .received k)
+          (new-receipt t (st .channel .own .channel) (d .packet .sequence) (receivedEnd (st .channel))
+          (ordering.receipt-unordered (st .channel) p)))
       go e w (writing k ok) q =
-          fits-as r (plainRecord 3 (st .channel .own .channel) (d .sequence) (d .digest)) e w q refl (st .shape .written k)
+          fits-as r (plainRecord 3 (st .channel .own .channel) (d .sequence) (d .digest)) e w q refl
+          (st .shape .written k)
           (new-acknowledgement t (st .channel .own .channel) (d .sequence) (d .digest) (st .channel)
           (stays-received (d .sequence) (st .channel) (st .channel) (grown-refl (st .channel)) (ok .received)))
       go e w (acknowledging k ok) q = let z : _≡_ {A = ℕ} 0 1 = cc in absurd (omega arith)
@@ -142,15 +149,19 @@ module _ {s t : Store} {d : Datagram} (st : Step s d t) where
   records-fit : recordsFit t ≡ true
   unfolding recordsFit edited
   records-fit =
-      ap (λ (rs : List (Option Record)). all (recordFits t) rs and distinct sameKey rs) (records-left st) ∙ go (st .effect .edit) refl (legal st)
+      ap (λ (rs : List (Option Record)). all (recordFits t) rs and distinct sameKey rs) (records-left st) ∙
+      go (st .effect .edit) refl (legal st)
     where
-      go : (e : Edit) → st .effect .edit ≡ e → Legal (s .records) e → (all (recordFits t) (edited e (s .records)) and distinct sameKey (edited e (s .records))) ≡ true
+      go : (e : Edit) → st .effect .edit ≡ e → Legal (s .records) e →
+          (all (recordFits t) (edited e (s .records)) and distinct sameKey (edited e (s .records))) ≡ true
       go e w keeping = both-and (each-all (recordFits t) (s .records) old-fits) (single st)
       go e w (adding {r = r} room new) =
-          both-and (each-all (recordFits t) _ (each-insert (λ r. recordFits t r ≡ true) r (s .records) (new-fits r w) old-fits))
+          both-and (each-all (recordFits t) _ (each-insert (λ r. recordFits t r ≡ true) r (s .records)
+          (new-fits r w) old-fits))
           (single-insert (s .records) (single st) r room new)
       go e w (freeing {c = c} {n = n} there) =
-          both-and (each-all (recordFits t) _ (each-replace (λ r. recordFits t r ≡ true) (hasKey (commitmentKey c n)) none (s .records) tt old-fits))
+          both-and (each-all (recordFits t) _ (each-replace (λ r. recordFits t r ≡ true)
+          (hasKey (commitmentKey c n)) none (s .records) tt old-fits))
           (single-remove (s .records) (single st) (commitmentKey c n))
 
   pub fits-after : storeFits t ≡ true

@@ -1,27 +1,16 @@
 -- Two ledgers through a list of calls: the store of each after the first `i` calls. Between one and the next nothing
 -- happens or one accepted call does. Assumes nothing.
-use mathlib.Core.Path.{_≡_, refl, sym, ap, subst, subst₂, _∙_}
-use mathlib.Core.Bool.{Bool, true, false}
-use mathlib.Core.List.{List, [], _∷_}
-use mathlib.Core.Logic.{_⊎_, inl, inr}
-use mathlib.Core.Option.{Option, none, some}
-use Prim.Native.Nat.{ℕ, zero, suc, _+_, _≤_, _<_}
-use native.Mathlib.Omega.{arith}
-use lib.Dec.{leb, eqb}
-use lib.ListN.{length, take, getElem?}
-use borrow.Author.Tests.{eqb-true, eqb-false, leb-true, leb-false}
-use Rattle.wire.specs.Choice.{_and_, pick}
-use Rattle.wire.specs.Bytes.{Bytes}
-use Rattle.wire.proofs.ChoiceLaws.{clash, cases, of-pick}
+use Rattle.wire.proofs.Prelude.{_≡_, refl, sym, ap, subst, subst₂, _∙_, Bool, true, false, List, [], _∷_, _⊎_, inl, inr}
+use Rattle.wire.proofs.Prelude.{Option, none, some, ℕ, zero, suc, _+_, _≤_, _<_, arith, leb, eqb, length, take}
+use Rattle.wire.proofs.Prelude.{getElem?, eqb-true, eqb-false, leb-true, leb-false}
+use Rattle.wire.specs.Names.{_and_, pick, Bytes}
+use Rattle.wire.proofs.Laws.{clash, cases, of-pick}
 use Rattle.store.specs.declared.Record.{Record}
-use Rattle.store.specs.Table.{commitmentKey, lookup}
-use Rattle.store.specs.Layout.{Store, storeIn}
-use Rattle.store.specs.Fit.{storeFits}
-use Rattle.store.specs.Maker.{madeStore}
-use Rattle.store.proofs.LayoutLaws.{bytes-of, read-back}
-use Rattle.store.proofs.MakerLaws.{made-fields, made-fits, make-told, made-lookup}
-use Rattle.datagram.specs.Datagram.{Datagram, datagramIn}
-use Rattle.rules.specs.Promise.{Side, first, second, across, isSide, Call, At, fold, storeAfter, howMany, isOn, Run, Made, isAccepted}
+use Rattle.store.specs.Names.{commitmentKey, lookup, Store, storeIn, storeFits, madeStore}
+use Rattle.store.proofs.Laws.{bytes-of, read-back, made-fields, made-fits, make-told, made-lookup}
+use Rattle.datagram.specs.Names.{Datagram, datagramIn}
+use Rattle.rules.specs.Names.{Side, first, second, across, isSide, Call, At, fold, storeAfter, howMany, isOn, Run}
+use Rattle.rules.specs.Names.{Made, isAccepted}
 use Rattle.rules.proofs.Step.{Step}
 use Rattle.rules.proofs.Commitment.{Used, used-stays, SentNow, stems, used-from}
 use Rattle.rules.proofs.FitStep.{fits-after}
@@ -48,13 +37,15 @@ not-across second = refl
 
 -- A FOLD over the first calls goes on by the next one
 module _ {A B : Type 0} (f : B → A → B) where
-  pub fold-next : (b : B) (xs : List A) (i : ℕ) (x : A) → getElem? xs i ≡ some x → fold f b (take (suc i) xs) ≡ f (fold f b (take i xs)) x
+  pub fold-next : (b : B) (xs : List A) (i : ℕ) (x : A) → getElem? xs i ≡ some x →
+      fold f b (take (suc i) xs) ≡ f (fold f b (take i xs)) x
   unfolding fold
   fold-next b [] i x h = let z : _≡_ {A = ℕ} 0 1 = cc in absurd (omega arith)
   fold-next b (y ∷ xs) zero x h = let z : y ≡ x = cc in cc
   fold-next b (y ∷ xs) (suc i) x h = fold-next (f b y) xs i x h
 
-  pub fold-end : (b : B) (xs : List A) (i : ℕ) → getElem? xs i ≡ none → fold f b (take (suc i) xs) ≡ fold f b (take i xs)
+  pub fold-end : (b : B) (xs : List A) (i : ℕ) → getElem? xs i ≡ none →
+      fold f b (take (suc i) xs) ≡ fold f b (take i xs)
   unfolding fold
   fold-end b [] zero h = refl
   fold-end b [] (suc i) h = refl
@@ -66,12 +57,14 @@ module _ (bs : List ℕ) (m : Made bs) where
   pub made-read : storeIn bs ≡ madeStore (length (m .slice)) (m .openings)
   made-read =
       ap storeIn (m .left ∙ make-told (m .slice) (m .openings) (m .told)) ∙
-      read-back (madeStore (length (m .slice)) (m .openings)) (made-fields (length (m .slice)) (m .openings) (m .bytes) (m .told))
+      read-back (madeStore (length (m .slice)) (m .openings))
+      (made-fields (length (m .slice)) (m .openings) (m .bytes) (m .told))
 
   made-bytes : Bytes bs
   made-bytes =
       subst Bytes (sym (m .left ∙ make-told (m .slice) (m .openings) (m .told)))
-      (bytes-of (madeStore (length (m .slice)) (m .openings)) (made-fields (length (m .slice)) (m .openings) (m .bytes) (m .told)))
+      (bytes-of (madeStore (length (m .slice)) (m .openings))
+      (made-fields (length (m .slice)) (m .openings) (m .bytes) (m .told)))
 
 -- two made stores and a list of calls on them
 pub record World : Type 0 where
@@ -88,8 +81,10 @@ module _ (w : World) where
   abbrev pub ledger : Side → ℕ → Store
   ledger z i = storeIn (bytesAt z i)
 
-  pub next-on : (z : Side) (i : ℕ) (c : Call) → At (w .calls) i c → bytesAt z (suc i) ≡ pick (isOn z c) (c .storeLeft) (bytesAt z i)
-  next-on z i c h = fold-next (λ (b : List ℕ) (c : Call). pick (isOn z c) (c .storeLeft) b) (w .start z) (w .calls) i c h
+  pub next-on : (z : Side) (i : ℕ) (c : Call) → At (w .calls) i c →
+      bytesAt z (suc i) ≡ pick (isOn z c) (c .storeLeft) (bytesAt z i)
+  next-on z i c h = fold-next (λ (b : List ℕ) (c : Call). pick (isOn z c) (c .storeLeft) b) (w .start z)
+      (w .calls) i c h
 
   got-on : (z : Side) (i : ℕ) (c : Call) → At (w .calls) i c → isOn z c ≡ true → c .store ≡ bytesAt z i
   got-on z i c h e = subst (λ (y : Side). c .store ≡ bytesAt y i) (sym (side-eq z (c .side) e)) (w .run .got i c h)
@@ -103,7 +98,8 @@ module _ (w : World) where
       go none h b = subst Bytes (sym (fold-end _ (w .start z) (w .calls) i h)) b
       go (some c) h b =
           subst Bytes (sym (next-on z i c h)) (of-pick Bytes (isOn z c) (c .storeLeft) (bytesAt z i)
-          (λ e. left-bytes c (w .run .met i c h) (subst Bytes (sym (got-on z i c h e)) b) (w .run .bytes i c h)) (λ e. b))
+          (λ e. left-bytes c (w .run .met i c h) (subst Bytes (sym (got-on z i c h e)) b) (w .run .bytes i c h))
+          (λ e. b))
 
   -- an accepted call at a place, and the ledger's store before and after it
   pub record Acts (z : Side) (i : ℕ) (c : Call) : Type 0 where
@@ -145,7 +141,8 @@ module _ (w : World) where
       go (some c) h =
           cases (isOn z c)
           (λ e. cases (eqb (c .told .number) 0)
-          (λ t. inr (subst (λ (y : Side). Turn y i) (sym (side-eq z (c .side) e)) (record { call = c; acts = acts i c h (eqb-true (c .told .number) 0 t) })))
+          (λ t. inr (subst (λ (y : Side). Turn y i) (sym (side-eq z (c .side) e))
+          (record { call = c; acts = acts i c h (eqb-true (c .told .number) 0 t) })))
           (λ t.
           let r = refused-call c (w .run .met i c h) (eqb-false (c .told .number) 0 t) .1 in
           inl (record {
@@ -181,25 +178,32 @@ module _ (w : World) where
       (ap storeFits (made-read (w .start z) k) ∙ made-fits (length (k .slice)) (k .openings) (k .told))
 
   -- COUNTS go up by what the next call passes; by nothing where all is quiet
-  next-count : (t : Call → Bool) (i : ℕ) (c : Call) → At (w .calls) i c → howMany t (take (suc i) (w .calls)) ≡ pick (t c) 1 0 + howMany t (take i (w .calls))
+  next-count : (t : Call → Bool) (i : ℕ) (c : Call) → At (w .calls) i c →
+      howMany t (take (suc i) (w .calls)) ≡ pick (t c) 1 0 + howMany t (take i (w .calls))
   next-count t i c h =
-      fold-next (λ (n : ℕ) (c : Call). pick (t c) (suc n) n) 0 (w .calls) i c h ∙ cases (t c) (λ e. rw e (omega arith)) (λ e. rw e (omega arith))
+      fold-next (λ (n : ℕ) (c : Call). pick (t c) (suc n) n) 0 (w .calls) i c h ∙
+      cases (t c) (λ e. rw e (omega arith)) (λ e. rw e (omega arith))
 
-  pub turn-count : {z : Side} {i : ℕ} (u : Turn z i) (t : Call → Bool) → howMany t (take (suc i) (w .calls)) ≡ pick (t (u .call)) 1 0 + howMany t (take i (w .calls))
+  pub turn-count : {z : Side} {i : ℕ} (u : Turn z i) (t : Call → Bool) →
+      howMany t (take (suc i) (w .calls)) ≡ pick (t (u .call)) 1 0 + howMany t (take i (w .calls))
   turn-count {i = i} u t = next-count t i (u .call) (u .acts .at)
 
-  pub quiet-count : {z : Side} {i : ℕ} → Quiet z i → (t : Call → Bool) → ((c : Call) → t c ≡ true → (isOn z c ≡ true) × (isAccepted c ≡ true)) →
+  pub quiet-count : {z : Side} {i : ℕ} → Quiet z i → (t : Call → Bool) →
+      ((c : Call) → t c ≡ true → (isOn z c ≡ true) × (isAccepted c ≡ true)) →
       howMany t (take (suc i) (w .calls)) ≡ howMany t (take i (w .calls))
   quiet-count {i = i} q t h = go (getElem? (w .calls) i) refl
     where
-      go : (x : Option Call) → getElem? (w .calls) i ≡ x → howMany t (take (suc i) (w .calls)) ≡ howMany t (take i (w .calls))
+      go : (x : Option Call) → getElem? (w .calls) i ≡ x →
+          howMany t (take (suc i) (w .calls)) ≡ howMany t (take i (w .calls))
       go none e = fold-end _ 0 (w .calls) i e
       go (some c) e =
-          cases (t c) (λ a. let k = h c a in absurd (q .nobody c e (k .0) (k .1))) (λ a. next-count t i c e ∙ rw a (omega arith))
+          cases (t c) (λ a. let k = h c a in absurd (q .nobody c e (k .0) (k .1)))
+          (λ a. next-count t i c e ∙ rw a (omega arith))
 
   -- COMMITMENTS: a used sequence's commitment was there all the time since
   pub used-back : (z : Side) (n m : ℕ) {r : Record} (i j : ℕ) → i ≤ j → Used (ledger z i) n m →
-      lookup (commitmentKey n m) (ledger z j .records) ≡ some r → lookup (commitmentKey n m) (ledger z i .records) ≡ some r
+      lookup (commitmentKey n m) (ledger z j .records) ≡ some r →
+      lookup (commitmentKey n m) (ledger z i .records) ≡ some r
   used-back z n m {r} i zero l u h =
       let e : 0 ≡ i = omega arith in
       subst (λ (k : ℕ). lookup (commitmentKey n m) (ledger z k .records) ≡ some r) e h
@@ -210,7 +214,8 @@ module _ (w : World) where
       let q = leb-true i j e in
       let v = kept (λ s. Used s n m) (λ s t d. used-stays) z i j q u in
       ih q u (back (turn z j) v))
-      (λ e. let q = leb-false i j e in let v : suc j ≡ i = omega arith in subst (λ (k : ℕ). lookup (commitmentKey n m) (ledger z k .records) ≡ some r) v h)
+      (λ e. let q = leb-false i j e in let v : suc j ≡ i = omega arith in
+      subst (λ (k : ℕ). lookup (commitmentKey n m) (ledger z k .records) ≡ some r) v h)
     where
       has : Store → Type 0
       has s = lookup (commitmentKey n m) (s .records) ≡ some r
@@ -226,13 +231,15 @@ module _ (w : World) where
     pub turn : Turn z place
     pub sent : SentNow (datagramIn (turn .call .datagram)) (turn .acts .acted .step .channel) n m r
 
-  pub sent-at : (z : Side) (n m : ℕ) {r : Record} (j : ℕ) → lookup (commitmentKey n m) (ledger z j .records) ≡ some r → SentAt z n m r j
+  pub sent-at : (z : Side) (n m : ℕ) {r : Record} (j : ℕ) → lookup (commitmentKey n m) (ledger z j .records) ≡ some r →
+      SentAt z n m r j
   unfolding fold
   sent-at z n m {r} zero h =
       let k = w .made z in
       let e = made-lookup (length (k .slice)) (k .openings) (commitmentKey n m) in
       let q = made-read (w .start z) k in
-      let v : lookup (commitmentKey n m) (storeIn (w .start z) .records) ≡ none = ap (λ (s : Store). lookup (commitmentKey n m) (s .records)) q ∙ e in
+      let v : lookup (commitmentKey n m) (storeIn (w .start z) .records) ≡ none =
+      ap (λ (s : Store). lookup (commitmentKey n m) (s .records)) q ∙ e in
       let x : _≡_ {A = ℕ} 0 1 = cc in
       absurd (omega arith)
   sent-at z n m {r} (suc j) h = go (turn z j) (sent-at z n m j)

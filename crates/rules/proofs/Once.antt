@@ -1,19 +1,12 @@
 -- Demand 3: no packet is finished twice, and none delivered twice where the ends are paired. Assumes nothing.
-use mathlib.Core.Path.{_≡_, refl, sym, subst₂, subst₃, _∙_}
-use mathlib.Core.Bool.{Bool, true, false}
-use mathlib.Core.Logic.{_⊎_, inl, inr, ⊎-elim}
-use mathlib.Core.Option.{none}
-use Prim.Native.Nat.{ℕ, suc, _+_, _<_}
-use native.Mathlib.Omega.{arith}
-use lib.Dec.{ltb}
-use borrow.Author.Tests.{eqb-true, ne-eqb, eq-eqb, ltb-true, ltb-false}
-use Rattle.wire.specs.Choice.{_and_, _or_, isSome}
-use Rattle.wire.proofs.ChoiceLaws.{and-both, or-either, cases, some-if}
-use Rattle.store.specs.Table.{commitmentKey, lookup}
-use Rattle.store.specs.Layout.{Store, storeIn}
-use Rattle.datagram.specs.declared.Packet.{Packet}
-use Rattle.datagram.specs.Datagram.{datagramIn, kindIn}
-use Rattle.rules.specs.Promise.{Side, across, Call, At, emitted, emits, isDelivery, finishes, packetOf, sender, SamePacket, AtMostOnce}
+use Rattle.wire.proofs.Prelude.{_≡_, refl, sym, subst₃, _∙_, Bool, true, false, _⊎_, inl, inr, ⊎-elim, none, ℕ, suc}
+use Rattle.wire.proofs.Prelude.{_+_, _<_, arith, ltb, eqb-true, ne-eqb, eq-eqb, ltb-true, ltb-false}
+use Rattle.wire.specs.Names.{_and_, _or_, isSome}
+use Rattle.wire.proofs.Laws.{and-both, or-either, cases, some-if}
+use Rattle.store.specs.Names.{commitmentKey, lookup}
+use Rattle.datagram.specs.Names.{datagramIn, kindIn}
+use Rattle.rules.specs.Names.{Side, across, Call, At, emitted, emits, isDelivery, finishes, packetOf, sender}
+use Rattle.rules.specs.Names.{SamePacket, AtMostOnce}
 use Rattle.rules.proofs.Step.{later}
 use Rattle.rules.proofs.Commitment.{Used, committed-used, used-stays, finish-needs, finish-removes}
 use Rattle.rules.proofs.Acted.{acted-carried}
@@ -33,8 +26,10 @@ module _ (w : World) where
       record { acts = a; kind = omega arith }
 
   -- the packet of a receive, an acknowledge or a time-out is the datagram's
-  pub did-packet : (k i : ℕ) (c : Call) → Did k i c → (k ≡ 1 → ⊥) → (k ≡ 3 → ⊥) → packetOf c ≡ datagramIn (c .datagram) .packet
-  did-packet k i c d m n = let q = d .kind in acted-carried (d .acts .acted) (λ e. m (omega arith)) (λ e. n (omega arith))
+  pub did-packet : (k i : ℕ) (c : Call) → Did k i c → (k ≡ 1 → ⊥) → (k ≡ 3 → ⊥) →
+      packetOf c ≡ datagramIn (c .datagram) .packet
+  did-packet k i c d m n = let q = d .kind in acted-carried (d .acts .acted) (λ e. m (omega arith))
+      (λ e. n (omega arith))
 
   -- the sender's ledger: across for a delivery, its own otherwise
   pub delivery-sender : (c : Call) → isDelivery c ≡ true → sender c ≡ across (c .side)
@@ -52,7 +47,8 @@ module _ (w : World) where
 
 -- AT MOST ONCE, if no later call can do it again
 pub once : (w : World) (t : Call → Bool) →
-    ((i j : ℕ) (c e : Call) → i < j → At (w .calls) i c → At (w .calls) j e → t c ≡ true → t e ≡ true → SamePacket c e → ⊥) → AtMostOnce t (w .calls)
+    ((i j : ℕ) (c e : Call) → i < j → At (w .calls) i c → At (w .calls) j e → t c ≡ true → t e ≡ true →
+    SamePacket c e → ⊥) → AtMostOnce t (w .calls)
 once w t never i j c e p q a b s =
     cases (ltb i j) (λ h. absurd (never i j c e (ltb-true i j h) p q a b s))
     (λ h. cases (ltb j i) (λ k. absurd (never j i e c (ltb-true j i k) q p b a (flip s)))
@@ -70,18 +66,22 @@ module _ (w : World) where
     pub side : sender c ≡ c .side
     pub there : Committed (c .side) i (packetOf c .source .channel) (packetOf c .sequence)
     pub used : Used (ledger w (c .side) (suc i)) (packetOf c .source .channel) (packetOf c .sequence)
-    pub gone : lookup (commitmentKey (packetOf c .source .channel) (packetOf c .sequence)) (ledger w (c .side) (suc i) .records) ≡ none
+    pub gone : lookup (commitmentKey (packetOf c .source .channel) (packetOf c .sequence))
+        (ledger w (c .side) (suc i) .records) ≡ none
 
   finish-by : (k i : ℕ) (c : Call) → Did w k i c → (k ≡ 4) ⊎ (k ≡ 5) → Finish i c
   finish-by k i c d f =
       let st = d .acts .acted .step in
       let g : (datagramIn (c .datagram) .kind ≡ 4) ⊎ (datagramIn (c .datagram) .kind ≡ 5) =
-        ⊎-elim (λ q. inl (d .kind ∙ q)) (λ q. inr (d .kind ∙ q)) f in
+      ⊎-elim (λ q. inl (d .kind ∙ q)) (λ q. inr (d .kind ∙ q)) f in
       let e = did-packet w k i c d (not-finish f 1 (omega arith)) (not-finish f 3 (omega arith)) in
       let r = some-if _ (finish-needs st g) in
       record {
-        side = finish-sender w k i c d (not-finish f 2 (omega arith)); there = rw e (finish-needs st g);
-        used = rw e (used-stays st (committed-used _ _ (st .fits) (r .1))); gone = rw e (finish-removes st g) }
+        side = finish-sender w k i c d (not-finish f 2 (omega arith));
+        there = rw e (finish-needs st g);
+        used = rw e (used-stays st (committed-used _ _ (st .fits) (r .1)));
+        gone = rw e (finish-removes st g);
+      }
     where
       not-finish : {k : ℕ} → (k ≡ 4) ⊎ (k ≡ 5) → (n : ℕ) → n < 4 → k ≡ n → ⊥
       not-finish (inl p) n l q = omega arith
@@ -89,7 +89,8 @@ module _ (w : World) where
 
   finish-at : (i : ℕ) (c : Call) → At (w .calls) i c → finishes c ≡ true → Finish i c
   finish-at i c h f =
-      ⊎-elim (λ e. finish-by 4 i c (did w 4 i c h e) (inl refl)) (λ e. finish-by 5 i c (did w 5 i c h e) (inr refl)) (or-either f)
+      ⊎-elim (λ e. finish-by 4 i c (did w 4 i c h e) (inl refl)) (λ e. finish-by 5 i c (did w 5 i c h e) (inr refl))
+      (or-either f)
 
   pub finished-once : AtMostOnce finishes (w .calls)
   finished-once = once w finishes (λ i j c e l p q a b s. again i j c e l (finish-at i c p a) (finish-at j e q b) s)
@@ -97,9 +98,12 @@ module _ (w : World) where
       again : (i j : ℕ) (c e : Call) → i < j → Finish i c → Finish j e → SamePacket c e → ⊥
       again i j c e l f g s =
           let z : e .side ≡ c .side = sym (g .side) ∙ sym (s .sender) ∙ f .side in
-          let h = subst₃ (λ (y : Side) (n m : ℕ). Committed y j n m) z (sym (s .channel)) (sym (s .sequence)) (g .there) in
-          let r = some-if (lookup (commitmentKey (packetOf c .source .channel) (packetOf c .sequence)) (ledger w (c .side) j .records)) h in
-          let b = used-back w (c .side) (packetOf c .source .channel) (packetOf c .sequence) (suc i) j l (f .used) (r .1) in
+          let h = subst₃ (λ (y : Side) (n m : ℕ). Committed y j n m) z (sym (s .channel)) (sym (s .sequence))
+          (g .there) in
+          let r = some-if (lookup (commitmentKey (packetOf c .source .channel) (packetOf c .sequence))
+          (ledger w (c .side) j .records)) h in
+          let b = used-back w (c .side) (packetOf c .source .channel) (packetOf c .sequence) (suc i) j l (f .used)
+          (r .1) in
           let q = f .gone in
           let x : _≡_ {A = ℕ} 0 1 = cc in
           omega arith

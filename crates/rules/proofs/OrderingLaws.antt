@@ -1,38 +1,30 @@
 -- Laws of what depends on the ordering: a delivery was not received before and is afterwards, received stays received,
 -- an ordered end counts, and a packet that a true claim says is absent is not received. Assumes nothing.
-use mathlib.Core.Path.{_≡_, ap}
-use mathlib.Core.Bool.{Bool, true, false, not}
-use mathlib.Core.List.{List}
-use mathlib.Core.Option.{Option, none, some}
-use Prim.Native.Nat.{ℕ, suc, _+_, _≤_}
-use native.Mathlib.Omega.{arith}
-use lib.Dec.{ltb, eqb}
-use borrow.Author.Tests.{eqb-true, ltb-true, lt-ltb, le-ltb, not-false}
-use Rattle.wire.specs.Choice.{_and_, isSome}
-use Rattle.wire.specs.Bytes.{noDigest}
-use Rattle.wire.proofs.ChoiceLaws.{cases, not-some}
+use Rattle.wire.proofs.Prelude.{_≡_, ap, Bool, true, false, not, List, Option, none, some, ℕ, suc, _+_, _≤_, arith, ltb}
+use Rattle.wire.proofs.Prelude.{eqb, eqb-true, ltb-true, lt-ltb, le-ltb, not-false}
+use Rattle.wire.specs.Names.{_and_, isSome, noDigest}
+use Rattle.wire.proofs.Laws.{cases, not-some}
 use Rattle.store.specs.declared.End.{End}
 use Rattle.store.specs.declared.Channel.{Channel}
 use Rattle.store.specs.declared.Record.{Record}
-use Rattle.store.specs.Limits.{top}
-use Rattle.store.specs.Height.{noTimeout}
-use Rattle.store.specs.Table.{receiptKey, lookup, hasFree, channelAt}
-use Rattle.store.specs.Layout.{Store}
-use Rattle.store.specs.Ordering.{isOrdered, hasReceipt, isReceived}
-use Rattle.store.proofs.RecordLaws.{Single, lookup-insert}
+use Rattle.store.specs.Names.{top, noTimeout, receiptKey, lookup, hasFree, channelAt, Store, isOrdered, hasReceipt}
+use Rattle.store.specs.Names.{isReceived}
+use Rattle.store.proofs.Laws.{Single, lookup-insert}
 use Rattle.datagram.specs.declared.Packet.{Packet}
 use Rattle.datagram.specs.declared.Verdict.{Verdict}
-use Rattle.rules.specs.Verdict.{firstDifference, claimHolds}
-use Rattle.rules.specs.Ordering.{plainRecord, counted, receivesInOrder, isReceiptThere, raisesReceive, receivedEnd, receivedEdit, absenceClaim, absenceSequence, timesOutInOrder, raisesAcknowledge, isAtTop, needsRecord}
-use Rattle.rules.specs.Acceptance.{edited}
+use Rattle.rules.specs.Names.{firstDifference, claimHolds, plainRecord, counted, receivesInOrder, isReceiptThere}
+use Rattle.rules.specs.Names.{raisesReceive, receivedEnd, receivedEdit, absenceClaim, absenceSequence}
+use Rattle.rules.specs.Names.{timesOutInOrder, raisesAcknowledge, isAtTop, needsRecord, edited}
 use Rattle.rules.proofs.VerdictLaws.{about, claim-absent, claim-next}
 
 -- RECEIVE: where no counter rises there is room for a receipt, and it is a new one
-pub receive-room : (c : Channel) (free : Bool) → raisesReceive c ≡ false → (needsRecord 2 c and not free) ≡ false → free ≡ true
+pub receive-room : (c : Channel) (free : Bool) → raisesReceive c ≡ false → (needsRecord 2 c and not free) ≡ false →
+    free ≡ true
 unfolding needsRecord _and_
 receive-room c free r h = not-false free (cc)
 
-pub receive-absent : (rs : List (Option Record)) (c : Channel) (n : ℕ) → raisesReceive c ≡ false → isReceiptThere rs c n ≡ false →
+pub receive-absent : (rs : List (Option Record)) (c : Channel) (n : ℕ) → raisesReceive c ≡ false →
+    isReceiptThere rs c n ≡ false →
     lookup (receiptKey (c .own .channel) n) rs ≡ none
 unfolding raisesReceive isReceiptThere _and_
 receive-absent rs c n r h =
@@ -49,12 +41,14 @@ pub receive-below : (c : Channel) → raisesReceive c ≡ true → isAtTop 2 c �
 unfolding isAtTop _and_
 receive-below c r h = cc
 
-pub acknowledge-below : (c : Channel) → raisesAcknowledge c ≡ true → isAtTop 4 c ≡ false → eqb (c .next .acknowledge) top ≡ false
+pub acknowledge-below : (c : Channel) → raisesAcknowledge c ≡ true → isAtTop 4 c ≡ false →
+    eqb (c .next .acknowledge) top ≡ false
 unfolding isAtTop _and_
 acknowledge-below c r h = cc
 
 -- it was not received before
-pub receive-new : (rs : List (Option Record)) (c : Channel) (n : ℕ) → receivesInOrder c n ≡ true → isReceiptThere rs c n ≡ false →
+pub receive-new : (rs : List (Option Record)) (c : Channel) (n : ℕ) → receivesInOrder c n ≡ true →
+    isReceiptThere rs c n ≡ false →
     isReceived rs c n ≡ false
 unfolding receivesInOrder isReceiptThere isReceived _and_
 receive-new rs c n h k =
@@ -65,7 +59,8 @@ receive-new rs c n h k =
     (λ o. cc)
 
 -- it is received afterwards
-pub receive-received : (rs : List (Option Record)) (c : Channel) (n : ℕ) → Single rs → receivesInOrder c n ≡ true → isReceiptThere rs c n ≡ false →
+pub receive-received : (rs : List (Option Record)) (c : Channel) (n : ℕ) → Single rs → receivesInOrder c n ≡ true →
+    isReceiptThere rs c n ≡ false →
     (raisesReceive c ≡ false → hasFree rs ≡ true) → isReceived (edited (receivedEdit c n) rs) (receivedEnd c) n ≡ true
 unfolding isOrdered raisesReceive receivesInOrder isReceived receivedEnd receivedEdit edited counted plainRecord
 receive-received rs c n s h k r =
@@ -79,7 +74,8 @@ receive-received rs c n s h k r =
     cc)
 
 -- RECEIVED STAYS RECEIVED: the end grows, and a receipt stays
-pub received-stays : (rs ts : List (Option Record)) (c e : Channel) (n : ℕ) → e .order ≡ c .order → e .own ≡ c .own → c .next .receive ≤ e .next .receive →
+pub received-stays : (rs ts : List (Option Record)) (c e : Channel) (n : ℕ) → e .order ≡ c .order → e .own ≡ c .own →
+    c .next .receive ≤ e .next .receive →
     (hasReceipt rs c n ≡ true → hasReceipt ts c n ≡ true) → isReceived rs c n ≡ true → isReceived ts e n ≡ true
 unfolding isOrdered isReceived
 received-stays rs ts c e n o w g k h =
@@ -91,7 +87,8 @@ received-stays rs ts c e n o w g k h =
     (λ q. let a = k (cc) in cc)
 
 -- AN ORDERED END takes what it waits for, and waits for the next one
-pub ordered-next : (c : Channel) (n : ℕ) → isOrdered c ≡ true → receivesInOrder c n ≡ true → (n ≡ c .next .receive) × (receivedEnd c .next .receive ≡ suc n)
+pub ordered-next : (c : Channel) (n : ℕ) → isOrdered c ≡ true → receivesInOrder c n ≡ true →
+    (n ≡ c .next .receive) × (receivedEnd c .next .receive ≡ suc n)
 unfolding receivesInOrder receivedEnd raisesReceive counted
 ordered-next c n o h =
     let e : eqb n (c .next .receive) ≡ true = cc in
@@ -102,11 +99,14 @@ ordered-next c n o h =
 -- ABSENT: what a true claim says is absent is not received, on the same ordering there and here
 pub absent-not-received : (s : Store) (c e : Channel) (p : Packet) (v : Verdict) → e .order ≡ c .order →
     channelAt (p .destination .channel) (s .channels) ≡ some e → e .own .channel ≡ p .destination .channel →
-    firstDifference v (absenceClaim c) (p .destination) (absenceSequence c (p .sequence) (v .sequence)) noTimeout noDigest ≡ 0 →
-    timesOutInOrder c (p .sequence) (v .sequence) ≡ true → claimHolds v s ≡ true → isReceived (s .records) e (p .sequence) ≡ false
+    firstDifference v (absenceClaim c) (p .destination)
+    (absenceSequence c (p .sequence) (v .sequence)) noTimeout noDigest ≡ 0 →
+    timesOutInOrder c (p .sequence) (v .sequence) ≡ true → claimHolds v s ≡ true →
+    isReceived (s .records) e (p .sequence) ≡ false
 unfolding isReceived absenceClaim absenceSequence timesOutInOrder isOrdered
 absent-not-received s c e p v o f w h t k =
-    let a = about v (absenceClaim c) (p .destination) (absenceSequence c (p .sequence) (v .sequence)) noTimeout noDigest h in
+    let a = about v (absenceClaim c) (p .destination) (absenceSequence c (p .sequence) (v .sequence))
+    noTimeout noDigest h in
     let g : channelAt (v .end .channel) (s .channels) ≡ some e = rw (a .end) f in
     cases (eqb (c .order) 1)
     (λ q.
@@ -117,5 +117,6 @@ absent-not-received s c e p v o f w h t k =
     (λ q.
     let x = claim-absent v s k e g (cc) in
     let y : v .sequence ≡ p .sequence = cc in
-    let z : isSome (lookup (receiptKey (e .own .channel) (p .sequence)) (s .records)) ≡ false = rw (w, ← (ap (λ (u : End). u .channel) (a .end)), ← y) x in
+    let z : isSome (lookup (receiptKey (e .own .channel) (p .sequence)) (s .records)) ≡ false =
+    rw (w, ← (ap (λ (u : End). u .channel) (a .end)), ← y) x in
     cc)

@@ -1,22 +1,15 @@
 -- Ends and their peers: an end is the made one, grown; and the end that it names is the only one that names it back.
 -- Pairing is used here and nowhere else. Assumes nothing.
-use mathlib.Core.Path.{_≡_, refl, sym, ap, subst, subst₂, _∙_}
-use mathlib.Core.Bool.{true}
-use mathlib.Core.Logic.{_⊎_, inl, inr}
-use mathlib.Core.Option.{Option, none, some}
-use Prim.Native.Nat.{ℕ}
-use native.Mathlib.Omega.{arith}
-use borrow.Author.Tests.{eqb-true}
-use Rattle.wire.specs.Choice.{_and_}
-use Rattle.wire.proofs.ChoiceLaws.{and-both}
+use Rattle.wire.proofs.Prelude.{_≡_, refl, sym, ap, subst, _∙_, true, _⊎_, inl, inr, Option, none, some, ℕ, arith}
+use Rattle.wire.proofs.Prelude.{eqb-true}
+use Rattle.wire.specs.Names.{_and_}
+use Rattle.wire.proofs.Laws.{and-both}
 use Rattle.store.specs.declared.End.{End}
 use Rattle.store.specs.declared.Channel.{Channel}
-use Rattle.store.specs.Table.{channelAt, sameEnd}
-use Rattle.store.specs.Layout.{Store, storeIn}
+use Rattle.store.specs.Names.{channelAt, sameEnd, Store, storeIn}
 use Rattle.datagram.specs.declared.Packet.{Packet}
-use Rattle.datagram.specs.Datagram.{datagramIn}
-use Rattle.rules.specs.Refusals.{fitsPacket}
-use Rattle.rules.specs.Promise.{Side, across, Call, At, fold, Paired, Peers, packetOf, isDelivery}
+use Rattle.datagram.specs.Names.{datagramIn}
+use Rattle.rules.specs.Names.{fitsPacket, Side, across, Call, At, fold, Paired, Peers, packetOf, isDelivery}
 use Rattle.rules.proofs.Step.{Grown, Later, later, later-refl}
 use Rattle.rules.proofs.Receipt.{receive-of, receive-destination, receive-found}
 use Rattle.rules.proofs.History.{World, ledger, kept}
@@ -24,7 +17,8 @@ use Rattle.rules.proofs.Once.{Did, did, did-packet}
 
 grown-trans : (a c e : Channel) → Grown a c → Grown c e → Grown a e
 grown-trans a c e g h =
-    let i = g .send in let j = h .send in let k = g .receive in let l = h .receive in let m = g .acknowledge in let n = h .acknowledge in
+    let i = g .send in let j = h .send in let k = g .receive in let l = h .receive in let m = g .acknowledge in let n =
+    h .acknowledge in
     record {
       own = h .own ∙ g .own;
       counterparty = h .counterparty ∙ g .counterparty;
@@ -35,7 +29,8 @@ grown-trans a c e g h =
       state = state (g .state) (h .state);
     }
   where
-    state : (c .state ≡ a .state) ⊎ (c .state ≡ 4) → (e .state ≡ c .state) ⊎ (e .state ≡ 4) → (e .state ≡ a .state) ⊎ (e .state ≡ 4)
+    state : (c .state ≡ a .state) ⊎ (c .state ≡ 4) → (e .state ≡ c .state) ⊎ (e .state ≡ 4) →
+        (e .state ≡ a .state) ⊎ (e .state ≡ 4)
     state p (inr q) = inr q
     state (inl p) (inl q) = inl (q ∙ p)
     state (inr p) (inl q) = inr (q ∙ p)
@@ -61,11 +56,13 @@ module _ (w : World) where
       let start = channelAt n (storeIn (w .start z) .channels) in
       later-back start (channelAt n (ledger w z i .channels)) c
       (kept w (λ (s : Store). Later start (channelAt n (s .channels)))
-      (λ s t d st l. later-trans start (channelAt n (s .channels)) (channelAt n (t .channels)) l (later st n)) z 0 i (omega arith) (later-refl start)) h
+      (λ s t d st l. later-trans start (channelAt n (s .channels)) (channelAt n (t .channels)) l (later st n)) z 0 i
+      (omega arith) (later-refl start)) h
 
   -- the end that it names, as it was made
   pub peer : Paired (w .start) → (z : Side) (i n : ℕ) (c : Channel) → channelAt n (ledger w z i .channels) ≡ some c →
-      (d : Channel) × (channelAt (c .counterparty .channel) (storeIn (w .start (across z)) .channels) ≡ some d) × Peers c d
+      (d : Channel) × (channelAt (c .counterparty .channel) (storeIn (w .start (across z)) .channels) ≡ some d) ×
+      Peers c d
   peer pairs z i n c h =
       let b = made-end z i n c h in
       let g = b .2 in
@@ -73,7 +70,12 @@ module _ (w : World) where
       let r = q .2 in (
         q .0,
         ap (λ (e : End). channelAt (e .channel) (storeIn (w .start (across z)) .channels)) (g .counterparty) ∙ q .1,
-        record { own = r .own ∙ sym (g .counterparty); counterparty = r .counterparty ∙ sym (g .own); order = r .order ∙ sym (g .order) },
+        record {
+          own = r .own ∙ sym (g .counterparty);
+          counterparty = r .counterparty ∙ sym (g .own);
+          order =
+              r .order ∙ sym (g .order);
+        },
       )
 
   -- A DELIVERY, on the end that its packet names
@@ -101,7 +103,8 @@ module _ (w : World) where
       let f = and-both (receive-of st (d .kind) .0 .fits) in
       let port = eqb-true (datagramIn (c .datagram) .packet .destination .port) (st .channel .own .port) (f .0) in
       let number = sym (receive-destination st (d .kind)) in
-      let own : datagramIn (c .datagram) .packet .destination ≡ st .channel .own = λ j. record { port = port j; channel = number j } in
+      let own : datagramIn (c .datagram) .packet .destination ≡ st .channel .own =
+      λ j. record { port = port j; channel = number j } in
       record {
         did = d;
         packet = q;
@@ -113,7 +116,12 @@ module _ (w : World) where
 
   -- the sender's end of a delivery, as it was made
   pub sender-end : Paired (w .start) → (i : ℕ) (c : Call) (d : Delivered i c) →
-      (b : Channel) × (channelAt (packetOf c .source .channel) (storeIn (w .start (across (c .side))) .channels) ≡ some b) × Peers (d .end) b
+      (b : Channel) × (channelAt (packetOf c .source .channel)
+      (storeIn (w .start (across (c .side))) .channels) ≡ some b) × Peers (d .end) b
   sender-end pairs i c d =
-      let q = peer pairs (c .side) i (packetOf c .destination .channel) (d .end) (d .found) in
-      (q .0, ap (λ (e : End). channelAt (e .channel) (storeIn (w .start (across (c .side))) .channels)) (d .source) ∙ q .1, q .2)
+      let q = peer pairs (c .side) i (packetOf c .destination .channel) (d .end) (d .found) in (
+        q .0,
+        ap (λ (e : End). channelAt (e .channel) (storeIn (w .start (across (c .side))) .channels)) (d .source) ∙
+            q .1,
+        q .2,
+      )

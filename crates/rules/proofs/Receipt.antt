@@ -1,27 +1,21 @@
 -- One accepted call and what is received: it stays received, and a delivery was not received before and is afterwards.
 -- Assumes nothing.
-use mathlib.Core.Path.{_≡_, refl, sym, ap, subst, _∙_}
-use mathlib.Core.Bool.{true}
-use mathlib.Core.List.{List}
-use mathlib.Core.Option.{Option, some}
-use Prim.Native.Nat.{ℕ, suc}
-use native.Mathlib.Omega.{arith}
-use lib.Dec.{eqb}
-use borrow.Author.Tests.{eqb-true, eqb-false}
-use Rattle.wire.proofs.ChoiceLaws.{clash, cases, of-pick}
+use Rattle.wire.proofs.Prelude.{_≡_, refl, sym, ap, subst, _∙_, true, List, Option, some, ℕ, suc, arith, eqb, eqb-true}
+use Rattle.wire.proofs.Prelude.{eqb-false}
+use Rattle.wire.proofs.Laws.{clash, cases, of-pick}
 use Rattle.store.specs.declared.Channel.{Channel}
 use Rattle.store.specs.declared.Record.{Record}
-use Rattle.store.specs.Table.{receiptKey, channelAt, hasFree}
-use Rattle.store.specs.Layout.{Store}
-use Rattle.store.specs.Ordering.{isOrdered, isReceived}
-use Rattle.datagram.specs.Datagram.{Datagram}
-use Rattle.rules.specs.Ordering.{counted, closed, receivedEnd, receivedEdit, raisesAcknowledge, raisedAcknowledge, acknowledgedEnd, timedOutEnd}
-use Rattle.rules.specs.Refusals.{isInOrder}
-use Rattle.rules.specs.Acceptance.{Effect, sends, receives, writesAcknowledgement, acknowledges, timesOut, edited}
+use Rattle.store.specs.Names.{receiptKey, channelAt, hasFree, Store, isOrdered, isReceived}
+use Rattle.datagram.specs.Names.{Datagram}
+use Rattle.rules.specs.Names.{counted, closed, receivedEnd, receivedEdit, raisesAcknowledge, raisedAcknowledge}
+use Rattle.rules.specs.Names.{acknowledgedEnd, timedOutEnd, isInOrder, Effect, sends, receives}
+use Rattle.rules.specs.Names.{writesAcknowledgement, acknowledges, timesOut, edited}
 use Rattle.rules.proofs.Accepted.{ReceiveOk}
-use Rattle.rules.proofs.OrderingLaws as ordering
-use Rattle.rules.proofs.Step.{How, sending, receiving, writing, acknowledging, timing, Step, single, later, record-stays, records-left, own-number, own-found, own-grown, own-after, other-after}
+use Rattle.rules.proofs.Step.{How, sending, receiving, writing, acknowledging, timing, Step, single, later}
+use Rattle.rules.proofs.Step.{record-stays, records-left, own-number, own-found, own-grown, own-after}
+use Rattle.rules.proofs.Step.{other-after}
 use Rattle.rules.proofs.Commitment.{later-some}
+use Rattle.rules.proofs.OrderingLaws as ordering
 
 pub record Received (s : Store) (n m : ℕ) : Type 0 where
   pub channel : Channel
@@ -35,7 +29,8 @@ received-stays {s} {t} {n = n} {m} st r =
     record {
       channel = l .0;
       found = l .1;
-      received = ordering.received-stays (s .records) (t .records) (r .channel) (l .0) m (g .order) (g .own) (g .receive)
+      received = ordering.received-stays (s .records) (t .records) (r .channel) (l .0) m (g .order) (g .own)
+          (g .receive)
           (record-stays st (receiptKey (r .channel .own .channel) m) (λ q. absurd (omega arith))) (r .received);
     }
 
@@ -44,7 +39,8 @@ module _ {s t : Store} {d : Datagram} (st : Step s d t) (k : d .kind ≡ 2) wher
   pub receive-of : ReceiveOk s d (st .channel) × (st .effect ≡ receives (st .channel) (d .packet))
   receive-of = go (st .effect) (st .how)
     where
-      go : (e : Effect) → How s d (st .channel) e → ReceiveOk s d (st .channel) × (e ≡ receives (st .channel) (d .packet))
+      go : (e : Effect) → How s d (st .channel) e → ReceiveOk s d (st .channel) ×
+          (e ≡ receives (st .channel) (d .packet))
       go e (sending q ok) = absurd (omega arith)
       go e (receiving q ok) = (ok, refl)
       go e (writing q ok) = absurd (omega arith)
@@ -75,14 +71,17 @@ module _ {s t : Store} {d : Datagram} (st : Step s d t) (k : d .kind ≡ 2) wher
   unfolding isInOrder receives
   receive-makes =
       let ok = receive-of .0 in
-      let q = ordering.receive-received (s .records) (st .channel) (d .packet .sequence) (single st) (ok .inOrder) (ok .new)
+      let q = ordering.receive-received (s .records) (st .channel) (d .packet .sequence) (single st) (ok .inOrder)
+      (ok .new)
       (λ r. ordering.receive-room (st .channel) (hasFree (s .records)) r (ok .room)) in
       let w : t .records ≡ edited (receivedEdit (st .channel) (d .packet .sequence)) (s .records) =
       records-left st ∙ ap (λ (e : Effect). edited (e .edit) (s .records)) (receive-of .1) in
       record {
         channel = receivedEnd (st .channel);
-        found = ap (λ (n : ℕ). channelAt n (t .channels)) (sym receive-destination) ∙ own-after st ∙ ap some receive-end;
-        received = ap (λ (rs : List (Option Record)). isReceived rs (receivedEnd (st .channel)) (d .packet .sequence)) w ∙ q;
+        found = ap (λ (n : ℕ). channelAt n (t .channels)) (sym receive-destination) ∙ own-after st ∙
+            ap some receive-end;
+        received = ap (λ (rs : List (Option Record)). isReceived rs (receivedEnd (st .channel)) (d .packet .sequence))
+            w ∙ q;
       }
 
 -- AN ORDERED END and the sequence that it waits for
@@ -92,13 +91,15 @@ pub record Waits (s : Store) (n m : ℕ) : Type 0 where
   pub ordered : isOrdered channel ≡ true
   pub next : channel .next .receive ≡ m
 
-receive-kept : {s : Store} {d : Datagram} {c : Channel} {e : Effect} → How s d c e → (d .kind ≡ 2 → ⊥) → e .end .next .receive ≡ c .next .receive
+receive-kept : {s : Store} {d : Datagram} {c : Channel} {e : Effect} → How s d c e → (d .kind ≡ 2 → ⊥) →
+    e .end .next .receive ≡ c .next .receive
 unfolding sends writesAcknowledgement acknowledges timesOut acknowledgedEnd timedOutEnd counted closed
 receive-kept {c = c} (sending q ok) k = refl
 receive-kept {c = c} (receiving q ok) k = absurd (k q)
 receive-kept {c = c} (writing q ok) k = refl
 receive-kept {c = c} (acknowledging q ok) k =
-    of-pick (λ (x : Channel). x .next .receive ≡ c .next .receive) (raisesAcknowledge c) (counted c (raisedAcknowledge (c .next))) c (λ q. refl) (λ q. refl)
+    of-pick (λ (x : Channel). x .next .receive ≡ c .next .receive) (raisesAcknowledge c)
+    (counted c (raisedAcknowledge (c .next))) c (λ q. refl) (λ q. refl)
 receive-kept {c = c} (timing q ok) k =
     of-pick (λ (x : Channel). x .next .receive ≡ c .next .receive) (isOrdered c) (closed c) c (λ q. refl) (λ q. refl)
 
@@ -106,7 +107,8 @@ module _ {s t : Store} {d : Datagram} {n m : ℕ} (st : Step s d t) (w : Waits s
   own-waits : st .channel .own .channel ≡ n → st .channel ≡ w .channel
   own-waits q =
       let f = w .found in
-      let g : channelAt n (s .channels) ≡ some (st .channel) = ap (λ (k : ℕ). channelAt k (s .channels)) (sym q) ∙ own-found st in
+      let g : channelAt n (s .channels) ≡ some (st .channel) = ap (λ (k : ℕ). channelAt k (s .channels)) (sym q) ∙
+      own-found st in
       cc
 
   own-order : st .channel .own .channel ≡ n → isOrdered (st .effect .end) ≡ true

@@ -1,19 +1,12 @@
 -- Laws of the table of answers: accepted is when no line gives a number; the places rise. Assumes nothing.
-use mathlib.Core.Path.{_≡_, refl}
-use mathlib.Core.Bool.{Bool, true, false}
-use mathlib.Core.List.{List, [], _∷_, map}
-use mathlib.Core.Logic.{_↔_}
-use Prim.Native.Nat.{ℕ, suc}
-use native.Mathlib.Omega.{arith}
-use lib.Dec.{eqb}
-use borrow.Author.Tests.{eqb-true, eqb-false, eq-eqb}
-use Rattle.wire.specs.Choice.{pick}
-use Rattle.wire.specs.Bytes.{Every}
-use Rattle.wire.proofs.ChoiceLaws.{cases}
+use Rattle.wire.proofs.Prelude.{_≡_, refl, Bool, true, false, List, [], _∷_, map, _↔_, ℕ, suc, arith, eqb, eqb-true}
+use Rattle.wire.proofs.Prelude.{eqb-false, eq-eqb}
+use Rattle.wire.specs.Names.{pick, Every}
+use Rattle.wire.proofs.Laws.{cases}
 use Rattle.store.specs.declared.Channel.{Channel}
-use Rattle.store.specs.Layout.{Store}
-use Rattle.datagram.specs.Datagram.{Datagram}
-use Rattle.rules.specs.Refusals.{Line, given, lowest, table}
+use Rattle.store.specs.Names.{Store}
+use Rattle.datagram.specs.Names.{Datagram}
+use Rattle.rules.specs.Names.{Line, given, lowest, table}
 
 lowest-cons : (k : ℕ) (l : Line) (ls : List Line) → lowest k (l ∷ ls) ≡ 0 → (given k l ≡ 0) × (lowest k ls ≡ 0)
 unfolding lowest

@@ -1,29 +1,16 @@
 -- Of each call by itself: a made store is fit, a fit store stays fit, bytes stay bytes, a refusal changes nothing.
 -- Assumes nothing.
-use mathlib.Core.Path.{_≡_, refl, sym, ap, subst, _∙_}
-use mathlib.Core.Bool.{true}
-use mathlib.Core.List.{List, _++_}
-use Prim.Native.Nat.{ℕ}
-use lib.Dec.{eqb}
-use lib.ListN.{length, drop}
-use borrow.Author.Tests.{eqb-true, eqb-false}
-use Rattle.wire.specs.Choice.{_or_}
-use Rattle.wire.specs.Bytes.{Bytes, little}
-use Rattle.wire.proofs.ChoiceLaws.{cases}
-use Rattle.wire.proofs.EveryLaws.{every-append, every-drop}
-use Rattle.wire.proofs.BytesLaws.{Byte, bytes-little}
+use Rattle.wire.proofs.Prelude.{_≡_, refl, sym, ap, subst, _∙_, true, List, _++_, ℕ, eqb, length, drop, eqb-true}
+use Rattle.wire.proofs.Prelude.{eqb-false}
+use Rattle.wire.specs.Names.{_or_, Bytes, little}
+use Rattle.wire.proofs.Laws.{cases, every-append, every-drop, Byte, bytes-little}
 use Rattle.store.specs.declared.Channel.{Channel}
-use Rattle.store.specs.Layout.{Store, storeIn}
-use Rattle.store.specs.Fit.{isFit}
-use Rattle.store.proofs.FitLaws.{fit-of}
-use Rattle.store.proofs.MakerLaws.{made-fields, made-fits, make-told}
-use Rattle.datagram.specs.Datagram.{Datagram, datagramIn, isProved}
-use Rattle.datagram.specs.Emitted.{packetBytes}
-use Rattle.datagram.proofs.DatagramLaws.{PacketFields}
-use Rattle.datagram.proofs.EmittedLaws.{bytes-framed, bytes-packet}
-use Rattle.rules.specs.Acceptance.{Effect, sentPacket, sends, receives, writesAcknowledgement, acknowledges, timesOut}
-use Rattle.rules.specs.Call.{effectIn, callTold, callStore, callOutput}
-use Rattle.rules.specs.Promise.{first, Call, Met, Stays}
+use Rattle.store.specs.Names.{Store, storeIn, isFit}
+use Rattle.store.proofs.Laws.{fit-of, made-fields, made-fits, make-told}
+use Rattle.datagram.specs.Names.{Datagram, datagramIn, isProved, packetBytes}
+use Rattle.datagram.proofs.Laws.{PacketFields, bytes-framed, bytes-packet}
+use Rattle.rules.specs.Names.{Effect, sentPacket, sends, receives, writesAcknowledgement, acknowledges, timesOut}
+use Rattle.rules.specs.Names.{effectIn, callTold, callStore, callOutput, first, Call, Met, Stays}
 use Rattle.rules.proofs.Step.{How, sending, receiving, writing, acknowledging, timing}
 use Rattle.rules.proofs.FitStep.{fits-after}
 use Rattle.rules.proofs.Bridge.{Acceptance, accepted-step}
@@ -51,13 +38,16 @@ written-bytes p n m a h =
     (every-append Byte (little 2 p ++ little 4 n) (little 8 m)
     (every-append Byte (little 2 p) (little 4 n) (bytes-little 2 p) (bytes-little 4 n)) (bytes-little 8 m)) h
 
-emitted-bytes : {s : Store} {d : Datagram} {c : Channel} {e : Effect} → Bytes (d .digest) → PacketFields (sentPacket c d) →
+emitted-bytes : {s : Store} {d : Datagram} {c : Channel} {e : Effect} → Bytes (d .digest) →
+    PacketFields (sentPacket c d) →
     (isProved (d .kind) ≡ true → PacketFields (d .packet)) → How s d c e → Bytes (e .emitted)
 unfolding sends receives writesAcknowledgement acknowledges timesOut isProved _or_
 emitted-bytes {d = d} {c} a f g (sending k ok) = bytes-framed _ _ (bytes-packet (sentPacket c d) (f .bytes))
 emitted-bytes {d = d} {c} a f g (receiving k ok) = bytes-framed _ _ (bytes-packet (d .packet) (g (cc) .bytes))
-emitted-bytes {d = d} {c} a f g (writing k ok) = bytes-framed _ _ (written-bytes (c .own .port) (c .own .channel) (d .sequence) (d .digest) a)
-emitted-bytes {d = d} {c} a f g (acknowledging k ok) = bytes-framed _ _ (every-append Byte (packetBytes (d .packet)) (d .digest) (bytes-packet (d .packet) (g (cc) .bytes)) a)
+emitted-bytes {d = d} {c} a f g (writing k ok) = bytes-framed _ _
+    (written-bytes (c .own .port) (c .own .channel) (d .sequence) (d .digest) a)
+emitted-bytes {d = d} {c} a f g (acknowledging k ok) = bytes-framed _ _
+    (every-append Byte (packetBytes (d .packet)) (d .digest) (bytes-packet (d .packet) (g (cc) .bytes)) a)
 emitted-bytes {d = d} {c} a f g (timing k ok) = bytes-framed _ _ (bytes-packet (d .packet) (g (cc) .bytes))
 
 module _ (bs o b : List ℕ) (p : Bytes bs) (q : Bytes b) where
@@ -90,7 +80,8 @@ module _ (bs o b : List ℕ) (p : Bytes bs) (q : Bytes b) where
 pub stays : Stays
 stays =
     record {
-      made = λ bs os p h. ap isFit (make-told bs os h) ∙ fit-of _ (made-fields (length bs) os p h) (made-fits (length bs) os h);
+      made = λ bs os p h. ap isFit (make-told bs os h) ∙
+          fit-of _ (made-fields (length bs) os p h) (made-fits (length bs) os h);
       fit = λ bs o b p q f. stays-fit bs o b p q f;
       bytes = λ bs o b p r q. (left-bytes (call bs o b) (met bs o b) p q, output-bytes bs o b p q r);
       refused = λ bs o b n. refused-call (call bs o b) (met bs o b) n;

@@ -1,35 +1,28 @@
--- One accepted call on one ledger, on stores and not on bytes: what it does to the end and to the records. Assumes nothing.
-use mathlib.Core.Path.{_≡_, refl, sym, ap, subst, subst₂, _∙_}
-use mathlib.Core.Bool.{true, not}
-use mathlib.Core.List.{List}
-use mathlib.Core.Logic.{_⊎_, inl, inr}
-use mathlib.Core.Option.{Option, none, some}
-use Prim.Native.Nat.{ℕ, zero, suc, _≤_, _<_}
-use native.Mathlib.Omega.{arith}
-use lib.Dec.{eqb}
-use borrow.Author.Tests.{eqb-true, eqb-false}
-use Rattle.wire.specs.Choice.{_and_, _or_, isSome}
-use Rattle.wire.specs.Bytes.{noDigest}
-use Rattle.wire.proofs.ChoiceLaws.{cases, of-pick, not-some, none-if}
+-- One accepted call on one ledger, on stores and not on bytes: what it does to the end and to the records.
+-- Assumes nothing.
+use Rattle.wire.proofs.Prelude.{_≡_, refl, sym, ap, subst, subst₂, _∙_, true, not, List, _⊎_, inl, inr, Option, none}
+use Rattle.wire.proofs.Prelude.{some, ℕ, zero, suc, _≤_, _<_, arith, eqb, eqb-true, eqb-false}
+use Rattle.wire.specs.Names.{_and_, _or_, isSome, noDigest}
+use Rattle.wire.proofs.Laws.{cases, of-pick, not-some, none-if}
 use Rattle.store.specs.declared.End.{End}
 use Rattle.store.specs.declared.Channel.{Channel}
 use Rattle.store.specs.declared.Counters.{Counters}
 use Rattle.store.specs.declared.Record.{Record}
-use Rattle.store.specs.Table.{Key, commitmentKey, keyOf, lookup, hasFree, channelAt, withChannel}
-use Rattle.store.specs.Layout.{Store}
-use Rattle.store.specs.Ordering.{isOrdered}
-use Rattle.store.specs.Fit.{storeFits}
-use Rattle.store.proofs.RecordLaws.{Single, insert-keeps, lookup-remove-other}
-use Rattle.store.proofs.FitRecordLaws.{fit-single, committed-end}
-use Rattle.store.proofs.ChannelLaws.{channel-number, channel-own, channel-with, channel-with-other}
+use Rattle.store.specs.Names.{Key, commitmentKey, keyOf, lookup, hasFree, channelAt, withChannel, Store, isOrdered}
+use Rattle.store.specs.Names.{storeFits}
+use Rattle.store.proofs.Laws.{Single, insert-keeps, lookup-remove-other, fit-single, committed-end, channel-number}
+use Rattle.store.proofs.Laws.{channel-own, channel-with, channel-with-other}
 use Rattle.datagram.specs.declared.Packet.{Packet}
-use Rattle.datagram.specs.Datagram.{Datagram}
-use Rattle.rules.specs.Ordering.{Edit, keeps, writes, frees, plainRecord, counted, closed, raisedSend, raisedReceive, raisedAcknowledge, raisesReceive, receivedEnd, receivedEdit, raisesAcknowledge, acknowledgedEnd, timedOutEnd}
-use Rattle.rules.specs.Refusals.{isCommitted, lowest, table}
-use Rattle.rules.specs.Acceptance.{Effect, sentPacket, commitment, sends, receives, writesAcknowledgement, acknowledges, timesOut, effectOf, edited, applied}
+use Rattle.datagram.specs.Names.{Datagram}
+use Rattle.rules.specs.Names.{Edit, keeps, writes, frees, plainRecord, counted, closed, raisedSend, raisedReceive}
+use Rattle.rules.specs.Names.{raisedAcknowledge, raisesReceive, receivedEnd, receivedEdit, raisesAcknowledge}
+use Rattle.rules.specs.Names.{acknowledgedEnd, timedOutEnd, isCommitted, lowest, table, Effect, sentPacket}
+use Rattle.rules.specs.Names.{commitment, sends, receives, writesAcknowledgement, acknowledges, timesOut}
+use Rattle.rules.specs.Names.{effectOf, edited, applied}
 use Rattle.rules.proofs.VerdictLaws.{has-values}
 use Rattle.rules.proofs.OrderingLaws.{receive-room, receive-absent}
-use Rattle.rules.proofs.Accepted.{SendOk, ReceiveOk, WriteOk, AcknowledgeOk, TimeoutOk, send-ok, receive-ok, write-ok, acknowledge-ok, timeout-ok}
+use Rattle.rules.proofs.Accepted.{SendOk, ReceiveOk, WriteOk, AcknowledgeOk, TimeoutOk, send-ok, receive-ok}
+use Rattle.rules.proofs.Accepted.{write-ok, acknowledge-ok, timeout-ok}
 
 -- one of five
 pub data How (s : Store) (d : Datagram) (c : Channel) : Effect → Type 0 where
@@ -39,7 +32,8 @@ pub data How (s : Store) (d : Datagram) (c : Channel) : Effect → Type 0 where
   acknowledging : d .kind ≡ 4 → AcknowledgeOk s d c → How s d c (acknowledges c (d .packet) (d .digest))
   timing : d .kind ≡ 5 → TimeoutOk s d c → How s d c (timesOut c (d .packet))
 
-pub how : (bs : List ℕ) (room : ℕ) (b : List ℕ) (s : Store) (d : Datagram) (c : Channel) (k : ℕ) → d .kind ≡ k → 1 ≤ k → k ≤ 5 →
+pub how : (bs : List ℕ) (room : ℕ) (b : List ℕ) (s : Store) (d : Datagram) (c : Channel) (k : ℕ) → d .kind ≡ k →
+    1 ≤ k → k ≤ 5 →
     lowest k (table bs room b k s d c) ≡ 0 → How s d c (effectOf k c d)
 unfolding effectOf
 how bs r b s d c zero e l u h = absurd (omega arith)
@@ -78,7 +72,8 @@ pub record Grown (c e : Channel) : Type 0 where
   pub state : (e .state ≡ c .state) ⊎ (e .state ≡ 4)
 
 -- an end whose counters are these
-counts-up : (c : Channel) (n : Counters) → c .next .send ≤ n .send → c .next .receive ≤ n .receive → c .next .acknowledge ≤ n .acknowledge →
+counts-up : (c : Channel) (n : Counters) → c .next .send ≤ n .send → c .next .receive ≤ n .receive →
+    c .next .acknowledge ≤ n .acknowledge →
     Grown c (counted c n)
 unfolding counted
 counts-up c n p q r =
@@ -132,7 +127,8 @@ pub committed-there : (rs : List (Option Record)) (p : Packet) → isCommitted r
     isSome (lookup (commitmentKey (p .source .channel) (p .sequence)) rs) ≡ true
 unfolding isCommitted
 committed-there rs p h =
-    ap isSome (has-values (p .timeout) (p .digest) (lookup (commitmentKey (p .source .channel) (p .sequence)) rs) h .there)
+    ap isSome (has-values (p .timeout) (p .digest) (lookup (commitmentKey (p .source .channel) (p .sequence)) rs)
+    h .there)
 
 -- next send is not in use
 unused : (s : Store) (c : Channel) → storeFits s ≡ true → channelAt (c .own .channel) (s .channels) ≡ some c →
@@ -146,18 +142,24 @@ unused s c f h =
     let l : c .next .send < c .next .send = rw q at (a .2) in
     omega arith)
 
-legal-of : {s : Store} {d : Datagram} {c : Channel} {e : Effect} → storeFits s ≡ true → channelAt (c .own .channel) (s .channels) ≡ some c →
-    ((d .kind ≡ 4) ⊎ (d .kind ≡ 5) → c .own .channel ≡ d .packet .source .channel) → How s d c e → Legal (s .records) (e .edit)
+legal-of : {s : Store} {d : Datagram} {c : Channel} {e : Effect} → storeFits s ≡ true →
+    channelAt (c .own .channel) (s .channels) ≡ some c →
+    ((d .kind ≡ 4) ⊎ (d .kind ≡ 5) → c .own .channel ≡ d .packet .source .channel) → How s d c e →
+    Legal (s .records) (e .edit)
 unfolding sends receives writesAcknowledgement acknowledges timesOut receivedEdit commitment sentPacket plainRecord
 legal-of {s} {d} {c} f h w (sending k ok) = adding (ok .room) (unused s c f h)
 legal-of {s} {d} {c} f h w (receiving k ok) =
-    of-pick (Legal (s .records)) (raisesReceive c) keeps (writes (plainRecord 2 (c .own .channel) (d .packet .sequence) noDigest)) (λ q. keeping)
-    (λ q. adding (receive-room c (hasFree (s .records)) q (ok .room)) (receive-absent (s .records) c (d .packet .sequence) q (ok .new)))
+    of-pick (Legal (s .records)) (raisesReceive c) keeps
+    (writes (plainRecord 2 (c .own .channel) (d .packet .sequence) noDigest)) (λ q. keeping)
+    (λ q. adding (receive-room c (hasFree (s .records)) q (ok .room))
+    (receive-absent (s .records) c (d .packet .sequence) q (ok .new)))
 legal-of {s} {d} {c} f h w (writing k ok) = adding (ok .room) (not-some _ (ap not (ok .new)))
 legal-of {s} {d} {c} f h w (acknowledging k ok) =
-    freeing {c = c .own .channel} {n = d .packet .sequence} (rw (w (inl k)) (committed-there (s .records) (d .packet) (ok .committed)))
+    freeing {c = c .own .channel} {n = d .packet .sequence}
+    (rw (w (inl k)) (committed-there (s .records) (d .packet) (ok .committed)))
 legal-of {s} {d} {c} f h w (timing k ok) =
-    freeing {c = c .own .channel} {n = d .packet .sequence} (rw (w (inr k)) (committed-there (s .records) (d .packet) (ok .committed)))
+    freeing {c = c .own .channel} {n = d .packet .sequence}
+    (rw (w (inr k)) (committed-there (s .records) (d .packet) (ok .committed)))
 
 -- ENDS from one store to a later one
 abbrev pub Later : Option Channel → Option Channel → Type 0
@@ -207,7 +209,8 @@ module _ {s t : Store} {d : Datagram} (st : Step s d t) where
   pub own-after : channelAt own (t .channels) ≡ some (st .effect .end)
   own-after =
       at-left own ∙ ap (λ (n : ℕ). channelAt n (withChannel (st .effect .end) (s .channels))) (sym end-number) ∙
-      channel-with (st .effect .end) (s .channels) (ap isSome (ap (λ (n : ℕ). channelAt n (s .channels)) end-number ∙ own-found))
+      channel-with (st .effect .end) (s .channels) (ap isSome
+      (ap (λ (n : ℕ). channelAt n (s .channels)) end-number ∙ own-found))
 
   pub other-after : (n : ℕ) → (own ≡ n → ⊥) → channelAt n (t .channels) ≡ channelAt n (s .channels)
   other-after n h = at-left n ∙ channel-with-other n (st .effect .end) (s .channels) (λ q. h (sym end-number ∙ q))
@@ -217,15 +220,19 @@ module _ {s t : Store} {d : Datagram} (st : Step s d t) where
       cases (eqb own n)
       (λ q. subst (λ (m : ℕ). Later (channelAt m (s .channels)) (channelAt m (t .channels))) (eqb-true own n q)
       (subst₂ Later (sym own-found) (sym own-after) own-grown))
-      (λ q. subst (Later (channelAt n (s .channels))) (sym (other-after n (eqb-false own n q))) (later-refl (channelAt n (s .channels))))
+      (λ q. subst (Later (channelAt n (s .channels))) (sym (other-after n (eqb-false own n q)))
+      (later-refl (channelAt n (s .channels))))
 
   -- a record that is no commitment stays
-  pub record-stays : (k : Key) → (k .kind ≡ 1 → ⊥) → isSome (lookup k (s .records)) ≡ true → isSome (lookup k (t .records)) ≡ true
+  pub record-stays : (k : Key) → (k .kind ≡ 1 → ⊥) → isSome (lookup k (s .records)) ≡ true →
+      isSome (lookup k (t .records)) ≡ true
   unfolding edited
-  record-stays k n h = ap (λ (rs : List (Option Record)). isSome (lookup k rs)) records-left ∙ go (st .effect .edit) legal
+  record-stays k n h = ap (λ (rs : List (Option Record)). isSome (lookup k rs)) records-left ∙
+      go (st .effect .edit) legal
     where
       go : (e : Edit) → Legal (s .records) e → isSome (lookup k (edited e (s .records))) ≡ true
       go e keeping = h
       go e (adding {r = r} room new) = insert-keeps (s .records) single r room new k h
       go e (freeing {c = c} {n = m} there) =
-          ap isSome (lookup-remove-other (s .records) single (commitmentKey c m) k (λ q. n (ap (λ (x : Key). x .kind) (sym q)))) ∙ h
+          ap isSome (lookup-remove-other (s .records) single (commitmentKey c m) k
+          (λ q. n (ap (λ (x : Key). x .kind) (sym q)))) ∙ h

@@ -1,29 +1,21 @@
 -- Demand 3: the sums, for each end on its own store. Assumes nothing.
-use mathlib.Core.Path.{_≡_, sym, ap, subst, _∙_}
-use mathlib.Core.Bool.{true}
-use mathlib.Core.List.{List}
-use mathlib.Core.Logic.{_⊎_, inl, inr, ⊎-elim}
-use Prim.Native.Nat.{ℕ, zero, suc, _+_}
-use native.Mathlib.Omega.{arith}
-use lib.Dec.{eqb}
-use lib.ListN.{length, take}
-use lib.Seq.{take-length}
-use borrow.Author.Tests.{eqb-true, eqb-false, eq-eqb, ne-eqb}
-use Rattle.wire.specs.Choice.{_and_, pick}
-use Rattle.wire.proofs.ChoiceLaws.{and-both, cases}
-use Rattle.store.specs.Table.{commitments}
-use Rattle.store.specs.Layout.{Store, storeIn}
-use Rattle.store.proofs.MakerLaws.{made-commitments}
+use Rattle.wire.proofs.Prelude.{_≡_, sym, ap, subst, _∙_, true, List, _⊎_, inl, inr, ⊎-elim, ℕ, zero, suc, _+_, arith}
+use Rattle.wire.proofs.Prelude.{eqb, length, take, take-length, eqb-true, eqb-false, eq-eqb, ne-eqb}
+use Rattle.wire.specs.Names.{_and_, pick}
+use Rattle.wire.proofs.Laws.{and-both, cases}
+use Rattle.store.specs.Names.{commitments, Store, storeIn}
+use Rattle.store.proofs.Laws.{made-commitments}
 use Rattle.datagram.specs.declared.Packet.{Packet}
-use Rattle.datagram.specs.Datagram.{datagramIn, kindIn}
-use Rattle.rules.specs.Acceptance.{sentPacket}
-use Rattle.rules.specs.Promise.{Side, Call, fold, storeAfter, howMany, isOn, isAccepted, emitted, emits, isSend, isAcknowledgement, isTimeout, packetOf, isBy, Sums}
+use Rattle.datagram.specs.Names.{datagramIn, kindIn}
+use Rattle.rules.specs.Names.{sentPacket, Side, Call, fold, storeAfter, howMany, isOn, isAccepted, emitted, emits}
+use Rattle.rules.specs.Names.{isSend, isAcknowledgement, isTimeout, packetOf, isBy, Sums}
 use Rattle.rules.proofs.Commitment.{sum, finish-source}
 use Rattle.rules.proofs.Acted.{Acted, acted-sent, acted-carried}
 use Rattle.rules.proofs.History.{side-refl, made-read, World, ledger, Turn, Quiet, turn, turn-count, quiet-count}
 
 -- what counts for the sum: a call of this kind, on this channel
-module _ (z : Side) (n : ℕ) (c : Call) (on : c .side ≡ z) (told : c .told .number ≡ 0) {s t : Store} (a : Acted c s t) where
+module _ (z : Side) (n : ℕ) (c : Call) (on : c .side ≡ z) (told : c .told .number ≡ 0) {s t : Store}
+    (a : Acted c s t) where
   abbrev kind : ℕ
   kind = datagramIn (c .datagram) .kind
 
@@ -35,10 +27,12 @@ module _ (z : Side) (n : ℕ) (c : Call) (on : c .side ≡ z) (told : c .told .n
   unfolding sentPacket
   source-own (inl q) = ap (λ (p : Packet). p .source .channel) (acted-sent a q)
   source-own (inr q) =
-      ap (λ (p : Packet). p .source .channel) (acted-carried a (λ w. ⊎-elim (λ v. omega arith) (λ v. omega arith) q) (λ w. ⊎-elim (λ v. omega arith) (λ v. omega arith) q)) ∙
+      ap (λ (p : Packet). p .source .channel) (acted-carried a (λ w. ⊎-elim (λ v. omega arith) (λ v. omega arith) q)
+      (λ w. ⊎-elim (λ v. omega arith) (λ v. omega arith) q)) ∙
       sym (finish-source (a .step) q)
 
-  counts : (k : ℕ) → (kind ≡ k → (kind ≡ 1) ⊎ ((kind ≡ 4) ⊎ (kind ≡ 5))) → isBy z n (emits (256 + k)) c ≡ (eqb kind k and eqb own n)
+  counts : (k : ℕ) → (kind ≡ k → (kind ≡ 1) ⊎ ((kind ≡ 4) ⊎ (kind ≡ 5))) →
+      isBy z n (emits (256 + k)) c ≡ (eqb kind k and eqb own n)
   unfolding _and_
   counts k h =
       let o : isOn z c ≡ true = rw on (side-refl z) in
@@ -67,14 +61,16 @@ module _ (w : World) (z : Side) (n : ℕ) where
   unfolding fold
   sums-at zero =
       let k = w .made z in
-      let e = ap (λ (s : Store). commitments n (s .records)) (made-read (w .start z) k) ∙ made-commitments (length (k .slice)) (k .openings) n in
+      let e = ap (λ (s : Store). commitments n (s .records)) (made-read (w .start z) k) ∙
+      made-commitments (length (k .slice)) (k .openings) n in
       omega arith
   sums-at (suc i) = go (turn w z i) (sums-at i)
     where
       go : Quiet w z i ⊎ Turn w z i → tally 1 i ≡ tally 4 i + tally 5 i + commitments n (ledger w z i .records) →
           tally 1 (suc i) ≡ tally 4 (suc i) + tally 5 (suc i) + commitments n (ledger w z (suc i) .records)
       go (inl q) ih =
-          let same : (k : ℕ) → tally k (suc i) ≡ tally k i = λ k. quiet-count w q (isBy z n (emits (256 + k))) (by-on z n (256 + k)) in
+          let same : (k : ℕ) → tally k (suc i) ≡ tally k i =
+          λ k. quiet-count w q (isBy z n (emits (256 + k))) (by-on z n (256 + k)) in
           let e = ap (λ (s : Store). commitments n (s .records)) (q .same) in
           omega (arith, same 1, same 4, same 5)
       go (inr u) ih =
@@ -82,9 +78,17 @@ module _ (w : World) (z : Side) (n : ℕ) where
           let x : (k : ℕ) → tally k (suc i) ≡ pick (isBy z n (emits (256 + k)) (u .call)) 1 0 + tally k i =
           λ k. turn-count w u (isBy z n (emits (256 + k))) in
           let y = counts z n (u .call) (u .acts .side) (u .acts .told) a in
-          omega (arith, sum (a .step) n, rw (y 1 (λ q. inl q)) at (x 1), rw (y 4 (λ q. inr (inl q))) at (x 4), rw (y 5 (λ q. inr (inr q))) at (x 5))
+          omega (
+            arith,
+            sum (a .step) n,
+            rw (y 1 (λ q. inl q)) at (x 1),
+            rw (y 4 (λ q. inr (inl q))) at (x 4),
+            rw (y 5 (λ q. inr (inr q))) at (x 5),
+          )
 
 pub sums : (w : World) → Sums (w .start) (w .calls)
 sums w z n =
-    subst (λ (cs : List Call). howMany (isBy z n isSend) cs ≡ howMany (isBy z n isAcknowledgement) cs + howMany (isBy z n isTimeout) cs +
-    commitments n (storeIn (storeAfter (isOn z) (w .start z) cs) .records)) (take-length (w .calls)) (sums-at w z n (length (w .calls)))
+    subst (λ (cs : List Call). howMany (isBy z n isSend) cs ≡ howMany (isBy z n isAcknowledgement) cs + howMany
+    (isBy z n isTimeout) cs +
+    commitments n (storeIn (storeAfter (isOn z) (w .start z) cs) .records)) (take-length (w .calls))
+    (sums-at w z n (length (w .calls)))

@@ -1,25 +1,15 @@
 -- What a verdict that matches is about, and what a claim that holds says. Assumes nothing.
-use mathlib.Core.Path.{_≡_, refl, sym, ap, _∙_}
-use mathlib.Core.Bool.{Bool, true, false, not}
-use mathlib.Core.List.{List}
-use mathlib.Core.Option.{Option, none, some}
-use Prim.Native.Nat.{ℕ, suc}
-use native.Mathlib.Omega.{arith}
-use lib.Dec.{eqb}
-use borrow.Author.Tests.{eqb-true, not-true}
-use Rattle.wire.specs.Choice.{_and_, pick, isSome}
-use Rattle.wire.specs.Bytes.{same}
-use Rattle.wire.proofs.ChoiceLaws.{and-both, clash}
+use Rattle.wire.proofs.Prelude.{_≡_, refl, sym, ap, _∙_, Bool, true, false, not, List, Option, none, some, ℕ, suc}
+use Rattle.wire.proofs.Prelude.{arith, eqb, eqb-true, not-true}
+use Rattle.wire.specs.Names.{_and_, pick, isSome, same}
+use Rattle.wire.proofs.Laws.{and-both, clash, same-eq}
 use Rattle.store.specs.declared.End.{End}
 use Rattle.store.specs.declared.Timeout.{Timeout}
 use Rattle.store.specs.declared.Channel.{Channel}
 use Rattle.store.specs.declared.Record.{Record}
-use Rattle.store.specs.Height.{sameTimeout}
-use Rattle.store.specs.Table.{commitmentKey, receiptKey, lookup, channelAt}
-use Rattle.store.specs.Layout.{Store}
+use Rattle.store.specs.Names.{sameTimeout, commitmentKey, receiptKey, lookup, channelAt, Store}
 use Rattle.datagram.specs.declared.Verdict.{Verdict}
-use Rattle.rules.specs.Verdict.{firstDifference, hasValues, holdsOn, claimHolds}
-use Rattle.wire.proofs.BytesLaws.{same-eq}
+use Rattle.rules.specs.Names.{firstDifference, hasValues, holdsOn, claimHolds}
 
 pub record About (v : Verdict) (k : ℕ) (e : End) (n : ℕ) (t : Timeout) (d : List ℕ) : Type 0 where
   pub claim : v .claim ≡ k
@@ -40,7 +30,8 @@ passed : (b : Bool) (n m : ℕ) → pick (not b) (suc n) m ≡ 0 → (b ≡ true
 passed true n m h = (refl, h)
 passed false n m h = let z : suc n ≡ 0 = h in absurd (omega arith)
 
-pub about : (v : Verdict) (k : ℕ) (e : End) (n : ℕ) (t : Timeout) (d : List ℕ) → firstDifference v k e n t d ≡ 0 → About v k e n t d
+pub about : (v : Verdict) (k : ℕ) (e : End) (n : ℕ) (t : Timeout) (d : List ℕ) → firstDifference v k e n t d ≡ 0 →
+    About v k e n t d
 unfolding firstDifference
 about v k e n t d h =
     let a = passed (eqb (v .claim) k) 0 _ h in
@@ -84,11 +75,13 @@ module _ (v : Verdict) (s : Store) (h : claimHolds v s ≡ true) where
   unfolding claimHolds
   held x e = ap (λ (y : Option Channel). holdsOn v s y) (sym e) ∙ h
 
-  pub claim-committed : v .claim ≡ 1 → Has (lookup (commitmentKey (v .end .channel) (v .sequence)) (s .records)) (v .timeout) (v .digest)
+  pub claim-committed : v .claim ≡ 1 → Has (lookup (commitmentKey (v .end .channel) (v .sequence)) (s .records))
+      (v .timeout) (v .digest)
   unfolding holdsOn
   claim-committed k = go (channelAt (v .end .channel) (s .channels)) (held _ refl)
     where
-      go : (x : Option Channel) → holdsOn v s x ≡ true → Has (lookup (commitmentKey (v .end .channel) (v .sequence)) (s .records)) (v .timeout) (v .digest)
+      go : (x : Option Channel) → holdsOn v s x ≡ true →
+          Has (lookup (commitmentKey (v .end .channel) (v .sequence)) (s .records)) (v .timeout) (v .digest)
       go none e = clash {b = false} e refl
       go (some c) e =
           let b = and-both e .1 in

@@ -24,7 +24,7 @@ pub data Edit : Type 0 where
 unfoldable pub plainRecord : (kind channel sequence : ℕ) → (digest : List ℕ) → Record
 plainRecord k c n d = record { kind = k; channel = c; sequence = n; timeout = noTimeout; digest = d }
 
--- an end with other counters and state
+-- an end with other counters
 unfoldable pub counted : Channel → Counters → Channel
 counted c n = record { state = c .state; order = c .order; own = c .own; counterparty = c .counterparty; next = n }
 
@@ -87,7 +87,8 @@ timedOutEnd c = pick (isOrdered c) (closed c) c
 unfoldable pub isAtTop : (kind : ℕ) → Channel → Bool
 isAtTop k c =
     pick (eqb k 1) (eqb (c .next .send) top)
-    (pick (eqb k 2) (raisesReceive c and eqb (c .next .receive) top) (raisesAcknowledge c and eqb (c .next .acknowledge) top))
+    (pick (eqb k 2) (raisesReceive c and eqb (c .next .receive) top)
+    (raisesAcknowledge c and eqb (c .next .acknowledge) top))
 
 -- A NEW RECORD is needed: for 1 and 3; for 2 where no counter rises
 unfoldable pub needsRecord : (kind : ℕ) → Channel → Bool

@@ -21,7 +21,8 @@ use Rattle.datagram.specs.declared.Packet.{Packet}
 use Rattle.datagram.specs.declared.Verdict.{Verdict}
 use Rattle.datagram.specs.Datagram.{Datagram, datagramIn, isSound}
 use Rattle.rules.specs.Verdict.{firstDifference, hasValues}
-use Rattle.rules.specs.Ordering.{receivesInOrder, isReceiptThere, acknowledgesInOrder, absenceClaim, absenceSequence, timesOutInOrder, isAtTop, needsRecord}
+use Rattle.rules.specs.Ordering.{receivesInOrder, isReceiptThere, acknowledgesInOrder, absenceClaim}
+use Rattle.rules.specs.Ordering.{absenceSequence, timesOutInOrder, isAtTop, needsRecord}
 
 -- A LINE: its place in the order, its kinds, and the number that it gives, 0 where it does not apply
 pub record Line : Type 0 where
@@ -99,7 +100,8 @@ unfoldable pub verdictDifference : (kind : ℕ) → Channel → Packet → (ackn
 verdictDifference k c p a v =
     pick (eqb k 2) (firstDifference v 1 (p .source) (p .sequence) (p .timeout) (p .digest))
     (pick (eqb k 4) (firstDifference v 2 (p .destination) (p .sequence) noTimeout a)
-    (firstDifference v (absenceClaim c) (p .destination) (absenceSequence c (p .sequence) (v .sequence)) noTimeout noDigest))
+    (firstDifference v (absenceClaim c) (p .destination) (absenceSequence c (p .sequence) (v .sequence)) noTimeout
+    noDigest))
 
 -- 15: in order on an ordered channel
 unfoldable pub isInOrder : (kind : ℕ) → Channel → Packet → Verdict → Bool
@@ -113,7 +115,8 @@ isThere k rs c n m =
     pick (eqb k 2) (isReceiptThere rs c n) (isSome (lookup (acknowledgementKey (c .own .channel) m) rs))
 
 -- THE TABLE, for a store's and a datagram's bytes, the room for output, and what those are read as
-unfoldable pub table : (store : List ℕ) → (room : ℕ) → (datagram : List ℕ) → (kind : ℕ) → Store → Datagram → Channel → List Line
+unfoldable pub table : (store : List ℕ) → (room : ℕ) → (datagram : List ℕ) → (kind : ℕ) →
+    Store → Datagram → Channel → List Line
 table bs room b k s d c =
     line 1 every (not (isFit bs)) ∷
     line 2 every (ltb room outputLimit) ∷

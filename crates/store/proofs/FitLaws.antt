@@ -1,27 +1,16 @@
 -- A fit store that is read fits its fields, and a store that fits is fit in bytes. Assumes nothing.
-use mathlib.Core.Path.{_≡_, refl, _∙_}
-use mathlib.Core.Bool.{true, false}
-use mathlib.Core.List.{List, [], _∷_, map}
-use mathlib.Core.Option.{Option, none, some}
-use Prim.Native.Nat.{ℕ, _+_, _*_, _-_, _%_, _≤_}
-use native.Mathlib.Omega.{arith}
-use lib.Dec.{eqb}
-use lib.ListN.{length, drop, length-drop, length-map}
-use borrow.Author.Tests.{leb-true, eqb-true, le-leb, eq-eqb}
-use Rattle.wire.specs.Choice.{_and_}
-use Rattle.wire.specs.Bytes.{Every, Bytes, areZero, pieces}
-use Rattle.wire.proofs.ChoiceLaws.{and-both, both-and, clash, cases, of-pick}
-use Rattle.wire.proofs.EveryLaws.{every-drop, every-getD}
-use Rattle.wire.proofs.BytesLaws.{Byte, eq-same, field-below, length-part, bytes-part, length-pieces, every-pieces}
+use Rattle.wire.proofs.Prelude.{_≡_, refl, _∙_, true, false, List, [], _∷_, map, Option, none, some, ℕ, _+_, _*_, _-_}
+use Rattle.wire.proofs.Prelude.{_%_, _≤_, arith, eqb, length, drop, length-drop, length-map, leb-true, eqb-true, le-leb}
+use Rattle.wire.proofs.Prelude.{eq-eqb}
+use Rattle.wire.specs.Names.{_and_, Every, Bytes, areZero, pieces}
+use Rattle.wire.proofs.Laws.{and-both, both-and, clash, cases, of-pick, every-drop, every-getD, Byte, eq-same}
+use Rattle.wire.proofs.Laws.{field-below, length-part, bytes-part, length-pieces, every-pieces}
 use Rattle.store.specs.declared.Channel.{Channel}
 use Rattle.store.specs.declared.Record.{Record}
-use Rattle.store.specs.Limits.{channelLimit, recordLimit}
-use Rattle.store.specs.Height.{noTimeout, sameTimeout}
-use Rattle.store.specs.Table.{channelAt}
-use Rattle.store.specs.Layout.{Store, headerSize, slotSize, recordsFrom, sizeFor, roomIn, bytesOf}
-use Rattle.store.specs.Layout.{channelIn, recordIn, slotIn, tableIn, storeIn}
-use Rattle.store.specs.Ordering.{isReceived}
-use Rattle.store.specs.Fit.{fitsEnd, recordFits, recordsFit, storeFits, sizeFits, isFit}
+use Rattle.store.specs.Names.{channelLimit, recordLimit, noTimeout, sameTimeout, channelAt, Store, headerSize}
+use Rattle.store.specs.Names.{slotSize, recordsFrom, sizeFor, roomIn, bytesOf, channelIn, recordIn, slotIn}
+use Rattle.store.specs.Names.{tableIn, storeIn, isReceived, fitsEnd, recordFits, recordsFit, storeFits, sizeFits}
+use Rattle.store.specs.Names.{isFit}
 use Rattle.store.proofs.TableLaws.{Each, all-each}
 use Rattle.store.proofs.LayoutLaws.{ChannelFields, RecordFields, StoreFields, read-back, size-of}
 

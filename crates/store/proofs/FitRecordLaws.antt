@@ -1,18 +1,12 @@
 -- What a fit store tells of its records: no key stands twice, and a commitment's sequence is below its end's next send.
 -- Assumes nothing.
-use mathlib.Core.Path.{_≡_, refl, sym, ap, subst, _∙_}
-use mathlib.Core.Bool.{true, false}
-use mathlib.Core.Option.{Option, none, some}
-use Prim.Native.Nat.{ℕ, _<_}
-use lib.Dec.{ltb}
-use borrow.Author.Tests.{ltb-true}
-use Rattle.wire.specs.Choice.{_and_}
-use Rattle.wire.proofs.ChoiceLaws.{and-both, clash}
+use Rattle.wire.proofs.Prelude.{_≡_, refl, sym, ap, subst, _∙_, true, false, Option, none, some, ℕ, _<_, ltb, ltb-true}
+use Rattle.wire.specs.Names.{_and_}
+use Rattle.wire.proofs.Laws.{and-both, clash}
 use Rattle.store.specs.declared.Channel.{Channel}
 use Rattle.store.specs.declared.Record.{Record}
-use Rattle.store.specs.Table.{Key, commitmentKey, hasKey, lookup, channelAt}
-use Rattle.store.specs.Layout.{Store}
-use Rattle.store.specs.Fit.{fitsEnd, recordFits, recordsFit, storeFits}
+use Rattle.store.specs.Names.{Key, commitmentKey, hasKey, lookup, channelAt, Store, fitsEnd, recordFits}
+use Rattle.store.specs.Names.{recordsFit, storeFits}
 use Rattle.store.proofs.TableLaws.{Each, all-each, each-find, find-passes}
 use Rattle.store.proofs.RecordLaws.{Single, key-of}
 
@@ -25,20 +19,23 @@ unfolding storeFits recordsFit
 fit-records s h = all-each (recordFits s) (s .records) (and-both (and-both h .1) .0)
 
 -- a commitment's end is there, and its sequence is below next send
-on-end : (s : Store) (r : Record) (x : Option Channel) → r .kind ≡ 1 → fitsEnd s r x ≡ true → (c : Channel) × (x ≡ some c) × (r .sequence < c .next .send)
+on-end : (s : Store) (r : Record) (x : Option Channel) → r .kind ≡ 1 → fitsEnd s r x ≡ true →
+    (c : Channel) × (x ≡ some c) × (r .sequence < c .next .send)
 unfolding fitsEnd
 on-end s r none k h = clash {b = false} h refl
 on-end s r (some c) k h =
     let z : ltb (r .sequence) (c .next .send) ≡ true = cc in
     (c, refl, ltb-true (r .sequence) (c .next .send) z)
 
-pub committed-end : (s : Store) (n m : ℕ) (r : Record) → storeFits s ≡ true → lookup (commitmentKey n m) (s .records) ≡ some r →
+pub committed-end : (s : Store) (n m : ℕ) (r : Record) → storeFits s ≡ true →
+    lookup (commitmentKey n m) (s .records) ≡ some r →
     (c : Channel) × (channelAt n (s .channels) ≡ some c) × (m < c .next .send)
 unfolding recordFits
 committed-end s n m r f h =
     let key = key-of (commitmentKey n m) r (find-passes (hasKey (commitmentKey n m)) (s .records) r h) in
     let e = each-find (λ r. recordFits s r ≡ true) (hasKey (commitmentKey n m)) (s .records) r (fit-records s f) h in
     let o = on-end s r (channelAt (r .channel) (s .channels)) (ap (λ (k : Key). k .kind) key) (and-both e .1) in
-    let a : channelAt n (s .channels) ≡ some (o .0) = ap (λ (k : Key). channelAt (k .channel) (s .channels)) (sym key) ∙ o .1 in
+    let a : channelAt n (s .channels) ≡ some (o .0) = ap (λ (k : Key). channelAt (k .channel) (s .channels))
+    (sym key) ∙ o .1 in
     let b : m < o .0 .next .send = subst (λ (k : Key). k .sequence < o .0 .next .send) key (o .2) in
     (o .0, a, b)

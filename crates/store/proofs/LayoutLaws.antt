@@ -1,28 +1,17 @@
 -- A store that fits its fields is read back from its bytes as it was. Assumes nothing.
-use mathlib.Core.Path.{_≡_, refl, ap, _∙_}
-use mathlib.Core.Bool.{false}
-use mathlib.Core.List.{List, [], _∷_, _++_, append-assoc, append-nil}
-use mathlib.Core.Option.{Option, none, some}
-use Prim.Native.Nat.{ℕ, _*_, _%_, _^_, _≤_, _<_}
-use native.Mathlib.Omega.{arith}
-use lib.Dec.{eqb}
-use lib.ListN.{length, drop, replicate, length-append}
-use lib.Seq.{take-at, drop-at, take-all}
-use borrow.Author.Tests.{ne-eqb}
-use Rattle.wire.specs.Choice.{_and_}
-use Rattle.wire.specs.Bytes.{Bytes, areZero, little, numberOf, part, field, pieces, digestSize}
-use Rattle.wire.proofs.EveryLaws.{every-append}
-use Rattle.wire.proofs.BytesLaws.{Byte, read-little, bytes-little, bytes-zeros}
+use Rattle.wire.proofs.Prelude.{_≡_, refl, ap, _∙_, false, List, [], _∷_, _++_, append-assoc, append-nil, Option, none}
+use Rattle.wire.proofs.Prelude.{some, ℕ, _*_, _%_, _^_, _≤_, _<_, arith, eqb, length, drop, replicate, length-append}
+use Rattle.wire.proofs.Prelude.{take-at, drop-at, take-all, ne-eqb}
+use Rattle.wire.specs.Names.{_and_, Bytes, areZero, little, numberOf, part, field, pieces, digestSize}
+use Rattle.wire.proofs.Laws.{every-append, Byte, read-little, bytes-little, bytes-zeros}
 use Rattle.store.specs.declared.End.{End}
 use Rattle.store.specs.declared.Timeout.{Timeout}
 use Rattle.store.specs.declared.Counters.{Counters}
 use Rattle.store.specs.declared.Channel.{Channel}
 use Rattle.store.specs.declared.Record.{Record}
-use Rattle.store.specs.Limits.{channelLimit, recordLimit}
-use Rattle.store.specs.Height.{ownHeight}
-use Rattle.store.specs.Layout.{Store, headerSize, slotSize, recordsFrom, sizeFor, roomIn}
-use Rattle.store.specs.Layout.{channelBytes, recordBytes, slotBytes, tableBytes, headerBytes, bytesOf}
-use Rattle.store.specs.Layout.{channelIn, recordIn, slotIn, tableIn, storeIn}
+use Rattle.store.specs.Names.{channelLimit, recordLimit, ownHeight, Store, headerSize, slotSize, recordsFrom}
+use Rattle.store.specs.Names.{sizeFor, roomIn, channelBytes, recordBytes, slotBytes, tableBytes, headerBytes}
+use Rattle.store.specs.Names.{bytesOf, channelIn, recordIn, slotIn, tableIn, storeIn}
 use Rattle.store.proofs.TableLaws.{Each, each-map}
 
 -- BOUNDS: each number fits its field

@@ -1,27 +1,17 @@
 -- A made store: it fits its fields and fits together, and has no packet record. Assumes nothing.
-use mathlib.Core.Path.{_≡_, refl, ap, _∙_}
-use mathlib.Core.Bool.{Bool, true, not}
-use mathlib.Core.List.{List, [], _∷_, _++_, map}
-use mathlib.Core.Option.{Option, none, some}
-use Prim.Native.Nat.{ℕ, zero, suc, _-_, _/_, _%_, _≤_}
-use native.Mathlib.Omega.{arith}
-use lib.Dec.{ltb, eqb}
-use lib.ListN.{length, replicate, length-append, length-replicate, length-map}
-use borrow.Author.Tests.{ltb-false, eq-eqb, not-false}
-use Rattle.wire.specs.Choice.{_and_, pick}
-use Rattle.wire.specs.Bytes.{Every, Bytes}
-use Rattle.wire.proofs.ChoiceLaws.{and-both, both-and, pick-zero}
-use Rattle.wire.proofs.EveryLaws.{every-map, every-of, every-getD}
-use Rattle.wire.proofs.BytesLaws.{Byte, field-below, length-pieces, every-pieces}
+use Rattle.wire.proofs.Prelude.{_≡_, refl, ap, _∙_, Bool, true, not, List, [], _∷_, _++_, map, Option, none, some, ℕ}
+use Rattle.wire.proofs.Prelude.{zero, suc, _-_, _/_, _%_, _≤_, arith, ltb, eqb, length, replicate, length-append}
+use Rattle.wire.proofs.Prelude.{length-replicate, length-map, ltb-false, eq-eqb, not-false}
+use Rattle.wire.specs.Names.{_and_, pick, Every, Bytes}
+use Rattle.wire.proofs.Laws.{and-both, both-and, pick-zero, every-map, every-of, every-getD, Byte, field-below}
+use Rattle.wire.proofs.Laws.{length-pieces, every-pieces}
 use Rattle.store.specs.declared.Channel.{Channel}
 use Rattle.store.specs.declared.Record.{Record}
-use Rattle.store.specs.Limits.{channelLimit}
-use Rattle.store.specs.Table.{find, count, distinct, Key, hasKey, lookup, isCommitmentOn, commitments}
-use Rattle.store.specs.Table.{isNumbered, sameNumber, channelAt, sameKey}
-use Rattle.store.specs.Layout.{roomIn, bytesOf}
-use Rattle.store.specs.Fit.{channelFits, channelsFit, recordFits, recordsFit, storeFits, sizeFits}
-use Rattle.store.specs.Maker.{openingSize, openingsIn, openingFits, allOpeningsFit, openingOf, endsOf}
-use Rattle.store.specs.Maker.{makeNumber, madeStore, makeTold, makeStore}
+use Rattle.store.specs.Names.{channelLimit, find, count, distinct, Key, hasKey, lookup, isCommitmentOn}
+use Rattle.store.specs.Names.{commitments, isNumbered, sameNumber, channelAt, sameKey, roomIn, bytesOf}
+use Rattle.store.specs.Names.{channelFits, channelsFit, recordFits, recordsFit, storeFits, sizeFits, openingSize}
+use Rattle.store.specs.Names.{openingsIn, openingFits, allOpeningsFit, openingOf, endsOf, makeNumber, madeStore}
+use Rattle.store.specs.Names.{makeTold, makeStore}
 use Rattle.store.proofs.TableLaws.{Each, each-all, each-find}
 use Rattle.store.proofs.LayoutLaws.{ChannelFields, RecordFields, StoreFields}
 use Rattle.store.proofs.FitLaws.{Sized, fits-size}

@@ -1,19 +1,14 @@
 -- Laws of the table of packet records: lookup and count after a record is written or becomes free. All above goes by
 -- these, so a table kept in another way has these to prove and no more. Assumes nothing.
-use mathlib.Core.Path.{_≡_, refl, sym, ap, _∙_}
-use mathlib.Core.Bool.{true, false}
-use mathlib.Core.List.{List}
-use mathlib.Core.Logic.{_⊎_, inl, inr}
-use mathlib.Core.Option.{Option, none, some}
-use Prim.Native.Nat.{ℕ, _+_}
-use native.Mathlib.Omega.{arith}
-use lib.Dec.{eqb}
-use borrow.Author.Tests.{eqb-true, eq-eqb}
-use Rattle.wire.specs.Choice.{_and_, pick, isSome}
-use Rattle.wire.proofs.ChoiceLaws.{and-both, both-and, clash, cases, some-if}
+use Rattle.wire.proofs.Prelude.{_≡_, refl, sym, ap, _∙_, true, false, List, _⊎_, inl, inr, Option, none, some, ℕ, _+_}
+use Rattle.wire.proofs.Prelude.{arith, eqb, eqb-true, eq-eqb}
+use Rattle.wire.specs.Names.{_and_, pick, isSome}
+use Rattle.wire.proofs.Laws.{and-both, both-and, clash, cases, some-if}
 use Rattle.store.specs.declared.Record.{Record}
-use Rattle.store.specs.Table.{Key, commitmentKey, keyOf, hasKey, sameKey, lookup, find, remove, insert, hasFree, distinct, isCommitmentOn, commitments}
-use Rattle.store.proofs.TableLaws.{find-passes, find-replace-other, find-remove, count-remove, find-insert, find-insert-other, count-insert, distinct-insert, distinct-replace}
+use Rattle.store.specs.Names.{Key, commitmentKey, keyOf, hasKey, sameKey, lookup, find, remove, insert, hasFree}
+use Rattle.store.specs.Names.{distinct, isCommitmentOn, commitments}
+use Rattle.store.proofs.TableLaws.{find-passes, find-replace-other, find-remove, count-remove, find-insert}
+use Rattle.store.proofs.TableLaws.{find-insert-other, count-insert, distinct-insert, distinct-replace}
 
 -- no two have the same key
 abbrev pub Single : List (Option Record) → Type 0
@@ -30,7 +25,8 @@ key-of k r h =
 pub has-key : (k : Key) (r : Record) → keyOf r ≡ k → hasKey k r ≡ true
 unfolding hasKey
 has-key k r e =
-    both-and (both-and (eq-eqb (r .kind) (k .kind) (ap (λ (q : Key). q .kind) e)) (eq-eqb (r .channel) (k .channel) (ap (λ (q : Key). q .channel) e)))
+    both-and (both-and (eq-eqb (r .kind) (k .kind) (ap (λ (q : Key). q .kind) e))
+    (eq-eqb (r .channel) (k .channel) (ap (λ (q : Key). q .channel) e)))
     (eq-eqb (r .sequence) (k .sequence) (ap (λ (q : Key). q .sequence) e))
 
 not-key : (k : Key) (r : Record) → (keyOf r ≡ k → ⊥) → hasKey k r ≡ false
@@ -56,10 +52,12 @@ module _ (rs : List (Option Record)) (single : Single rs) where
 
     pub commitments-insert : (n : ℕ) → commitments n (insert r rs) ≡ pick (isCommitmentOn n r) 1 0 + commitments n rs
     commitments-insert n =
-        count-insert (isCommitmentOn n) r rs room ∙ cases (isCommitmentOn n r) (λ e. rw e (omega arith)) (λ e. rw e (omega arith))
+        count-insert (isCommitmentOn n) r rs room ∙ cases (isCommitmentOn n r) (λ e. rw e (omega arith))
+        (λ e. rw e (omega arith))
 
     -- what is found is the new record, or was found before; and what was found still is
-    pub insert-from : (k : Key) (x : Record) → lookup k (insert r rs) ≡ some x → ((keyOf r ≡ k) × (x ≡ r)) ⊎ (lookup k rs ≡ some x)
+    pub insert-from : (k : Key) (x : Record) → lookup k (insert r rs) ≡ some x →
+        ((keyOf r ≡ k) × (x ≡ r)) ⊎ (lookup k rs ≡ some x)
     insert-from k x h =
         cases (hasKey k r)
         (λ e. let q = key-of k r e in let l : lookup k (insert r rs) ≡ some r = rw (← q) lookup-insert in inl (q, cc))
@@ -73,11 +71,13 @@ module _ (rs : List (Option Record)) (single : Single rs) where
   -- FREE
   module _ (j : Key) where
     pub lookup-remove : lookup j (remove j rs) ≡ none
-    lookup-remove = find-remove (hasKey j) sameKey rs (λ x y p q. has-key (keyOf x) y (key-of j y q ∙ sym (key-of j x p))) single
+    lookup-remove = find-remove (hasKey j) sameKey rs (λ x y p q. has-key (keyOf x) y
+        (key-of j y q ∙ sym (key-of j x p))) single
 
     pub lookup-remove-other : (k : Key) → (j ≡ k → ⊥) → lookup k (remove j rs) ≡ lookup k rs
     unfolding find
-    lookup-remove-other k h = find-replace-other (hasKey j) (hasKey k) none rs (λ x p q. h (sym (key-of j x p) ∙ key-of k x q)) refl
+    lookup-remove-other k h = find-replace-other (hasKey j) (hasKey k) none rs
+        (λ x p q. h (sym (key-of j x p) ∙ key-of k x q)) refl
 
     pub single-remove : Single (remove j rs)
     single-remove = distinct-replace sameKey (hasKey j) none rs (λ x h. tt) single

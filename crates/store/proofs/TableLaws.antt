@@ -1,14 +1,9 @@
 -- Laws of tables of slots, whatever the entries and the tests are. Assumes nothing.
-use mathlib.Core.Path.{_≡_, refl, sym, ap, subst, _∙_}
-use mathlib.Core.Bool.{Bool, true, false, not}
-use mathlib.Core.List.{List, [], _∷_}
-use mathlib.Core.Option.{Option, none, some}
-use Prim.Native.Nat.{ℕ, suc}
-use native.Mathlib.Omega.{arith}
-use lib.ListN.{length}
-use Rattle.wire.specs.Choice.{_and_, pick, isSome}
-use Rattle.wire.proofs.ChoiceLaws.{and-both, both-and, clash, cases, of-pick, not-some}
-use Rattle.store.specs.Table.{find, replace, insert, hasFree, count, all, distinct}
+use Rattle.wire.proofs.Prelude.{_≡_, refl, sym, ap, subst, _∙_, Bool, true, false, not, List, [], _∷_, Option, none}
+use Rattle.wire.proofs.Prelude.{some, ℕ, suc, arith, length}
+use Rattle.wire.specs.Names.{_and_, pick, isSome}
+use Rattle.wire.proofs.Laws.{and-both, both-and, clash, cases, of-pick, not-some}
+use Rattle.store.specs.Names.{find, replace, insert, hasFree, count, all, distinct}
 
 -- every entry has a property
 abbrev pub Each : {A : Type 0} → (A → Type 0) → List (Option A) → Type 0
@@ -52,7 +47,8 @@ module _ {A : Type 0} where
       cases (t y) (λ q. let z : y ≡ x = cc in subst P z (h .0)) (λ q. ih (cc))
 
   -- what no entry passes, no entry passes that asks for more
-  pub find-none : (t u : A → Bool) (xs : List (Option A)) → ((x : A) → t x ≡ true → u x ≡ true) → find u xs ≡ none → find t xs ≡ none
+  pub find-none : (t u : A → Bool) (xs : List (Option A)) → ((x : A) → t x ≡ true → u x ≡ true) → find u xs ≡ none →
+      find t xs ≡ none
   unfolding find
   find-none t u [] h e = refl
   find-none t u (none ∷ xs) h e = find-none t u xs h e
@@ -60,7 +56,8 @@ module _ {A : Type 0} where
       let ih = find-none t u xs h in
       cases (t x) (λ q. let z = h x q in cc) (λ q. cases (u x) (λ w. cc) (λ w. let k = ih (cc) in cc))
 
-  pub find-cons-none : (t : A → Bool) (x : A) (xs : List (Option A)) → find t (some x ∷ xs) ≡ none → (t x ≡ false) × (find t xs ≡ none)
+  pub find-cons-none : (t : A → Bool) (x : A) (xs : List (Option A)) → find t (some x ∷ xs) ≡ none →
+      (t x ≡ false) × (find t xs ≡ none)
   unfolding find
   find-cons-none t x xs h = (cases (t x) (λ e. cc) (λ e. e), cases (t x) (λ e. cc) (λ e. cc))
 
@@ -74,7 +71,8 @@ module _ {A : Type 0} where
       let ih = find-replace t y xs p in
       cases (t x) (λ e. cc) (λ e. let k = ih (cc) in cc)
 
-  pub find-replace-other : (t u : A → Bool) (y : Option A) (xs : List (Option A)) → ((x : A) → t x ≡ true → u x ≡ true → ⊥) →
+  pub find-replace-other : (t u : A → Bool) (y : Option A) (xs : List (Option A)) →
+      ((x : A) → t x ≡ true → u x ≡ true → ⊥) →
       find u (y ∷ []) ≡ none → find u (replace t y xs) ≡ find u xs
   unfolding find replace
   find-replace-other t u y [] h n = refl
@@ -90,7 +88,8 @@ module _ {A : Type 0} where
       skip (some w) k = let q = find-cons-none u w [] k .0 in cc
 
   -- what is replaced by nothing is gone, where no entry stands twice
-  pub find-remove : (t : A → Bool) (u : A → A → Bool) (xs : List (Option A)) → ((x y : A) → t x ≡ true → t y ≡ true → u x y ≡ true) →
+  pub find-remove : (t : A → Bool) (u : A → A → Bool) (xs : List (Option A)) →
+      ((x y : A) → t x ≡ true → t y ≡ true → u x y ≡ true) →
       distinct u xs ≡ true → find t (replace t none xs) ≡ none
   unfolding find replace distinct
   find-remove t u [] h d = refl
@@ -101,12 +100,14 @@ module _ {A : Type 0} where
       (λ e. let k = find-none t (u x) xs (λ y. h x y e) (not-some (find (u x) xs) (and-both d .0)) in cc)
       (λ e. cc)
 
-  pub each-replace : (P : A → Type 0) (t : A → Bool) (y : Option A) (xs : List (Option A)) → Each P (y ∷ []) → Each P xs → Each P (replace t y xs)
+  pub each-replace : (P : A → Type 0) (t : A → Bool) (y : Option A) (xs : List (Option A)) → Each P (y ∷ []) →
+      Each P xs → Each P (replace t y xs)
   unfolding replace
   each-replace P t y [] p h = tt
   each-replace P t y (none ∷ xs) p h = each-replace P t y xs p h
   each-replace P t y (some x ∷ xs) p h =
-      of-pick (Each P) (t x) (y ∷ xs) (some x ∷ replace t y xs) (λ e. put y p) (λ e. (h .0, each-replace P t y xs p (h .1)))
+      of-pick (Each P) (t x) (y ∷ xs) (some x ∷ replace t y xs) (λ e. put y p)
+      (λ e. (h .0, each-replace P t y xs p (h .1)))
     where
       put : (z : Option A) → Each P (z ∷ []) → Each P (z ∷ xs)
       put none q = h .1
@@ -131,14 +132,16 @@ module _ {A : Type 0} where
     where
       turn : (a : Bool) → u x ≡ a → (b : Bool) → u y ≡ b → t y ≡ false →
           count u xs ≡ pick (u x) (suc (count u (replace t none xs))) (count u (replace t none xs)) →
-          count u (some y ∷ xs) ≡ pick (u x) (suc (count u (replace t none (some y ∷ xs)))) (count u (replace t none (some y ∷ xs)))
+          count u (some y ∷ xs) ≡ pick (u x) (suc (count u (replace t none (some y ∷ xs))))
+          (count u (replace t none (some y ∷ xs)))
       turn true p true q e k = cc
       turn true p false q e k = cc
       turn false p true q e k = cc
       turn false p false q e k = cc
 
   -- INSERT
-  pub find-insert : (t : A → Bool) (y : A) (xs : List (Option A)) → hasFree xs ≡ true → t y ≡ true → find t xs ≡ none → find t (insert y xs) ≡ some y
+  pub find-insert : (t : A → Bool) (y : A) (xs : List (Option A)) → hasFree xs ≡ true → t y ≡ true → find t xs ≡ none →
+      find t (insert y xs) ≡ some y
   unfolding find insert hasFree
   find-insert t y [] f p h = cc
   find-insert t y (none ∷ xs) f p h = cc
@@ -166,13 +169,15 @@ module _ {A : Type 0} where
   length-insert y (none ∷ xs) = refl
   length-insert y (some x ∷ xs) = ap suc (length-insert y xs)
 
-  pub count-insert : (t : A → Bool) (y : A) (xs : List (Option A)) → hasFree xs ≡ true → count t (insert y xs) ≡ pick (t y) (suc (count t xs)) (count t xs)
+  pub count-insert : (t : A → Bool) (y : A) (xs : List (Option A)) → hasFree xs ≡ true →
+      count t (insert y xs) ≡ pick (t y) (suc (count t xs)) (count t xs)
   unfolding insert count hasFree
   count-insert t y [] f = let z : _≡_ {A = ℕ} 0 1 = cc in absurd (omega arith)
   count-insert t y (none ∷ xs) f = refl
   count-insert t y (some x ∷ xs) f = turn (t x) refl (t y) refl (count-insert t y xs f)
     where
-      turn : (a : Bool) → t x ≡ a → (b : Bool) → t y ≡ b → count t (insert y xs) ≡ pick (t y) (suc (count t xs)) (count t xs) →
+      turn : (a : Bool) → t x ≡ a → (b : Bool) → t y ≡ b →
+          count t (insert y xs) ≡ pick (t y) (suc (count t xs)) (count t xs) →
           count t (insert y (some x ∷ xs)) ≡ pick (t y) (suc (count t (some x ∷ xs))) (count t (some x ∷ xs))
       turn true p true q k = cc
       turn true p false q k = cc
@@ -180,7 +185,8 @@ module _ {A : Type 0} where
       turn false p false q k = cc
 
   -- DISTINCT
-  pub distinct-insert : (u : A → A → Bool) (y : A) (xs : List (Option A)) → ((a b : A) → u a b ≡ true → u b a ≡ true) → find (u y) xs ≡ none →
+  pub distinct-insert : (u : A → A → Bool) (y : A) (xs : List (Option A)) → ((a b : A) → u a b ≡ true → u b a ≡ true) →
+      find (u y) xs ≡ none →
       distinct u xs ≡ true → distinct u (insert y xs) ≡ true
   unfolding distinct insert find
   distinct-insert u y [] s n h = refl
@@ -199,7 +205,8 @@ module _ {A : Type 0} where
   find-replace-none t v y (some x ∷ xs) h n =
       let k = find-cons-none v x xs n in
       let ih = find-replace-none t v y xs h (k .1) in
-      of-pick (λ (l : List (Option A)). find v l ≡ none) (t x) (y ∷ xs) (some x ∷ replace t y xs) (λ e. put y (h x e (k .0)) (k .1))
+      of-pick (λ (l : List (Option A)). find v l ≡ none) (t x) (y ∷ xs) (some x ∷ replace t y xs)
+      (λ e. put y (h x e (k .0)) (k .1))
       (λ e. let q = k .0 in cc)
     where
       put : (z : Option A) → find v (z ∷ []) ≡ none → find v xs ≡ none → find v (z ∷ xs) ≡ none
@@ -211,21 +218,25 @@ module _ {A : Type 0} where
   Heir u x none = Unit {0}
   Heir u x (some w) = (a : A) → (u w a ≡ u x a) × (u a w ≡ u a x)
 
-  pub distinct-replace : (u : A → A → Bool) (t : A → Bool) (y : Option A) (xs : List (Option A)) → ((x : A) → t x ≡ true → Heir u x y) →
+  pub distinct-replace : (u : A → A → Bool) (t : A → Bool) (y : Option A) (xs : List (Option A)) →
+      ((x : A) → t x ≡ true → Heir u x y) →
       distinct u xs ≡ true → distinct u (replace t y xs) ≡ true
   unfolding distinct replace find
   distinct-replace u t y [] h d = refl
   distinct-replace u t y (none ∷ xs) h d = distinct-replace u t y xs h d
   distinct-replace u t y (some x ∷ xs) h d =
       let n = not-some (find (u x) xs) (and-both d .0) in
-      of-pick (λ (l : List (Option A)). distinct u l ≡ true) (t x) (y ∷ xs) (some x ∷ replace t y xs) (λ e. put y (h x e) n)
-      (λ e. both-and (ap (λ (z : Option A). not (isSome z)) (find-replace-none t (u x) y xs (λ w q f. pass y w (h w q) f) n))
+      of-pick (λ (l : List (Option A)). distinct u l ≡ true) (t x) (y ∷ xs) (some x ∷ replace t y xs)
+      (λ e. put y (h x e) n)
+      (λ e. both-and (ap (λ (z : Option A). not (isSome z))
+      (find-replace-none t (u x) y xs (λ w q f. pass y w (h w q) f) n))
       (distinct-replace u t y xs h (and-both d .1)))
     where
       put : (z : Option A) → Heir u x z → find (u x) xs ≡ none → distinct u (z ∷ xs) ≡ true
       put none k n = and-both d .1
       put (some w) k n =
-          both-and (ap (λ (z : Option A). not (isSome z)) (find-none (u w) (u x) xs (λ a q. sym (k a .0) ∙ q) n)) (and-both d .1)
+          both-and (ap (λ (z : Option A). not (isSome z)) (find-none (u w) (u x) xs (λ a q. sym (k a .0) ∙ q) n))
+          (and-both d .1)
 
       pass : (z : Option A) (w : A) → Heir u w z → u x w ≡ false → find (u x) (z ∷ []) ≡ none
       pass none w k f = refl

@@ -22,7 +22,8 @@ openingsIn bs = pieces openingSize (length bs / openingSize) bs
 
 -- length, kind 0x0010, port, channel, counterparty port, counterparty channel, order, a zero byte
 unfoldable pub openingFits : List ℕ → Bool
-openingFits o = eqb (field 0 4 o) 20 and eqb (field 4 2 o) 0x0010 and isIn 1 2 (getD o 18 0) and eqb (getD o 19 1) 0
+openingFits o =
+    eqb (field 0 4 o) openingSize and eqb (field 4 2 o) 0x0010 and isIn 1 2 (getD o 18 0) and eqb (getD o 19 1) 0
 
 unfoldable pub allOpeningsFit : List (List ℕ) → Bool
 allOpeningsFit [] = true

@@ -1,12 +1,8 @@
 -- Laws of bytes and of the numbers in them, for every width. Assumes nothing.
-use mathlib.Core.Path.{_≡_, refl, ap, _∙_}
-use mathlib.Core.Bool.{true, false}
-use mathlib.Core.List.{List, [], _∷_}
-use Prim.Native.Nat.{ℕ, zero, suc, _+_, _*_, _/_, _^_, _≤_, _<_}
-use native.Mathlib.Omega.{arith}
-use lib.ListN.{length, take, drop, replicate, length-take, length-drop}
-use borrow.Author.Tests.{eqb-true, eq-eqb}
-use Rattle.wire.specs.Bytes.{Every, Bytes, same, little, numberOf, part, field, pieces}
+use Rattle.wire.proofs.Prelude.{_≡_, refl, ap, _∙_, true, false, List, [], _∷_, ℕ, zero, suc, _+_, _*_, _/_, _^_}
+use Rattle.wire.proofs.Prelude.{_≤_, _<_, arith, length, take, drop, replicate, length-take, length-drop}
+use Rattle.wire.proofs.Prelude.{eqb-true, eq-eqb}
+use Rattle.wire.specs.Names.{Every, Bytes, same, little, numberOf, part, field, pieces}
 use Rattle.wire.proofs.ChoiceLaws.{and-both, both-and, clash}
 use Rattle.wire.proofs.EveryLaws.{every-take, every-drop, every-replicate}
 

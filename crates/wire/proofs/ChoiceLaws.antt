@@ -1,11 +1,7 @@
 -- Tests as facts. Assumes nothing.
-use mathlib.Core.Path.{_≡_, refl}
-use mathlib.Core.Bool.{Bool, true, false, not}
-use mathlib.Core.Option.{Option, none, some}
-use mathlib.Core.Logic.{_⊎_, inl, inr}
-use Prim.Native.Nat.{ℕ, suc}
-use native.Mathlib.Omega.{arith}
-use Rattle.wire.specs.Choice.{_and_, _or_, pick, isSome}
+use Rattle.wire.proofs.Prelude.{_≡_, refl, Bool, true, false, not, Option, none, some, _⊎_, inl, inr, ℕ, suc}
+use Rattle.wire.proofs.Prelude.{arith}
+use Rattle.wire.specs.Names.{_and_, _or_, pick, isSome}
 
 pub and-both : {a b : Bool} → (a and b) ≡ true → (a ≡ true) × (b ≡ true)
 unfolding _and_

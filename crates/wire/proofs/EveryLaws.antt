@@ -1,8 +1,6 @@
 -- Laws of `Every`, whatever the elements and the property are. Assumes nothing.
-use mathlib.Core.List.{List, [], _∷_, _++_}
-use Prim.Native.Nat.{ℕ, zero, suc}
-use lib.ListN.{getD, take, drop, replicate}
-use Rattle.wire.specs.Bytes.{Every}
+use Rattle.wire.proofs.Prelude.{List, [], _∷_, _++_, ℕ, zero, suc, getD, take, drop, replicate}
+use Rattle.wire.specs.Names.{Every}
 
 module _ {A : Type 0} where
   pub every-map : {P Q : A → Type 0} → ((x : A) → P x → Q x) → (xs : List A) → Every P xs → Every Q xs

@@ -1,3 +1,5 @@
+pub mod Prelude
 pub mod ChoiceLaws
 pub mod EveryLaws
 pub mod BytesLaws
+pub mod Laws

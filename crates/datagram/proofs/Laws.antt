@@ -1,0 +1,6 @@
+-- All laws of this crate under one name, for the crates above.
+pub use Rattle.datagram.proofs.DatagramLaws.{Sound, sound-is, PacketFields, packet-fields, timeout-fields}
+pub use Rattle.datagram.proofs.DatagramLaws.{sequence-below, length-digest, bytes-digest, height-below}
+pub use Rattle.datagram.proofs.DatagramLaws.{time-below}
+pub use Rattle.datagram.proofs.EmittedLaws.{kind-framed, bytes-framed, length-packet, bytes-packet}
+pub use Rattle.datagram.proofs.EmittedLaws.{packet-framed, packet-framed-alone}

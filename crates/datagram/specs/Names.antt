@@ -1,0 +1,7 @@
+-- All definitions of this crate under one name, for those who use them.
+unfoldable pub use Rattle.datagram.specs.Datagram.{kindIn, contextIn, packetIn, verdictIn, sizeOfKind}
+unfoldable pub use Rattle.datagram.specs.Datagram.{timeoutFrom, sequenceFrom, packetFrom, digestFrom, verdictFrom}
+unfoldable pub use Rattle.datagram.specs.Datagram.{channelFrom, datagramIn, isProved, isSound}
+pub use Rattle.datagram.specs.Datagram.{frameSize, contextSize, packetSize, verdictSize, bodyFrom, Datagram}
+unfoldable pub use Rattle.datagram.specs.Emitted.{framed, packetBytes}
+pub use Rattle.datagram.specs.Emitted.{emittedPacket}
