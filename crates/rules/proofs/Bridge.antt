@@ -7,7 +7,7 @@ use Rattle.wire.proofs.Laws.{cases, of-pick, clash, bytes-zeros}
 use Rattle.store.specs.declared.Channel.{Channel}
 use Rattle.store.specs.declared.Counters.{Counters}
 use Rattle.store.specs.declared.Record.{Record}
-use Rattle.store.specs.Names.{top, isNumbered, hasKey, channelAt, Store, storeIn, isOrdered, isFit}
+use Rattle.store.specs.Names.{top, isNumbered, hasKey, commitmentKey, channelAt, Store, storeIn, isOrdered, isFit}
 use Rattle.store.proofs.Laws.{Each, each-find, each-insert, each-replace, length-insert, length-replace, CounterFields}
 use Rattle.store.proofs.Laws.{ChannelFields, RecordFields, StoreFields, fit-fields, fit-store}
 use Rattle.datagram.specs.Names.{Datagram, datagramIn, kindIn, channelFrom, isProved, isSound}
@@ -21,6 +21,7 @@ use Rattle.rules.specs.Names.{applied, answerTo, effectIn, nextStore}
 use Rattle.rules.proofs.RefusalLaws.{givenAt, silent, not-given}
 use Rattle.rules.proofs.OrderingLaws.{receive-below, acknowledge-below}
 use Rattle.rules.proofs.Step.{How, sending, receiving, writing, acknowledging, timing, how, Shape, Step}
+use Rattle.rules.proofs.Step.{New, commits, receipts, acknowledgements, Legal, keeping, adding, freeing, legal}
 
 -- WHAT FITS ITS FIELDS stays so
 raised : (n : ℕ) → n < 256 ^ 8 → eqb n top ≡ false → n + 1 < 256 ^ 8
@@ -128,12 +129,11 @@ module _ (s : Store) (b : List ℕ) (c : Channel) (fields : StoreFields s) (byte
       (sequence-below b bytes)
       (length-digest b sound) (bytes-digest (kindIn b) b bytes)
 
-  new-fields : (e : Effect) (r : Record) → How s (datagramIn b) c e → e .edit ≡ writes r → RecordFields r
-  unfolding sends receives writesAcknowledgement acknowledges timesOut receivedEdit commitment sentPacket
-  new-fields e r (sending k ok) q =
+  new-fields : (e : Effect) (r : Record) → New s (datagramIn b) c e r → RecordFields r
+  unfolding commitment sentPacket
+  new-fields e r (commits k g) =
       let f = sent-fields in
-      let z : commitment (sentPacket c (datagramIn b)) ≡ r = cc in
-      subst RecordFields z (record {
+      record {
         low = omega arith;
         high = omega arith;
         channel = f .source .channel;
@@ -141,24 +141,17 @@ module _ (s : Store) (b : List ℕ) (c : Channel) (fields : StoreFields s) (byte
         timeout = f .timeout;
         size = f .size;
         bytes = f .bytes;
-      })
-  new-fields e r (receiving k ok) q =
-      cases (raisesReceive c) (λ p. let z : _≡_ {A = ℕ} 0 1 = cc in absurd (omega arith))
-      (λ p.
-      let z : plainRecord 2 (c .own .channel) (datagramIn b .packet .sequence) noDigest ≡ r = cc in
-      subst RecordFields z (plain-fields 2 (c .own .channel) (datagramIn b .packet .sequence) noDigest (omega arith)
-      (omega arith)
-      (channel-fields .own .channel) (carried-fields (proved-two k) .sequence) refl (bytes-zeros digestSize)))
-  new-fields e r (writing k ok) q =
-      let z : plainRecord 3 (c .own .channel) (datagramIn b .sequence) (datagramIn b .digest) ≡ r = cc in
-      subst RecordFields z written-fields
-  new-fields e r (acknowledging k ok) q = let z : _≡_ {A = ℕ} 0 1 = cc in absurd (omega arith)
-  new-fields e r (timing k ok) q = let z : _≡_ {A = ℕ} 0 1 = cc in absurd (omega arith)
+      }
+  new-fields e r (receipts k o) =
+      plain-fields 2 (c .own .channel) (datagramIn b .packet .sequence) noDigest (omega arith) (omega arith)
+      (channel-fields .own .channel) (carried-fields (proved-two k) .sequence) refl (bytes-zeros digestSize)
+  new-fields e r (acknowledgements k h) = written-fields
 
-  next-fields : (e : Effect) → How s (datagramIn b) c e → StoreFields (applied s (datagramIn b .context) e)
+  next-fields : (e : Effect) → How s (datagramIn b) c e → Legal s (datagramIn b) c e (e .edit) →
+      StoreFields (applied s (datagramIn b .context) e)
   unfolding applied datagramIn edited
-  next-fields e h =
-      let r = records (e .edit) refl in
+  next-fields e h g =
+      let r = records (e .edit) g in
       let l = fields .low in
       let u = fields .high in
       let w = r .0 in
@@ -173,17 +166,14 @@ module _ (s : Store) (b : List ℕ) (c : Channel) (fields : StoreFields s) (byte
         records = r .1;
       }
     where
-      records : (x : Edit) → e .edit ≡ x → (length (edited x (s .records)) ≡ length (s .records)) ×
-          Each RecordFields (edited x (s .records))
-      records keeps q = (refl, fields .records)
-      records (writes r) q = (
-        length-insert r (s .records),
-        each-insert RecordFields r (s .records) (new-fields e r h q) (fields .records),
-      )
-      records (frees k) q = (
-        length-replace (hasKey k) none (s .records),
-        each-replace RecordFields (hasKey k) none (s .records) tt (fields .records),
-      )
+      records : (x : Edit) → Legal s (datagramIn b) c e x →
+          (length (edited x (s .records)) ≡ length (s .records)) × Each RecordFields (edited x (s .records))
+      records x keeping = (refl, fields .records)
+      records x (adding {r = r} by _ _) =
+          (length-insert r (s .records), each-insert RecordFields r (s .records) (new-fields e r by) (fields .records))
+      records x (freeing {n = n} {m = m} _) =
+          (length-replace (hasKey (commitmentKey n m)) none (s .records),
+            each-replace RecordFields (hasKey (commitmentKey n m)) none (s .records) tt (fields .records))
 
 -- ACCEPTED: a step, to a store whose fields fit
 shape : (b : List ℕ) → Sound b → Shape (datagramIn b)
@@ -222,10 +212,8 @@ accepted-step bs o b p q h =
     let c = orNone (endFor s d) in
     let fields = fit-fields bs p fit in
     let w = how bs (length o) b s d c (d .kind) refl (sound .low) (sound .high) h in
-    record {
-      fit = fit;
-      sound = sound;
-      step = record {
+    let st : Step s d (applied s (d .context) (effectIn s d)) =
+      record {
         fits = fit-store bs fit;
         shape = shape b sound;
         channel = c;
@@ -233,9 +221,13 @@ accepted-step bs o b p q h =
         effect = effectIn s d;
         how = w;
         left = refl;
-      };
+      } in
+    record {
+      fit = fit;
+      sound = sound;
+      step = st;
       effect = refl;
-      fields = next-fields s b c fields q sound found (effectIn s d) w;
+      fields = next-fields s b c fields q sound found (effectIn s d) w (legal st);
       sent = sent-fields s b c fields q sound found;
       carried = carried-fields s b c fields q sound found;
       digest = bytes-digest (kindIn b) b q;

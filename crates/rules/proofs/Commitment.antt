@@ -6,7 +6,7 @@ use Rattle.wire.specs.Names.{_and_, pick, isSome}
 use Rattle.wire.proofs.Laws.{cases}
 use Rattle.store.specs.declared.Channel.{Channel}
 use Rattle.store.specs.declared.Record.{Record}
-use Rattle.store.specs.Names.{Key, commitmentKey, lookup, remove, commitments, isCommitmentOn, channelAt, Store}
+use Rattle.store.specs.Names.{keyOf, Key, commitmentKey, lookup, remove, commitments, isCommitmentOn, channelAt, Store}
 use Rattle.store.specs.Names.{storeFits}
 use Rattle.store.proofs.Laws.{Single, insert-from, remove-from, lookup-remove, commitments-insert, commitments-remove}
 use Rattle.store.proofs.Laws.{committed-end}
@@ -15,6 +15,7 @@ use Rattle.rules.specs.Names.{Edit, writes, frees, plainRecord, raisesRe
 use Rattle.rules.specs.Names.{sentPacket, commitment, sends, receives, writesAcknowledgement, acknowledges}
 use Rattle.rules.specs.Names.{timesOut, edited}
 use Rattle.rules.proofs.Step.{How, sending, receiving, writing, acknowledging, timing, Step, Grown, Later, Legal}
+use Rattle.rules.proofs.Step.{New, commits, receipts, acknowledgements}
 use Rattle.rules.proofs.Step.{keeping, adding, freeing, legal, single, later, records-left, own-number}
 use Rattle.rules.proofs.Step.{own-found, committed-there}
 
@@ -44,19 +45,6 @@ used-stays {s} {t} {n = n} {m} st u =
     let g = l .2 .send in
     record { channel = l .0; found = l .1; below = omega arith }
 
--- the one edit that writes a commitment is a send's
-written-by : {s : Store} {d : Datagram} {c : Channel} {e : Effect} {r : Record} → How s d c e → e .edit ≡ writes r →
-    r .kind ≡ 1 →
-    (d .kind ≡ 1) × (r ≡ commitment (sentPacket c d))
-unfolding sends receives writesAcknowledgement acknowledges timesOut receivedEdit plainRecord
-written-by {c = c} (sending k ok) w h = (k, cc)
-written-by {c = c} (receiving k ok) w h =
-    let z : _≡_ {A = ℕ} 1 2 = cases (raisesReceive c) (λ q. cc) (λ q. cc) in
-    absurd (omega arith)
-written-by {c = c} (writing k ok) w h = let z : _≡_ {A = ℕ} 1 3 = cc in absurd (omega arith)
-written-by {c = c} (acknowledging k ok) w h = let z : _≡_ {A = ℕ} 1 2 = cc in absurd (omega arith)
-written-by {c = c} (timing k ok) w h = let z : _≡_ {A = ℕ} 1 2 = cc in absurd (omega arith)
-
 -- this call sent it
 pub record SentNow (d : Datagram) (c : Channel) (n m : ℕ) (r : Record) : Type 0 where
   pub kind : d .kind ≡ 1
@@ -64,34 +52,31 @@ pub record SentNow (d : Datagram) (c : Channel) (n m : ℕ) (r : Record) : Type 
   pub channel : c .own .channel ≡ n
   pub sequence : c .next .send ≡ m
 
+-- the one new record that is a commitment is a send's
+sent-now : {s : Store} {d : Datagram} {c : Channel} {e : Effect} {r : Record} (n m : ℕ) → New s d c e r →
+    keyOf r ≡ commitmentKey n m → SentNow d c n m r
+unfolding commitment sentPacket plainRecord
+sent-now n m (commits k g) h =
+    record { kind = k; committed = refl; channel = ap (λ (x : Key). x .channel) h; sequence = ap (λ (x : Key). x .sequence) h }
+sent-now n m (receipts k o) h = let z : _≡_ {A = ℕ} 2 1 = ap (λ (x : Key). x .kind) h in absurd (omega arith)
+sent-now n m (acknowledgements k g) h = let z : _≡_ {A = ℕ} 3 1 = ap (λ (x : Key). x .kind) h in absurd (omega arith)
+
 -- a commitment that is there was there, or this call sent it
 pub stems : {s t : Store} {d : Datagram} {r : Record} (n m : ℕ) (st : Step s d t) →
     lookup (commitmentKey n m) (t .records) ≡ some r →
     (lookup (commitmentKey n m) (s .records) ≡ some r) ⊎ SentNow d (st .channel) n m r
-unfolding edited commitment sentPacket
+unfolding edited
 stems {s} {t} {d} {r} n m st h =
-    go (st .effect .edit) refl (legal st) (ap (lookup (commitmentKey n m)) (sym (records-left st)) ∙ h)
+    go (st .effect .edit) (legal st) (ap (lookup (commitmentKey n m)) (sym (records-left st)) ∙ h)
   where
-    go : (e : Edit) → st .effect .edit ≡ e → Legal (s .records) e →
-        lookup (commitmentKey n m) (edited e (s .records)) ≡ some r →
+    go : (e : Edit) → Legal s d (st .channel) (st .effect) e → lookup (commitmentKey n m) (edited e (s .records)) ≡ some r →
         (lookup (commitmentKey n m) (s .records) ≡ some r) ⊎ SentNow d (st .channel) n m r
-    go e w keeping l = inl l
-    go e w (adding {r = x} room new) l =
-        elim (insert-from (s .records) (single st) x room new (commitmentKey n m) r l) [
-          | inl q ↦
-              let k = q .0 in
-              let b = written-by (st .how) w (ap (λ (y : Key). y .kind) k) in
-              let y = b .1 in
-              inr (record {
-                kind = b .0;
-                committed = q .1 ∙ y;
-                channel = ap (λ (v : Record). v .channel) (sym y) ∙ ap (λ (v : Key). v .channel) k;
-                sequence = ap (λ (v : Record). v .sequence) (sym y) ∙ ap (λ (v : Key). v .sequence) k;
-              })
-          | inr q ↦ inl q
-        ]
-    go e w (freeing {c = c} {n = k} there) l = inl (remove-from (s .records) (single st) (commitmentKey c k)
-        (commitmentKey n m) r l)
+    go e keeping l = inl l
+    go e (adding {r = x} by room new) l =
+        ⊎-elim (λ q. inr (rw (q .1) (sent-now n m by (q .0)))) (λ q. inl q)
+        (insert-from (s .records) (single st) x room new (commitmentKey n m) r l)
+    go e (freeing {n = c} {m = k} there) l =
+        inl (remove-from (s .records) (single st) (commitmentKey c k) (commitmentKey n m) r l)
 
 -- so a used sequence's commitment was there
 pub used-from : {s t : Store} {d : Datagram} {r : Record} {n m : ℕ} → Step s d t → Used s n m →
@@ -150,10 +135,10 @@ module _ {s t : Store} {d : Datagram} (st : Step s d t) (k : (d .kind ≡ 4) ⊎
   finish-removes = ap (lookup key) finish-left ∙ lookup-remove (s .records) (single st) key
 
 -- THE SUM: what a call adds to and takes from the commitments of a channel
-wrote : {rs : List (Option Record)} {r : Record} → Single rs → Legal rs (writes r) → (n : ℕ) →
-    commitments n (edited (writes r) rs) ≡ pick (isCommitmentOn n r) 1 0 + commitments n rs
+wrote : {s : Store} {d : Datagram} {c : Channel} {e : Effect} {r : Record} → Single (s .records) → Legal s d c e (writes r) →
+    (n : ℕ) → commitments n (edited (writes r) (s .records)) ≡ pick (isCommitmentOn n r) 1 0 + commitments n (s .records)
 unfolding edited
-wrote {rs} {r} s (adding room new) n = commitments-insert rs s r room new n
+wrote {s} {r = r} k (adding by room new) n = commitments-insert (s .records) k r room new n
 
 module _ {s t : Store} {d : Datagram} (st : Step s d t) (n : ℕ) where
   abbrev tally : (kind : ℕ) → ℕ
@@ -170,7 +155,7 @@ module _ {s t : Store} {d : Datagram} (st : Step s d t) (n : ℕ) where
       _and_
   sum = go (st .effect) (st .how) (legal st) (records-left st)
     where
-      go : (e : Effect) → How s d (st .channel) e → Legal (s .records) (e .edit) →
+      go : (e : Effect) → How s d (st .channel) e → Legal s d (st .channel) (st .effect) (e .edit) →
           t .records ≡ edited (e .edit) (s .records) →
           tally 1 + commitments n (s .records) ≡ tally 4 + tally 5 + commitments n (t .records)
       go e (sending k ok) l w = rw (k, w) (omega (arith, wrote (single st) l n))

@@ -14,6 +14,7 @@ use Rattle.datagram.specs.Names.{Datagram}
 use Rattle.rules.specs.Names.{Edit, writes, plainRecord, counted, raisedSend, raisesReceive, receivedEnd}
 use Rattle.rules.specs.Names.{receivedEdit, Effect, sentPacket, commitment, sends, receives}
 use Rattle.rules.specs.Names.{writesAcknowledgement, acknowledges, timesOut, edited}
+use Rattle.rules.proofs.Step.{New, commits, receipts, acknowledgements}
 use Rattle.rules.proofs.Step.{How, sending, receiving, writing, acknowledging, timing, Step, Grown, grown-refl}
 use Rattle.rules.proofs.Step.{Later, Legal, keeping, adding, freeing, legal, single, later, record-stays}
 use Rattle.rules.proofs.Step.{records-left, channels-left, own-grown, own-after}
@@ -114,52 +115,34 @@ module _ {s t : Store} {d : Datagram} (st : Step s d t) where
       both-and (le-leb 1 (r .sequence) n)
       (ap (λ (x : Option Channel). fitsEnd t r x) (ap (λ (k : ℕ). channelAt k (t .channels)) q ∙ own-after st) ∙ h)
 
-  fits-as : (r x : Record) (e : Effect) → st .effect ≡ e → writes x ≡ writes r →
-      x .channel ≡ st .channel .own .channel → 1 ≤ x .sequence →
-      fitsEnd t x (some (e .end)) ≡ true → recordFits t r ≡ true
-  fits-as r x e w q c n h =
-      let z : x ≡ r = cc in
-      subst (λ (y : Record). recordFits t y ≡ true) z (fits-own x c n
-      (ap (λ (v : Effect). fitsEnd t x (some (v .end))) w ∙ h))
-
-  new-fits : (r : Record) → st .effect .edit ≡ writes r → recordFits t r ≡ true
-  unfolding sends receives writesAcknowledgement acknowledges timesOut receivedEdit counted commitment sentPacket
-      plainRecord channelFits
-  new-fits r h = go (st .effect) refl (st .how) h
-    where
-      go : (e : Effect) → st .effect ≡ e → How s d (st .channel) e → e .edit ≡ writes r → recordFits t r ≡ true
-      go e w (sending k ok) q =
-          fits-as r (commitment (sentPacket (st .channel) d)) e w q refl
-          (leb-true 1 (st .channel .next .send) (and-both (and-both (and-both own-fits .1) .0) .0))
-          (new-commitment t (st .channel) (counted (st .channel) (raisedSend (st .channel .next))) d refl)
-      go e w (receiving k ok) q =
-          cases (raisesReceive (st .channel)) (λ p. let z : _≡_ {A = ℕ} 0 1 = cc in absurd (omega arith))
-          (λ p. fits-as r (plainRecord 2 (st .channel .own .channel) (d .packet .sequence) noDigest) e w (cc) refl
-          (st .shape .received k)
-          (new-receipt t (st .channel .own .channel) (d .packet .sequence) (receivedEnd (st .channel))
-          (ordering.receipt-unordered (st .channel) p)))
-      go e w (writing k ok) q =
-          fits-as r (plainRecord 3 (st .channel .own .channel) (d .sequence) (d .digest)) e w q refl
-          (st .shape .written k)
-          (new-acknowledgement t (st .channel .own .channel) (d .sequence) (d .digest) (st .channel)
-          (stays-received (d .sequence) (st .channel) (st .channel) (grown-refl (st .channel)) (ok .received)))
-      go e w (acknowledging k ok) q = let z : _≡_ {A = ℕ} 0 1 = cc in absurd (omega arith)
-      go e w (timing k ok) q = let z : _≡_ {A = ℕ} 0 1 = cc in absurd (omega arith)
+  new-fits : (r : Record) → New s d (st .channel) (st .effect) r → recordFits t r ≡ true
+  unfolding commitment sentPacket plainRecord channelFits
+  new-fits r (commits k g) =
+      fits-own (commitment (sentPacket (st .channel) d)) refl
+      (leb-true 1 (st .channel .next .send) (and-both (and-both (and-both own-fits .1) .0) .0))
+      (new-commitment t (st .channel) (st .effect .end) d g)
+  new-fits r (receipts k o) =
+      fits-own (plainRecord 2 (st .channel .own .channel) (d .packet .sequence) noDigest) refl (st .shape .received k)
+      (new-receipt t (st .channel .own .channel) (d .packet .sequence) (st .effect .end) o)
+  new-fits r (acknowledgements k h) =
+      fits-own (plainRecord 3 (st .channel .own .channel) (d .sequence) (d .digest)) refl (st .shape .written k)
+      (new-acknowledgement t (st .channel .own .channel) (d .sequence) (d .digest) (st .effect .end)
+      (stays-received (d .sequence) (st .channel) (st .effect .end) (own-grown st) h))
 
   records-fit : recordsFit t ≡ true
   unfolding recordsFit edited
   records-fit =
       ap (λ (rs : List (Option Record)). all (recordFits t) rs and distinct sameKey rs) (records-left st) ∙
-      go (st .effect .edit) refl (legal st)
+      go (st .effect .edit) (legal st)
     where
-      go : (e : Edit) → st .effect .edit ≡ e → Legal (s .records) e →
+      go : (e : Edit) → Legal s d (st .channel) (st .effect) e →
           (all (recordFits t) (edited e (s .records)) and distinct sameKey (edited e (s .records))) ≡ true
-      go e w keeping = both-and (each-all (recordFits t) (s .records) old-fits) (single st)
-      go e w (adding {r = r} room new) =
+      go e keeping = both-and (each-all (recordFits t) (s .records) old-fits) (single st)
+      go e (adding {r = r} by room new) =
           both-and (each-all (recordFits t) _ (each-insert (λ r. recordFits t r ≡ true) r (s .records)
-          (new-fits r w) old-fits))
+          (new-fits r by) old-fits))
           (single-insert (s .records) (single st) r room new)
-      go e w (freeing {c = c} {n = n} there) =
+      go e (freeing {n = c} {m = n} there) =
           both-and (each-all (recordFits t) _ (each-replace (λ r. recordFits t r ≡ true)
           (hasKey (commitmentKey c n)) none (s .records) tt old-fits))
           (single-remove (s .records) (single st) (commitmentKey c n))

@@ -1,6 +1,6 @@
 -- One accepted call on one ledger, on stores and not on bytes: what it does to the end and to the records.
 -- Assumes nothing.
-use Rattle.wire.proofs.Prelude.{_≡_, refl, sym, ap, subst, subst₂, _∙_, true, not, List, _⊎_, inl, inr, Option, none}
+use Rattle.wire.proofs.Prelude.{_+_, false, _≡_, refl, sym, ap, subst, subst₂, _∙_, true, not, List, _⊎_, inl, inr, Option, none}
 use Rattle.wire.proofs.Prelude.{some, ℕ, zero, suc, _≤_, _<_, arith, eqb, eqb-true, eqb-false}
 use Rattle.wire.specs.Names.{_and_, _or_, isSome, noDigest}
 use Rattle.wire.proofs.Laws.{cases, of-pick, not-some, none-if}
@@ -8,7 +8,7 @@ use Rattle.store.specs.declared.End.{End}
 use Rattle.store.specs.declared.Channel.{Channel}
 use Rattle.store.specs.declared.Counters.{Counters}
 use Rattle.store.specs.declared.Record.{Record}
-use Rattle.store.specs.Names.{Key, commitmentKey, keyOf, lookup, hasFree, channelAt, withChannel, Store, isOrdered}
+use Rattle.store.specs.Names.{isReceived, Key, commitmentKey, keyOf, lookup, hasFree, channelAt, withChannel, Store, isOrdered}
 use Rattle.store.specs.Names.{storeFits}
 use Rattle.store.proofs.Laws.{Single, insert-keeps, lookup-remove-other, fit-single, committed-end, channel-number}
 use Rattle.store.proofs.Laws.{channel-own, channel-with, channel-with-other}
@@ -20,7 +20,7 @@ use Rattle.rules.specs.Names.{acknowledgedEnd, timedOutEnd, isCommitted,
 use Rattle.rules.specs.Names.{commitment, sends, receives, writesAcknowledgement, acknowledges, timesOut}
 use Rattle.rules.specs.Names.{effectOf, edited, applied}
 use Rattle.rules.proofs.VerdictLaws.{has-values}
-use Rattle.rules.proofs.OrderingLaws.{receive-room, receive-absent}
+use Rattle.rules.proofs.OrderingLaws.{receive-room, receive-absent, receipt-unordered}
 use Rattle.rules.proofs.Accepted.{SendOk, ReceiveOk, WriteOk, AcknowledgeOk, TimeoutOk, send-ok, receive-ok}
 use Rattle.rules.proofs.Accepted.{write-ok, acknowledge-ok, timeout-ok}
 
@@ -117,11 +117,21 @@ grown {c = c} (acknowledging k ok) =
     (λ q. counts-up c (raisedAcknowledge (c .next)) (omega arith) (omega arith) (omega arith)) (λ q. grown-refl c)
 grown {c = c} (timing k ok) = of-pick (Grown c) (isOrdered c) (closed c) c (λ q. closes c) (λ q. grown-refl c)
 
--- THE RECORDS: a new one has room and a key of its own; one that becomes free is a commitment that is there
-pub data Legal (rs : List (Option Record)) : Edit → Type 0 where
-  keeping : Legal rs keeps
-  adding : {r : Record} → hasFree rs ≡ true → lookup (keyOf r) rs ≡ none → Legal rs (writes r)
-  freeing : {c n : ℕ} → isSome (lookup (commitmentKey c n) rs) ≡ true → Legal rs (frees (commitmentKey c n))
+-- THE RECORDS. A new one is a send's commitment, an unordered end's receipt, or an acknowledgement of what is received
+pub data New (s : Store) (d : Datagram) (c : Channel) (e : Effect) : Record → Type 0 where
+  commits : d .kind ≡ 1 → e .end .next .send ≡ c .next .send + 1 → New s d c e (commitment (sentPacket c d))
+  receipts : d .kind ≡ 2 → isOrdered (e .end) ≡ false →
+    New s d c e (plainRecord 2 (c .own .channel) (d .packet .sequence) noDigest)
+  acknowledgements : d .kind ≡ 3 → isReceived (s .records) c (d .sequence) ≡ true →
+    New s d c e (plainRecord 3 (c .own .channel) (d .sequence) (d .digest))
+
+-- a new one has room and a key of its own; one that becomes free is a commitment that is there
+pub data Legal (s : Store) (d : Datagram) (c : Channel) (e : Effect) : Edit → Type 0 where
+  keeping : Legal s d c e keeps
+  adding : {r : Record} → New s d c e r → hasFree (s .records) ≡ true → lookup (keyOf r) (s .records) ≡ none →
+    Legal s d c e (writes r)
+  freeing : {n m : ℕ} → isSome (lookup (commitmentKey n m) (s .records)) ≡ true →
+    Legal s d c e (frees (commitmentKey n m))
 
 pub committed-there : (rs : List (Option Record)) (p : Packet) → isCommitted rs p ≡ true →
     isSome (lookup (commitmentKey (p .source .channel) (p .sequence)) rs) ≡ true
@@ -145,20 +155,21 @@ unused s c f h =
 legal-of : {s : Store} {d : Datagram} {c : Channel} {e : Effect} → storeFits s ≡ true →
     channelAt (c .own .channel) (s .channels) ≡ some c →
     ((d .kind ≡ 4) ⊎ (d .kind ≡ 5) → c .own .channel ≡ d .packet .source .channel) → How s d c e →
-    Legal (s .records) (e .edit)
+    Legal s d c e (e .edit)
 unfolding sends receives writesAcknowledgement acknowledges timesOut receivedEdit commitment sentPacket plainRecord
-legal-of {s} {d} {c} f h w (sending k ok) = adding (ok .room) (unused s c f h)
+    counted
+legal-of {s} {c = c} f h w (sending k ok) = adding (commits k refl) (ok .room) (unused s c f h)
 legal-of {s} {d} {c} f h w (receiving k ok) =
-    of-pick (Legal (s .records)) (raisesReceive c) keeps
+    of-pick (Legal s d c (receives c (d .packet))) (raisesReceive c) keeps
     (writes (plainRecord 2 (c .own .channel) (d .packet .sequence) noDigest)) (λ q. keeping)
-    (λ q. adding (receive-room c (hasFree (s .records)) q (ok .room))
+    (λ q. adding (receipts k (receipt-unordered c q)) (receive-room c (hasFree (s .records)) q (ok .room))
     (receive-absent (s .records) c (d .packet .sequence) q (ok .new)))
-legal-of {s} {d} {c} f h w (writing k ok) = adding (ok .room) (not-some _ (ap not (ok .new)))
+legal-of f h w (writing k ok) = adding (acknowledgements k (ok .received)) (ok .room) (not-some _ (ap not (ok .new)))
 legal-of {s} {d} {c} f h w (acknowledging k ok) =
-    freeing {c = c .own .channel} {n = d .packet .sequence}
+    freeing {n = c .own .channel} {m = d .packet .sequence}
     (rw (w (inl k)) (committed-there (s .records) (d .packet) (ok .committed)))
 legal-of {s} {d} {c} f h w (timing k ok) =
-    freeing {c = c .own .channel} {n = d .packet .sequence}
+    freeing {n = c .own .channel} {m = d .packet .sequence}
     (rw (w (inr k)) (committed-there (s .records) (d .packet) (ok .committed)))
 
 -- ENDS from one store to a later one
@@ -185,7 +196,7 @@ module _ {s t : Store} {d : Datagram} (st : Step s d t) where
   pub own-grown : Grown (st .channel) (st .effect .end)
   own-grown = grown (st .how)
 
-  pub legal : Legal (s .records) (st .effect .edit)
+  pub legal : Legal s d (st .channel) (st .effect) (st .effect .edit)
   legal = legal-of (st .fits) own-found (λ k. own-number ∙ st .shape .fromSource k) (st .how)
 
   pub single : Single (s .records)
@@ -230,9 +241,9 @@ module _ {s t : Store} {d : Datagram} (st : Step s d t) where
   record-stays k n h = ap (λ (rs : List (Option Record)). isSome (lookup k rs)) records-left ∙
       go (st .effect .edit) legal
     where
-      go : (e : Edit) → Legal (s .records) e → isSome (lookup k (edited e (s .records))) ≡ true
+      go : (e : Edit) → Legal s d (st .channel) (st .effect) e → isSome (lookup k (edited e (s .records))) ≡ true
       go e keeping = h
-      go e (adding {r = r} room new) = insert-keeps (s .records) single r room new k h
-      go e (freeing {c = c} {n = m} there) =
+      go e (adding {r = r} _ room new) = insert-keeps (s .records) single r room new k h
+      go e (freeing {n = c} {m = m} there) =
           ap isSome (lookup-remove-other (s .records) single (commitmentKey c m) k
           (λ q. n (ap (λ (x : Key). x .kind) (sym q)))) ∙ h
