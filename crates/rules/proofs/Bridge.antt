@@ -1,9 +1,9 @@
 -- From bytes to stores: an accepted call is a step, what it leaves is bytes and is read back; a refused one changes
 -- nothing. Assumes nothing.
-use Rattle.wire.proofs.Prelude.{_≡_, refl, subst, _∙_, true, false, List, ⊎-elim, Option, none, some, ℕ, _+_, _≤_, _<_}
+use Rattle.wire.proofs.Prelude.{_≡_, refl, _∙_, true, false, List, ⊎-elim, Option, none, some, ℕ, _+_, _≤_, _<_}
 use Rattle.wire.proofs.Prelude.{_^_, arith, eqb, length, eqb-false, not-false}
 use Rattle.wire.specs.Names.{_or_, isSome, Bytes, noDigest, digestSize}
-use Rattle.wire.proofs.Laws.{cases, of-pick, clash, bytes-zeros}
+use Rattle.wire.proofs.Laws.{of-pick, clash, bytes-zeros}
 use Rattle.store.specs.declared.Channel.{Channel}
 use Rattle.store.specs.declared.Counters.{Counters}
 use Rattle.store.specs.declared.Record.{Record}
@@ -13,8 +13,8 @@ use Rattle.store.proofs.Laws.{ChannelFields, RecordFields, StoreFields, fit-fie
 use Rattle.datagram.specs.Names.{Datagram, datagramIn, kindIn, channelFrom, isProved, isSound}
 use Rattle.datagram.proofs.Laws.{Sound, sound-is, PacketFields, packet-fields, timeout-fields, sequence-below}
 use Rattle.datagram.proofs.Laws.{length-digest, bytes-digest, height-below, time-below}
-use Rattle.rules.specs.Names.{Edit, keeps, writes, frees, plainRecord, counted, closed, raisedReceive}
-use Rattle.rules.specs.Names.{raisedAcknowledge, raisesReceive, raisesAcknowledge, receivedEnd, receivedEdit}
+use Rattle.rules.specs.Names.{Edit, plainRecord, counted, closed, raisedReceive}
+use Rattle.rules.specs.Names.{raisedAcknowledge, raisesReceive, raisesAcknowledge, receivedEnd}
 use Rattle.rules.specs.Names.{acknowledgedEnd, timedOutEnd, table, refusals, orNone, endFor, Effect, sentPacket}
 use Rattle.rules.specs.Names.{commitment, sends, receives, writesAcknowledgement, acknowledges, timesOut, edited}
 use Rattle.rules.specs.Names.{applied, answerTo, effectIn, nextStore}
@@ -53,34 +53,27 @@ end-fields : {s : Store} {d : Datagram} {c : Channel} {e : Effect} → ChannelFi
     ChannelFields (e .end)
 unfolding sends receives writesAcknowledgement acknowledges timesOut receivedEnd acknowledgedEnd timedOutEnd
 end-fields {c = c} h (sending k ok) =
-    counted-fields h
-    (record {
+    counted-fields h (record {
       send = raised (c .next .send) (h .next .send) (ok .below);
       receive = h .next .receive;
       acknowledge =
           h .next .acknowledge;
     })
 end-fields {c = c} h (receiving k ok) =
-    of-pick ChannelFields (raisesReceive c) (counted c (raisedReceive (c .next))) c
-    (λ q. counted-fields h
-    (record {
+    of-pick ChannelFields (raisesReceive c) (counted c (raisedReceive (c .next))) c (λ q. counted-fields h (record {
       send = h .next .send;
-      receive = raised (c .next .receive) (h .next .receive)
-          (receive-below c q (ok .below));
+      receive = raised (c .next .receive) (h .next .receive) (receive-below c q (ok .below));
       acknowledge = h .next .acknowledge;
-    }))
-    (λ q. h)
+    })) (λ q. h)
 end-fields {c = c} h (writing k ok) = h
 end-fields {c = c} h (acknowledging k ok) =
-    of-pick ChannelFields (raisesAcknowledge c) (counted c (raisedAcknowledge (c .next))) c
-    (λ q. counted-fields h
+    of-pick ChannelFields (raisesAcknowledge c) (counted c (raisedAcknowledge (c .next))) c (λ q. counted-fields h
     (record {
       send = h .next .send;
       receive = h .next .receive;
       acknowledge =
           raised (c .next .acknowledge) (h .next .acknowledge) (acknowledge-below c q (ok .below));
-    }))
-    (λ q. h)
+    })) (λ q. h)
 end-fields {c = c} h (timing k ok) = of-pick ChannelFields (isOrdered c) (closed c) c (λ q. closed-fields h) (λ q. h)
 
 plain-fields : (k n m : ℕ) (a : List ℕ) → 1 ≤ k → k ≤ 3 → n < 256 ^ 4 → m < 256 ^ 8 → length a ≡ digestSize → Bytes a →
@@ -126,8 +119,7 @@ module _ (s : Store) (b : List ℕ) (c : Channel) (fields : StoreFields s) (byte
   unfolding datagramIn
   written-fields =
       plain-fields 3 (c .own .channel) _ _ (omega arith) (omega arith) (channel-fields .own .channel)
-      (sequence-below b bytes)
-      (length-digest b sound) (bytes-digest (kindIn b) b bytes)
+      (sequence-below b bytes) (length-digest b sound) (bytes-digest (kindIn b) b bytes)
 
   new-fields : (e : Effect) (r : Record) → New s (datagramIn b) c e r → RecordFields r
   unfolding commitment sentPacket
@@ -171,9 +163,10 @@ module _ (s : Store) (b : List ℕ) (c : Channel) (fields : StoreFields s) (byte
       records x keeping = (refl, fields .records)
       records x (adding {r = r} by _ _) =
           (length-insert r (s .records), each-insert RecordFields r (s .records) (new-fields e r by) (fields .records))
-      records x (freeing {n = n} {m = m} _) =
-          (length-replace (hasKey (commitmentKey n m)) none (s .records),
-            each-replace RecordFields (hasKey (commitmentKey n m)) none (s .records) tt (fields .records))
+      records x (freeing {n = n} {m = m} _) = (
+        length-replace (hasKey (commitmentKey n m)) none (s .records),
+        each-replace RecordFields (hasKey (commitmentKey n m)) none (s .records) tt (fields .records),
+      )
 
 -- ACCEPTED: a step, to a store whose fields fit
 shape : (b : List ℕ) → Sound b → Shape (datagramIn b)
@@ -213,15 +206,15 @@ accepted-step bs o b p q h =
     let fields = fit-fields bs p fit in
     let w = how bs (length o) b s d c (d .kind) refl (sound .low) (sound .high) h in
     let st : Step s d (applied s (d .context) (effectIn s d)) =
-      record {
-        fits = fit-store bs fit;
-        shape = shape b sound;
-        channel = c;
-        found = found;
-        effect = effectIn s d;
-        how = w;
-        left = refl;
-      } in
+    record {
+      fits = fit-store bs fit;
+      shape = shape b sound;
+      channel = c;
+      found = found;
+      effect = effectIn s d;
+      how = w;
+      left = refl;
+    } in
     record {
       fit = fit;
       sound = sound;

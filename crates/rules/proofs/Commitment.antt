@@ -1,6 +1,6 @@
 -- One accepted call and the commitments: each stems from a send, a sequence that is used is never used again, and to
 -- finish a packet takes its commitment and removes it. Assumes nothing.
-use Rattle.wire.proofs.Prelude.{_≡_, refl, sym, ap, subst, _∙_, true, List, _⊎_, inl, inr, ⊎-elim, Option, none, some}
+use Rattle.wire.proofs.Prelude.{_≡_, refl, sym, ap, subst, _∙_, true, _⊎_, inl, inr, ⊎-elim, Option, none, some}
 use Rattle.wire.proofs.Prelude.{ℕ, _+_, _<_, arith, eqb}
 use Rattle.wire.specs.Names.{_and_, pick, isSome}
 use Rattle.wire.proofs.Laws.{cases}
@@ -108,8 +108,7 @@ module _ {s t : Store} {d : Datagram} (st : Step s d t) (k : (d .kind ≡ 4) ⊎
       not-k : (n : ℕ) → d .kind ≡ n → n < 4 → ⊥
       not-k n e l = ⊎-elim (λ q. omega arith) (λ q. omega arith) k
 
-      go : (e : Effect) → How s d (st .channel) e →
-          (isCommitted (s .records) (d .packet) ≡ true) ×
+      go : (e : Effect) → How s d (st .channel) e → (isCommitted (s .records) (d .packet) ≡ true) ×
           (e .edit ≡ frees (commitmentKey (st .channel .own .channel) (d .packet .sequence)))
       go e (sending q ok) = absurd (not-k 1 q (omega arith))
       go e (receiving q ok) = absurd (not-k 2 q (omega arith))
@@ -160,8 +159,7 @@ module _ {s t : Store} {d : Datagram} (st : Step s d t) (n : ℕ) where
           tally 1 + commitments n (s .records) ≡ tally 4 + tally 5 + commitments n (t .records)
       go e (sending k ok) l w = rw (k, w) (omega (arith, wrote (single st) l n))
       go e (receiving k ok) l w =
-          cases (raisesReceive (st .channel))
-          (λ q. rw (k, w, q) (omega arith))
+          cases (raisesReceive (st .channel)) (λ q. rw (k, w, q) (omega arith))
           (λ q. rw (k, w, q) (omega (arith, wrote (single st) (rw (receivedEdit, q) at l) n)))
       go e (writing k ok) l w = rw (k, w) (omega (arith, wrote (single st) l n))
       go e (acknowledging k ok) l w = let q = finished-sum (inl k) in rw k (omega arith)

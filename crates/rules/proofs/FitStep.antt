@@ -1,5 +1,5 @@
 -- An accepted call leaves a fit store fit. Assumes nothing.
-use Rattle.wire.proofs.Prelude.{_≡_, refl, ap, subst, _∙_, true, false, List, _⊎_, inl, inr, Option, none, some, ℕ, _+_}
+use Rattle.wire.proofs.Prelude.{_≡_, refl, ap, _∙_, true, false, List, _⊎_, inl, inr, Option, none, some, ℕ, _+_}
 use Rattle.wire.proofs.Prelude.{_≤_, arith, ltb, eqb, ltb-true, lt-ltb, leb-true, le-leb}
 use Rattle.wire.specs.Names.{_and_, isIn, areZero, noDigest}
 use Rattle.wire.proofs.Laws.{and-both, both-and, clash, cases}
@@ -11,11 +11,11 @@ use Rattle.store.specs.Names.{fitsEnd, recordFits, recordsFit, storeFits}
 use Rattle.store.proofs.Laws.{Each, all-each, each-all, each-map, each-find, each-insert, each-replace, single-insert}
 use Rattle.store.proofs.Laws.{single-remove, numbers-with, fit-records}
 use Rattle.datagram.specs.Names.{Datagram}
-use Rattle.rules.specs.Names.{Edit, writes, plainRecord, counted, raisedSend, raisesReceive, receivedEnd}
-use Rattle.rules.specs.Names.{receivedEdit, Effect, sentPacket, commitment, sends, receives}
-use Rattle.rules.specs.Names.{writesAcknowledgement, acknowledges, timesOut, edited}
+use Rattle.rules.specs.Names.{Edit, plainRecord}
+use Rattle.rules.specs.Names.{sentPacket, commitment}
+use Rattle.rules.specs.Names.{edited}
 use Rattle.rules.proofs.Step.{New, commits, receipts, acknowledgements}
-use Rattle.rules.proofs.Step.{How, sending, receiving, writing, acknowledging, timing, Step, Grown, grown-refl}
+use Rattle.rules.proofs.Step.{Step, Grown}
 use Rattle.rules.proofs.Step.{Later, Legal, keeping, adding, freeing, legal, single, later, record-stays}
 use Rattle.rules.proofs.Step.{records-left, channels-left, own-grown, own-after}
 use Rattle.rules.proofs.OrderingLaws as ordering
@@ -53,8 +53,7 @@ end-fits s t r (some c) (some e) l h f =
     let a : ltb (r .sequence) (c .next .send) ≡ true = cc in
     let b = l .send in
     let z = lt-ltb (r .sequence) (e .next .send) (omega (arith, ltb-true (r .sequence) (c .next .send) a)) in
-    cc)
-    (λ q. cases (eqb (r .kind) 2) (λ w. cc)
+    cc) (λ q. cases (eqb (r .kind) 2) (λ w. cc)
     (λ w.
     let a : (eqb (r .kind) 3 and sameTimeout (r .timeout) noTimeout and isReceived (s .records) c
     (r .sequence)) ≡ true = cc in
@@ -140,8 +139,7 @@ module _ {s t : Store} {d : Datagram} (st : Step s d t) where
       go e keeping = both-and (each-all (recordFits t) (s .records) old-fits) (single st)
       go e (adding {r = r} by room new) =
           both-and (each-all (recordFits t) _ (each-insert (λ r. recordFits t r ≡ true) r (s .records)
-          (new-fits r by) old-fits))
-          (single-insert (s .records) (single st) r room new)
+          (new-fits r by) old-fits)) (single-insert (s .records) (single st) r room new)
       go e (freeing {n = c} {m = n} there) =
           both-and (each-all (recordFits t) _ (each-replace (λ r. recordFits t r ≡ true)
           (hasKey (commitmentKey c n)) none (s .records) tt old-fits))

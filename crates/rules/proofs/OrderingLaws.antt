@@ -52,11 +52,9 @@ pub receive-new : (rs : List (Option Record)) (c : Channel) (n : ℕ) → receiv
     isReceived rs c n ≡ false
 unfolding receivesInOrder isReceiptThere isReceived _and_
 receive-new rs c n h k =
-    cases (isOrdered c)
-    (λ o. let e : eqb n (c .next .receive) ≡ true = cc in
+    cases (isOrdered c) (λ o. let e : eqb n (c .next .receive) ≡ true = cc in
     let q = le-ltb n (c .next .receive) (omega (arith, eqb-true n (c .next .receive) e)) in
-    cc)
-    (λ o. cc)
+    cc) (λ o. cc)
 
 -- it is received afterwards
 pub receive-received : (rs : List (Option Record)) (c : Channel) (n : ℕ) → Single rs → receivesInOrder c n ≡ true →
@@ -83,8 +81,7 @@ received-stays rs ts c e n o w g k h =
     (λ q.
     let a : ltb n (c .next .receive) ≡ true = cc in
     let b = lt-ltb n (e .next .receive) (omega (arith, ltb-true n (c .next .receive) a)) in
-    cc)
-    (λ q. let a = k (cc) in cc)
+    cc) (λ q. let a = k (cc) in cc)
 
 -- AN ORDERED END takes what it waits for, and waits for the next one
 pub ordered-next : (c : Channel) (n : ℕ) → isOrdered c ≡ true → receivesInOrder c n ≡ true →

@@ -2,14 +2,13 @@
 -- Pairing is used here and nowhere else. Assumes nothing.
 use Rattle.wire.proofs.Prelude.{_≡_, refl, sym, ap, subst, _∙_, true, _⊎_, inl, inr, Option, none, some, ℕ, arith}
 use Rattle.wire.proofs.Prelude.{eqb-true}
-use Rattle.wire.specs.Names.{_and_}
 use Rattle.wire.proofs.Laws.{and-both}
 use Rattle.store.specs.declared.End.{End}
 use Rattle.store.specs.declared.Channel.{Channel}
 use Rattle.store.specs.Names.{channelAt, sameEnd, Store, storeIn}
 use Rattle.datagram.specs.declared.Packet.{Packet}
-use Rattle.datagram.specs.Names.{datagramIn}
 use Rattle.rules.specs.Names.{fitsPacket, Side, across, Call, At, fold, Paired, Peers, packetOf, isDelivery}
+use Rattle.rules.proofs.Acted.{heard}
 use Rattle.rules.proofs.Step.{Grown, Later, later, later-refl}
 use Rattle.rules.proofs.Receipt.{receive-of, receive-destination, receive-found}
 use Rattle.rules.proofs.History.{World, ledger, kept}
@@ -81,7 +80,7 @@ module _ (w : World) where
   -- A DELIVERY, on the end that its packet names
   pub record Delivered (i : ℕ) (c : Call) : Type 0 where
     pub did : Did w 2 i c
-    pub packet : packetOf c ≡ datagramIn (c .datagram) .packet
+    pub packet : packetOf c ≡ heard c .packet
     pub end : Channel
     pub found : channelAt (packetOf c .destination .channel) (ledger w (c .side) i .channels) ≡ some end
     pub source : packetOf c .source ≡ end .counterparty
@@ -101,9 +100,9 @@ module _ (w : World) where
       let st = d .acts .acted .step in
       let q = did-packet w 2 i c d (λ v. omega arith) (λ v. omega arith) in
       let f = and-both (receive-of st (d .kind) .0 .fits) in
-      let port = eqb-true (datagramIn (c .datagram) .packet .destination .port) (st .channel .own .port) (f .0) in
+      let port = eqb-true (heard c .packet .destination .port) (st .channel .own .port) (f .0) in
       let number = sym (receive-destination st (d .kind)) in
-      let own : datagramIn (c .datagram) .packet .destination ≡ st .channel .own =
+      let own : heard c .packet .destination ≡ st .channel .own =
       λ j. record { port = port j; channel = number j } in
       record {
         did = d;

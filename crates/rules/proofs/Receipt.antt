@@ -72,8 +72,7 @@ module _ {s t : Store} {d : Datagram} (st : Step s d t) (k : d .kind ≡ 2) wher
   receive-makes =
       let ok = receive-of .0 in
       let q = ordering.receive-received (s .records) (st .channel) (d .packet .sequence) (single st) (ok .inOrder)
-      (ok .new)
-      (λ r. ordering.receive-room (st .channel) (hasFree (s .records)) r (ok .room)) in
+      (ok .new) (λ r. ordering.receive-room (st .channel) (hasFree (s .records)) r (ok .room)) in
       let w : t .records ≡ edited (receivedEdit (st .channel) (d .packet .sequence)) (s .records) =
       records-left st ∙ ap (λ (e : Effect). edited (e .edit) (s .records)) (receive-of .1) in
       record {
@@ -131,10 +130,8 @@ module _ {s t : Store} {d : Datagram} {n m : ℕ} (st : Step s d t) (w : Waits s
       cases (eqb (st .channel .own .channel) n)
       (λ q.
       let e = eqb-true (st .channel .own .channel) n q in
-      waits-own e m
-      (receive-kept (st .how) (λ k. h k (sym (receive-destination st k) ∙ e)) ∙
-      ap (λ (c : Channel). c .next .receive) (own-waits e) ∙ w .next))
-      (λ q. record {
+      waits-own e m (receive-kept (st .how) (λ k. h k (sym (receive-destination st k) ∙ e)) ∙
+      ap (λ (c : Channel). c .next .receive) (own-waits e) ∙ w .next)) (λ q. record {
         channel = w .channel;
         found = other-after st n (eqb-false (st .channel .own .channel) n q) ∙ w .found;
         ordered = w .ordered;

@@ -2,7 +2,7 @@
 -- Assumes nothing.
 use Rattle.wire.proofs.Prelude.{_+_, false, _≡_, refl, sym, ap, subst, subst₂, _∙_, true, not, List, _⊎_, inl, inr, Option, none}
 use Rattle.wire.proofs.Prelude.{some, ℕ, zero, suc, _≤_, _<_, arith, eqb, eqb-true, eqb-false}
-use Rattle.wire.specs.Names.{_and_, _or_, isSome, noDigest}
+use Rattle.wire.specs.Names.{isSome, noDigest}
 use Rattle.wire.proofs.Laws.{cases, of-pick, not-some, none-if}
 use Rattle.store.specs.declared.End.{End}
 use Rattle.store.specs.declared.Channel.{Channel}
@@ -121,17 +121,17 @@ grown {c = c} (timing k ok) = of-pick (Grown c) (isOrdered c) (closed c) c (λ q
 pub data New (s : Store) (d : Datagram) (c : Channel) (e : Effect) : Record → Type 0 where
   commits : d .kind ≡ 1 → e .end .next .send ≡ c .next .send + 1 → New s d c e (commitment (sentPacket c d))
   receipts : d .kind ≡ 2 → isOrdered (e .end) ≡ false →
-    New s d c e (plainRecord 2 (c .own .channel) (d .packet .sequence) noDigest)
+      New s d c e (plainRecord 2 (c .own .channel) (d .packet .sequence) noDigest)
   acknowledgements : d .kind ≡ 3 → isReceived (s .records) c (d .sequence) ≡ true →
-    New s d c e (plainRecord 3 (c .own .channel) (d .sequence) (d .digest))
+      New s d c e (plainRecord 3 (c .own .channel) (d .sequence) (d .digest))
 
 -- a new one has room and a key of its own; one that becomes free is a commitment that is there
 pub data Legal (s : Store) (d : Datagram) (c : Channel) (e : Effect) : Edit → Type 0 where
   keeping : Legal s d c e keeps
   adding : {r : Record} → New s d c e r → hasFree (s .records) ≡ true → lookup (keyOf r) (s .records) ≡ none →
-    Legal s d c e (writes r)
+      Legal s d c e (writes r)
   freeing : {n m : ℕ} → isSome (lookup (commitmentKey n m) (s .records)) ≡ true →
-    Legal s d c e (frees (commitmentKey n m))
+      Legal s d c e (frees (commitmentKey n m))
 
 pub committed-there : (rs : List (Option Record)) (p : Packet) → isCommitted rs p ≡ true →
     isSome (lookup (commitmentKey (p .source .channel) (p .sequence)) rs) ≡ true
@@ -144,8 +144,7 @@ committed-there rs p h =
 unused : (s : Store) (c : Channel) → storeFits s ≡ true → channelAt (c .own .channel) (s .channels) ≡ some c →
     lookup (commitmentKey (c .own .channel) (c .next .send)) (s .records) ≡ none
 unused s c f h =
-    none-if (lookup (commitmentKey (c .own .channel) (c .next .send)) (s .records))
-    (λ r e.
+    none-if (lookup (commitmentKey (c .own .channel) (c .next .send)) (s .records)) (λ r e.
     let a = committed-end s (c .own .channel) (c .next .send) r f e in
     let b = a .1 in
     let q : a .0 ≡ c = cc in

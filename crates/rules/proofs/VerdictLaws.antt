@@ -1,7 +1,7 @@
 -- What a verdict that matches is about, and what a claim that holds says. Assumes nothing.
 use Rattle.wire.proofs.Prelude.{_≡_, refl, sym, ap, _∙_, Bool, true, false, not, List, Option, none, some, ℕ, suc}
 use Rattle.wire.proofs.Prelude.{arith, eqb, eqb-true, not-true}
-use Rattle.wire.specs.Names.{_and_, pick, isSome, same}
+use Rattle.wire.specs.Names.{pick, isSome, same}
 use Rattle.wire.proofs.Laws.{and-both, clash, same-eq}
 use Rattle.store.specs.declared.End.{End}
 use Rattle.store.specs.declared.Timeout.{Timeout}

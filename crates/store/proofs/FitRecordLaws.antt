@@ -1,7 +1,6 @@
 -- What a fit store tells of its records: no key stands twice, and a commitment's sequence is below its end's next send.
 -- Assumes nothing.
 use Rattle.wire.proofs.Prelude.{_≡_, refl, sym, ap, subst, _∙_, true, false, Option, none, some, ℕ, _<_, ltb, ltb-true}
-use Rattle.wire.specs.Names.{_and_}
 use Rattle.wire.proofs.Laws.{and-both, clash}
 use Rattle.store.specs.declared.Channel.{Channel}
 use Rattle.store.specs.declared.Record.{Record}

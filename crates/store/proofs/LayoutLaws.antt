@@ -207,5 +207,4 @@ module _ (s : Store) (ok : StoreFields s) where
             n,
             drop-at (tableBytes channelBytes (s .channels)) rs (slotSize * channelLimit) channels-size,
             ← (append-nil rs),
-          )
-          (read-table recordBytes recordIn (s .records) [] records-kept)
+          ) (read-table recordBytes recordIn (s .records) [] records-kept)

@@ -1,7 +1,7 @@
 -- Laws of tables of slots, whatever the entries and the tests are. Assumes nothing.
 use Rattle.wire.proofs.Prelude.{_≡_, refl, sym, ap, subst, _∙_, Bool, true, false, not, List, [], _∷_, Option, none}
 use Rattle.wire.proofs.Prelude.{some, ℕ, suc, arith, length}
-use Rattle.wire.specs.Names.{_and_, pick, isSome}
+use Rattle.wire.specs.Names.{pick, isSome}
 use Rattle.wire.proofs.Laws.{and-both, both-and, clash, cases, of-pick, not-some}
 use Rattle.store.specs.Names.{find, replace, insert, hasFree, count, all, distinct}
 
@@ -72,15 +72,13 @@ module _ {A : Type 0} where
       cases (t x) (λ e. cc) (λ e. let k = ih (cc) in cc)
 
   pub find-replace-other : (t u : A → Bool) (y : Option A) (xs : List (Option A)) →
-      ((x : A) → t x ≡ true → u x ≡ true → ⊥) →
-      find u (y ∷ []) ≡ none → find u (replace t y xs) ≡ find u xs
+      ((x : A) → t x ≡ true → u x ≡ true → ⊥) → find u (y ∷ []) ≡ none → find u (replace t y xs) ≡ find u xs
   unfolding find replace
   find-replace-other t u y [] h n = refl
   find-replace-other t u y (none ∷ xs) h n = find-replace-other t u y xs h n
   find-replace-other t u y (some x ∷ xs) h n =
       let ih = find-replace-other t u y xs h n in
-      cases (t x)
-      (λ e. let f : u x ≡ false = cases (u x) (λ q. absurd (h x e q)) (λ q. q) in let k = skip y n in cc)
+      cases (t x) (λ e. let f : u x ≡ false = cases (u x) (λ q. absurd (h x e q)) (λ q. q) in let k = skip y n in cc)
       (λ e. cc)
     where
       skip : (z : Option A) → find u (z ∷ []) ≡ none → find u (z ∷ xs) ≡ find u xs
@@ -96,8 +94,7 @@ module _ {A : Type 0} where
   find-remove t u (none ∷ xs) h d = find-remove t u xs h d
   find-remove t u (some x ∷ xs) h d =
       let ih = find-remove t u xs h (and-both d .1) in
-      cases (t x)
-      (λ e. let k = find-none t (u x) xs (λ y. h x y e) (not-some (find (u x) xs) (and-both d .0)) in cc)
+      cases (t x) (λ e. let k = find-none t (u x) xs (λ y. h x y e) (not-some (find (u x) xs) (and-both d .0)) in cc)
       (λ e. cc)
 
   pub each-replace : (P : A → Type 0) (t : A → Bool) (y : Option A) (xs : List (Option A)) → Each P (y ∷ []) →
@@ -206,8 +203,7 @@ module _ {A : Type 0} where
       let k = find-cons-none v x xs n in
       let ih = find-replace-none t v y xs h (k .1) in
       of-pick (λ (l : List (Option A)). find v l ≡ none) (t x) (y ∷ xs) (some x ∷ replace t y xs)
-      (λ e. put y (h x e (k .0)) (k .1))
-      (λ e. let q = k .0 in cc)
+      (λ e. put y (h x e (k .0)) (k .1)) (λ e. let q = k .0 in cc)
     where
       put : (z : Option A) → find v (z ∷ []) ≡ none → find v xs ≡ none → find v (z ∷ xs) ≡ none
       put none p q = q
@@ -219,18 +215,15 @@ module _ {A : Type 0} where
   Heir u x (some w) = (a : A) → (u w a ≡ u x a) × (u a w ≡ u a x)
 
   pub distinct-replace : (u : A → A → Bool) (t : A → Bool) (y : Option A) (xs : List (Option A)) →
-      ((x : A) → t x ≡ true → Heir u x y) →
-      distinct u xs ≡ true → distinct u (replace t y xs) ≡ true
+      ((x : A) → t x ≡ true → Heir u x y) → distinct u xs ≡ true → distinct u (replace t y xs) ≡ true
   unfolding distinct replace find
   distinct-replace u t y [] h d = refl
   distinct-replace u t y (none ∷ xs) h d = distinct-replace u t y xs h d
   distinct-replace u t y (some x ∷ xs) h d =
       let n = not-some (find (u x) xs) (and-both d .0) in
       of-pick (λ (l : List (Option A)). distinct u l ≡ true) (t x) (y ∷ xs) (some x ∷ replace t y xs)
-      (λ e. put y (h x e) n)
-      (λ e. both-and (ap (λ (z : Option A). not (isSome z))
-      (find-replace-none t (u x) y xs (λ w q f. pass y w (h w q) f) n))
-      (distinct-replace u t y xs h (and-both d .1)))
+      (λ e. put y (h x e) n) (λ e. both-and (ap (λ (z : Option A). not (isSome z))
+      (find-replace-none t (u x) y xs (λ w q f. pass y w (h w q) f) n)) (distinct-replace u t y xs h (and-both d .1)))
     where
       put : (z : Option A) → Heir u x z → find (u x) xs ≡ none → distinct u (z ∷ xs) ≡ true
       put none k n = and-both d .1
