@@ -1,1 +1,3 @@
 pub mod ChoiceLaws
+pub mod PartLaws
+pub mod PatchLaws

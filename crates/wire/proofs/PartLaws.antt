@@ -1,0 +1,160 @@
+-- Laws of parts of bytes and of the numbers in them, over the width. Assumes nothing.
+use mathlib.Core.Path.{_≡_, refl, sym, ap, _∙_}
+use mathlib.Core.Bool.{Bool, true, false}
+use mathlib.Core.List.{List, [], _∷_, _++_}
+use Prim.Native.Nat.{ℕ, zero, suc, _+_, _*_, _/_, _%_, _^_, _≤_, _<_}
+use native.Mathlib.Nat.{mul-assoc, pow-succ', suc-add, zero-add, mod-add-div, mod-lt, suc-inj, suc-ne-zero}
+use native.Mathlib.Numerals.{add-one}
+use native.Mathlib.Omega.{arith}
+use lib.Dec.{eqb}
+use lib.ListN.{length, getD, take, drop, length-take, length-drop}
+use lib.Seq.{take-add, drop-drop, drop-cons, take-suc, getD-drop}
+use borrow.Author.Tests.{eq-eqb, ne-eqb, eqb-true, eqb-false}
+use Rattle.wire.specs.Choice.{_and_}
+use Rattle.wire.specs.Bytes.{Bytes, same, areZero, little, numberOf, part, field}
+
+-- ALSO IN BytesLaws
+pub length-little : (n x : ℕ) → length (little n x) ≡ n
+unfolding little
+length-little zero x = refl
+length-little (suc n) x = ap suc (length-little n (x / 256))
+
+pub length-part : (i n : ℕ) (bs : List ℕ) → i + n ≤ length bs → length (part i n bs) ≡ n
+unfolding part
+length-part i n bs h = length-take n (drop i bs) ∙ omega (arith, length-drop i bs)
+
+bytes-take : (n : ℕ) (bs : List ℕ) → Bytes bs → Bytes (take n bs)
+bytes-take zero bs h = tt
+bytes-take (suc n) [] h = tt
+bytes-take (suc n) (b ∷ bs) h = (h .0, bytes-take n bs (h .1))
+
+bytes-drop : (n : ℕ) (bs : List ℕ) → Bytes bs → Bytes (drop n bs)
+bytes-drop zero bs h = h
+bytes-drop (suc n) [] h = h
+bytes-drop (suc n) (b ∷ bs) h = bytes-drop n bs (h .1)
+
+pub bytes-part : (i n : ℕ) (bs : List ℕ) → Bytes bs → Bytes (part i n bs)
+unfolding part
+bytes-part i n bs h = bytes-take n (drop i bs) (bytes-drop i bs h)
+
+-- what is known of a lent slice, element by element, is that its elements are bytes
+pub bytes-getD : (bs : List ℕ) → ((i : ℕ) → getD bs i 0 < 256) → Bytes bs
+bytes-getD [] h = tt
+bytes-getD (b ∷ bs) h = (h 0, bytes-getD bs (λ i. h (suc i)))
+
+-- PARTS
+pub part-split : (n m i : ℕ) (bs : List ℕ) → part i (n + m) bs ≡ part i n bs ++ part (i + n) m bs
+unfolding part
+part-split n m i bs = rw (take-add n m (drop i bs), drop-drop n i bs)
+
+pub part-one : (i : ℕ) (bs : List ℕ) → i < length bs → part i 1 bs ≡ getD bs i 0 ∷ []
+unfolding part
+part-one i bs h = rw (drop-cons bs i 0)
+
+-- NUMBERS
+pub numberOf-append : (xs ys : List ℕ) → numberOf (xs ++ ys) ≡ numberOf xs + 256 ^ length xs * numberOf ys
+unfolding numberOf
+numberOf-append [] ys = omega arith
+numberOf-append (x ∷ xs) ys =
+    rw (numberOf-append xs ys, pow-succ' 256 (length xs), mul-assoc 256 (256 ^ length xs) (numberOf ys)) (omega arith)
+
+-- a number of n + m bytes is read as its low n and then its high m
+pub field-split : (n m i : ℕ) (bs : List ℕ) → i + n ≤ length bs
+    → field i (n + m) bs ≡ field i n bs + 256 ^ n * field (i + n) m bs
+unfolding field
+field-split n m i bs h = rw (part-split n m i bs, numberOf-append (part i n bs), length-part i n bs h)
+
+pub field-one : (i : ℕ) (bs : List ℕ) → i < length bs → field i 1 bs ≡ getD bs i 0
+unfolding field numberOf
+field-one i bs h = rw (part-one i bs h) (omega arith)
+
+little-join : (n m a b : ℕ) → a < 256 ^ n → little (n + m) (a + 256 ^ n * b) ≡ little n a ++ little m b
+unfolding little
+little-join zero m a b h =
+    let z : a + 1 * b ≡ b = omega arith in
+    rw (zero-add m, z)
+little-join (suc n) m a b h =
+    let k : ℕ = 256 ^ n * b in
+    let low : (a + 256 * k) % 256 ≡ a % 256 = omega arith in
+    let high : (a + 256 * k) / 256 ≡ a / 256 + k = omega arith in
+    let rest = little-join n m (a / 256) b (omega (arith, pow-succ' 256 n)) in
+    rw (suc-add n m, pow-succ' 256 n, mul-assoc 256 (256 ^ n) b, low, high, rest)
+
+pow-pos : (n : ℕ) → 0 < 256 ^ n
+pow-pos zero = omega arith
+pow-pos (suc n) =
+    let h : 0 < 256 ^ n = pow-pos n in
+    omega (arith, pow-succ' 256 n)
+
+-- and stored as its low n and then its high m
+pub little-split : (n m x : ℕ) → little (n + m) x ≡ little n (x % 256 ^ n) ++ little m (x / 256 ^ n)
+little-split n m x =
+    ap (little (n + m)) (sym (mod-add-div x (256 ^ n)))
+    ∙ little-join n m (x % 256 ^ n) (x / 256 ^ n) (mod-lt x (pow-pos n))
+
+-- TESTS
+and-assoc : (a b c : Bool) → ((a and b) and c) ≡ (a and (b and c))
+unfolding _and_
+and-assoc true b c = refl
+and-assoc false b c = refl
+
+areZero-append : (xs ys : List ℕ) → areZero (xs ++ ys) ≡ (areZero xs and areZero ys)
+unfolding areZero _and_
+areZero-append [] ys = refl
+areZero-append (x ∷ xs) ys = rw (areZero-append xs ys, and-assoc (eqb x 0) (areZero xs) (areZero ys))
+
+same-append : (xs ys us vs : List ℕ) → length xs ≡ length ys
+    → same (xs ++ us) (ys ++ vs) ≡ (same xs ys and same us vs)
+unfolding same _and_
+same-append [] [] us vs h = refl
+same-append [] (y ∷ ys) us vs h = absurd (suc-ne-zero _ (sym h))
+same-append (x ∷ xs) [] us vs h = absurd (suc-ne-zero _ h)
+same-append (x ∷ xs) (y ∷ ys) us vs h =
+    rw (same-append xs ys us vs (suc-inj h), and-assoc (eqb x y) (same xs ys) (same us vs))
+
+-- two numbers are equal where their lowest bytes and the rest are
+eqb-digits : (x y m n : ℕ) → x < 256 → y < 256 → eqb (x + 256 * m) (y + 256 * n) ≡ (eqb x y and eqb m n)
+unfolding _and_
+eqb-digits x y m n hx hy = by-cases (eqb x y) refl (eqb m n) refl where
+  by-cases : (p : Bool) → eqb x y ≡ p → (q : Bool) → eqb m n ≡ q → eqb (x + 256 * m) (y + 256 * n) ≡ (p and q)
+  by-cases true e true f = eq-eqb (x + 256 * m) (y + 256 * n) (omega (arith, eqb-true x y e, eqb-true m n f))
+  by-cases true e false f = ne-eqb (x + 256 * m) (y + 256 * n) (λ g. eqb-false m n f (omega arith))
+  by-cases false e q f = ne-eqb (x + 256 * m) (y + 256 * n) (λ g. eqb-false x y e (omega arith))
+
+same-number : (xs ys : List ℕ) → length xs ≡ length ys → Bytes xs → Bytes ys
+    → same xs ys ≡ eqb (numberOf xs) (numberOf ys)
+unfolding same numberOf
+same-number [] [] l h k = refl
+same-number [] (y ∷ ys) l h k = absurd (suc-ne-zero _ (sym l))
+same-number (x ∷ xs) [] l h k = absurd (suc-ne-zero _ l)
+same-number (x ∷ xs) (y ∷ ys) l h k =
+    let t : same xs ys ≡ eqb (numberOf xs) (numberOf ys) = same-number xs ys (suc-inj l) (h .1) (k .1) in
+    rw t (sym (eqb-digits x y (numberOf xs) (numberOf ys) (h .0) (k .0)))
+
+areZero-number : (xs : List ℕ) → Bytes xs → areZero xs ≡ eqb (numberOf xs) 0
+unfolding areZero numberOf
+areZero-number [] h = refl
+areZero-number (x ∷ xs) h =
+    let t : areZero xs ≡ eqb (numberOf xs) 0 = areZero-number xs (h .1) in
+    rw t (sym (eqb-digits x 0 (numberOf xs) 0 (h .0) (omega arith)))
+
+-- a turn of a loop over numbers of n bytes: the answer for what is left is that for a number and that for the rest
+pub zero-turn : (n m i : ℕ) (bs : List ℕ) → Bytes bs
+    → areZero (part i (n + m) bs) ≡ (eqb (field i n bs) 0 and areZero (part (i + n) m bs))
+unfolding field
+zero-turn n m i bs h =
+    rw (part-split n m i bs, areZero-append (part i n bs), areZero-number (part i n bs) (bytes-part i n bs h))
+
+pub same-turn : (n m i j : ℕ) (xs ys : List ℕ) → Bytes xs → Bytes ys → i + n ≤ length xs → j + n ≤ length ys
+    → same (part i (n + m) xs) (part j (n + m) ys)
+    ≡ (eqb (field i n xs) (field j n ys) and same (part (i + n) m xs) (part (j + n) m ys))
+unfolding field
+same-turn n m i j xs ys hx hy rx ry =
+    let u : List ℕ = part i n xs in
+    let v : List ℕ = part j n ys in
+    let l : length u ≡ length v = length-part i n xs rx ∙ sym (length-part j n ys ry) in
+    rw (
+      part-split n m i xs,
+      part-split n m j ys,
+      same-append u v (part (i + n) m xs) (part (j + n) m ys) l,
+      same-number u v l (bytes-part i n xs hx) (bytes-part j n ys hy))
