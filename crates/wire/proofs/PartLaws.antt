@@ -2,13 +2,14 @@
 use mathlib.Core.Path.{_≡_, refl, sym, ap, _∙_}
 use mathlib.Core.Bool.{Bool, true, false}
 use mathlib.Core.List.{List, [], _∷_, _++_}
-use Prim.Native.Nat.{ℕ, zero, suc, _+_, _*_, _/_, _%_, _^_, _≤_, _<_}
-use native.Mathlib.Nat.{mul-assoc, pow-succ', suc-add, zero-add, mod-add-div, mod-lt, suc-inj, suc-ne-zero}
-use native.Mathlib.Numerals.{add-one}
+use Prim.Native.Nat.{ℕ, zero, suc, _+_, _*_, _/_, _%_, _^_, _-_, _≤_, _<_}
+use native.Mathlib.Nat.{mul-assoc, mul-comm, pow-succ', suc-add, zero-add, mod-add-div, mod-lt, suc-inj, suc-ne-zero}
 use native.Mathlib.Omega.{arith}
 use lib.Dec.{eqb}
 use lib.ListN.{length, getD, take, drop, length-take, length-drop}
-use lib.Seq.{take-add, drop-drop, drop-cons, take-suc, getD-drop}
+use lib.Seq.{take-add, drop-drop, drop-cons, take-all}
+use mir.Syntax.{w8}
+use mir.Val.{Fits}
 use borrow.Author.Tests.{eq-eqb, ne-eqb, eqb-true, eqb-false}
 use Rattle.wire.specs.Choice.{_and_}
 use Rattle.wire.specs.Bytes.{Bytes, same, areZero, little, numberOf, part, field}
@@ -42,7 +43,15 @@ pub bytes-getD : (bs : List ℕ) → ((i : ℕ) → getD bs i 0 < 256) → Bytes
 bytes-getD [] h = tt
 bytes-getD (b ∷ bs) h = (h 0, bytes-getD bs (λ i. h (suc i)))
 
+-- and of an array
+pub bytes-array : (bs : List ℕ) → ((i : ℕ) → Fits w8 (getD bs i 0)) → Bytes bs
+bytes-array bs h = bytes-getD bs (λ i. h i .fits)
+
 -- PARTS
+pub part-all : (n : ℕ) (bs : List ℕ) → length bs ≡ n → part 0 n bs ≡ bs
+unfolding part
+part-all n bs l = take-all n bs (omega arith)
+
 pub part-split : (n m i : ℕ) (bs : List ℕ) → part i (n + m) bs ≡ part i n bs ++ part (i + n) m bs
 unfolding part
 part-split n m i bs = rw (take-add n m (drop i bs), drop-drop n i bs)
@@ -50,6 +59,10 @@ part-split n m i bs = rw (take-add n m (drop i bs), drop-drop n i bs)
 pub part-one : (i : ℕ) (bs : List ℕ) → i < length bs → part i 1 bs ≡ getD bs i 0 ∷ []
 unfolding part
 part-one i bs h = rw (drop-cons bs i 0)
+
+-- one byte more
+pub part-more : (i n : ℕ) (bs : List ℕ) → i + n < length bs → part i (n + 1) bs ≡ part i n bs ++ (getD bs (i + n) 0 ∷ [])
+part-more i n bs h = rw (part-split n 1 i bs, part-one (i + n) bs h)
 
 -- NUMBERS
 pub numberOf-append : (xs ys : List ℕ) → numberOf (xs ++ ys) ≡ numberOf xs + 256 ^ length xs * numberOf ys
@@ -63,6 +76,11 @@ pub field-split : (n m i : ℕ) (bs : List ℕ) → i + n ≤ length bs
     → field i (n + m) bs ≡ field i n bs + 256 ^ n * field (i + n) m bs
 unfolding field
 field-split n m i bs h = rw (part-split n m i bs, numberOf-append (part i n bs), length-part i n bs h)
+
+-- read by halves of n bytes each
+pub field-halves : (n i : ℕ) (bs : List ℕ) {low high : ℕ} → i + n ≤ length bs
+    → low ≡ field i n bs → high ≡ field (i + n) n bs → low + high * 256 ^ n ≡ field i (n + n) bs
+field-halves n i bs {low} {high} h p q = rw (field-split n n i bs h, p, q, mul-comm (256 ^ n) (field (i + n) n bs))
 
 pub field-one : (i : ℕ) (bs : List ℕ) → i < length bs → field i 1 bs ≡ getD bs i 0
 unfolding field numberOf
@@ -138,23 +156,52 @@ areZero-number (x ∷ xs) h =
     let t : areZero xs ≡ eqb (numberOf xs) 0 = areZero-number xs (h .1) in
     rw t (sym (eqb-digits x 0 (numberOf xs) 0 (h .0) (omega arith)))
 
--- a turn of a loop over numbers of n bytes: the answer for what is left is that for a number and that for the rest
-pub zero-turn : (n m i : ℕ) (bs : List ℕ) → Bytes bs
-    → areZero (part i (n + m) bs) ≡ (eqb (field i n bs) 0 and areZero (part (i + n) m bs))
-unfolding field
-zero-turn n m i bs h =
-    rw (part-split n m i bs, areZero-append (part i n bs), areZero-number (part i n bs) (bytes-part i n bs h))
+-- A TURN OF A LOOP over numbers of n bytes: what is left is tested number by number, up to an end. A number that fails
+-- gives the answer; behind one that does not, the answer is that for the rest.
+left-split : (n i end : ℕ) (bs : List ℕ) → i + n ≤ end
+    → part i (end - i) bs ≡ part i n bs ++ part (i + n) (end - (i + n)) bs
+left-split n i end bs h =
+    let e : end - i ≡ n + (end - (i + n)) = omega arith in
+    rw (e, part-split n (end - (i + n)) i bs)
 
-pub same-turn : (n m i j : ℕ) (xs ys : List ℕ) → Bytes xs → Bytes ys → i + n ≤ length xs → j + n ≤ length ys
-    → same (part i (n + m) xs) (part j (n + m) ys)
-    ≡ (eqb (field i n xs) (field j n ys) and same (part (i + n) m xs) (part (j + n) m ys))
-unfolding field
-same-turn n m i j xs ys hx hy rx ry =
-    let u : List ℕ = part i n xs in
-    let v : List ℕ = part j n ys in
-    let l : length u ≡ length v = length-part i n xs rx ∙ sym (length-part j n ys ry) in
-    rw (
-      part-split n m i xs,
-      part-split n m j ys,
-      same-append u v (part (i + n) m xs) (part (j + n) m ys) l,
-      same-number u v l (bytes-part i n xs hx) (bytes-part j n ys hy))
+module _ (n i end : ℕ) (bs : List ℕ) (bytes : Bytes bs) (more : i + n ≤ end) where
+  zero-turn : areZero (part i (end - i) bs) ≡ (eqb (field i n bs) 0 and areZero (part (i + n) (end - (i + n)) bs))
+  unfolding field
+  zero-turn =
+      let number = areZero-number (part i n bs) (bytes-part i n bs bytes) in
+      rw (left-split n i end bs more, areZero-append (part i n bs), number)
+
+  pub zero-stop : {v : ℕ} → v ≡ field i n bs → (v ≡ 0 → ⊥) → areZero (part i (end - i) bs) ≡ false
+  unfolding _and_
+  zero-stop p q = rw (zero-turn, ne-eqb (field i n bs) 0 (λ e. q (p ∙ e)))
+
+  pub zero-next : {v : ℕ} → v ≡ field i n bs → v ≡ 0
+      → areZero (part i (end - i) bs) ≡ areZero (part (i + n) (end - (i + n)) bs)
+  unfolding _and_
+  zero-next p q = rw (zero-turn, eq-eqb (field i n bs) 0 (sym p ∙ q))
+
+module _ (n i end : ℕ) (xs ys : List ℕ) (bytes : Bytes xs × Bytes ys) (more : i + n ≤ end)
+    (room : (end ≤ length xs) × (end ≤ length ys)) where
+  same-turn : same (part i (end - i) xs) (part i (end - i) ys)
+      ≡ (eqb (field i n xs) (field i n ys)
+        and same (part (i + n) (end - (i + n)) xs) (part (i + n) (end - (i + n)) ys))
+  unfolding field
+  same-turn =
+      let x : List ℕ = part i n xs in
+      let y : List ℕ = part i n ys in
+      let l : length x ≡ length y = length-part i n xs (omega arith) ∙ sym (length-part i n ys (omega arith)) in
+      let number = same-number x y l (bytes-part i n xs (bytes .0)) (bytes-part i n ys (bytes .1)) in
+      let rest : ℕ = end - (i + n) in
+      let whole = same-append x y (part (i + n) rest xs) (part (i + n) rest ys) l in
+      rw (left-split n i end xs more, left-split n i end ys more, whole, number)
+
+  pub same-stop : {v w : ℕ} → v ≡ field i n xs → w ≡ field i n ys → (v ≡ w → ⊥)
+      → same (part i (end - i) xs) (part i (end - i) ys) ≡ false
+  unfolding _and_
+  same-stop p q r = rw (same-turn, ne-eqb (field i n xs) (field i n ys) (λ e. r (p ∙ e ∙ sym q)))
+
+  pub same-next : {v w : ℕ} → v ≡ field i n xs → w ≡ field i n ys → v ≡ w
+      → same (part i (end - i) xs) (part i (end - i) ys)
+      ≡ same (part (i + n) (end - (i + n)) xs) (part (i + n) (end - (i + n)) ys)
+  unfolding _and_
+  same-next p q r = rw (same-turn, eq-eqb (field i n xs) (field i n ys) (sym p ∙ r ∙ q))

@@ -24,13 +24,14 @@ pub patch-more : (i n x : ℕ) (xs bs : List ℕ) → length xs ≡ n → set (p
 unfolding patch
 patch-more i n x xs bs l = rw (patch-append i xs (x ∷ []) bs, l)
 
--- a number of n + m bytes is stored as its low n and then its high m
-pub patch-number : (n m i v : ℕ) (bs : List ℕ)
-    → patch (i + n) (little m (v / 256 ^ n)) (patch i (little n (v % 256 ^ n)) bs) ≡ patch i (little (n + m) v) bs
-patch-number n m i v bs =
+-- a number is stored by halves of n bytes each, the low one first
+pub patch-halves : (n i v : ℕ) (bs : List ℕ) {mid all : List ℕ}
+    → mid ≡ patch i (little n (v % 256 ^ n)) bs → all ≡ patch (i + n) (little n (v / 256 ^ n)) mid
+    → all ≡ patch i (little (n + n) v) bs
+patch-halves n i v bs {mid} {all} p q =
     let low : List ℕ = little n (v % 256 ^ n) in
     let l : length low ≡ n = length-little n (v % 256 ^ n) in
-    rw (little-split n m v, patch-append i low (little m (v / 256 ^ n)) bs, l)
+    rw (q, p, little-split n n v, patch-append i low (little n (v / 256 ^ n)) bs, l)
 
 -- WHERE A PATCH LIES
 patch-cons : (i b : ℕ) (xs bs : List ℕ) → patch (suc i) xs (b ∷ bs) ≡ b ∷ patch i xs bs
