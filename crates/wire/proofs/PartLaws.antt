@@ -3,7 +3,7 @@ use mathlib.Core.Path.{_≡_, refl, sym, ap, _∙_}
 use mathlib.Core.Bool.{Bool, true, false}
 use mathlib.Core.List.{List, [], _∷_, _++_}
 use Prim.Native.Nat.{ℕ, zero, suc, _+_, _*_, _/_, _%_, _^_, _-_, _≤_, _<_}
-use native.Mathlib.Nat.{mul-assoc, mul-comm, pow-succ', suc-add, zero-add, mod-add-div, mod-lt, suc-inj, suc-ne-zero}
+use native.Mathlib.Nat.{add-assoc, mul-assoc, mul-comm, pow-succ', suc-add, zero-add, mod-add-div, mod-lt, suc-inj, suc-ne-zero}
 use native.Mathlib.Omega.{arith}
 use lib.Dec.{eqb}
 use lib.ListN.{length, getD, take, drop, length-take, length-drop}
@@ -156,52 +156,54 @@ areZero-number (x ∷ xs) h =
     let t : areZero xs ≡ eqb (numberOf xs) 0 = areZero-number xs (h .1) in
     rw t (sym (eqb-digits x 0 (numberOf xs) 0 (h .0) (omega arith)))
 
--- A TURN OF A LOOP over numbers of n bytes: what is left is tested number by number, up to an end. A number that fails
--- gives the answer; behind one that does not, the answer is that for the rest.
-left-split : (n i end : ℕ) (bs : List ℕ) → i + n ≤ end
-    → part i (end - i) bs ≡ part i n bs ++ part (i + n) (end - (i + n)) bs
-left-split n i end bs h =
-    let e : end - i ≡ n + (end - (i + n)) = omega arith in
-    rw (e, part-split n (end - (i + n)) i bs)
+-- A TURN OF A LOOP over numbers of n bytes: what is left is tested number by number. A number that fails gives the
+-- answer; behind one that does not, the answer is that for the rest.
+left-split : (n from i size : ℕ) (bs : List ℕ) → i + n ≤ size
+    → part (from + i) (size - i) bs ≡ part (from + i) n bs ++ part (from + (i + n)) (size - (i + n)) bs
+left-split n from i size bs h =
+    let k : size - i ≡ n + (size - (i + n)) = omega arith in
+    rw (k, part-split n (size - (i + n)) (from + i) bs, add-assoc from i n)
 
-module _ (n i end : ℕ) (bs : List ℕ) (bytes : Bytes bs) (more : i + n ≤ end) where
-  zero-turn : areZero (part i (end - i) bs) ≡ (eqb (field i n bs) 0 and areZero (part (i + n) (end - (i + n)) bs))
+module _ (n from i size : ℕ) (bs : List ℕ) (bytes : Bytes bs) (more : i + n ≤ size) where
+  zero-turn : areZero (part (from + i) (size - i) bs)
+      ≡ (eqb (field (from + i) n bs) 0 and areZero (part (from + (i + n)) (size - (i + n)) bs))
   unfolding field
   zero-turn =
-      let number = areZero-number (part i n bs) (bytes-part i n bs bytes) in
-      rw (left-split n i end bs more, areZero-append (part i n bs), number)
+      let number = areZero-number (part (from + i) n bs) (bytes-part (from + i) n bs bytes) in
+      rw (left-split n from i size bs more, areZero-append (part (from + i) n bs), number)
 
-  pub zero-stop : {v : ℕ} → v ≡ field i n bs → (v ≡ 0 → ⊥) → areZero (part i (end - i) bs) ≡ false
+  pub zero-stop : {v : ℕ} → v ≡ field (from + i) n bs → (v ≡ 0 → ⊥) → areZero (part (from + i) (size - i) bs) ≡ false
   unfolding _and_
-  zero-stop p q = rw (zero-turn, ne-eqb (field i n bs) 0 (λ e. q (p ∙ e)))
+  zero-stop p q = rw (zero-turn, ne-eqb (field (from + i) n bs) 0 (λ e. q (p ∙ e)))
 
-  pub zero-next : {v : ℕ} → v ≡ field i n bs → v ≡ 0
-      → areZero (part i (end - i) bs) ≡ areZero (part (i + n) (end - (i + n)) bs)
+  pub zero-next : {v : ℕ} → v ≡ field (from + i) n bs → v ≡ 0
+      → areZero (part (from + i) (size - i) bs) ≡ areZero (part (from + (i + n)) (size - (i + n)) bs)
   unfolding _and_
-  zero-next p q = rw (zero-turn, eq-eqb (field i n bs) 0 (sym p ∙ q))
+  zero-next p q = rw (zero-turn, eq-eqb (field (from + i) n bs) 0 (sym p ∙ q))
 
-module _ (n i end : ℕ) (xs ys : List ℕ) (bytes : Bytes xs × Bytes ys) (more : i + n ≤ end)
-    (room : (end ≤ length xs) × (end ≤ length ys)) where
-  same-turn : same (part i (end - i) xs) (part i (end - i) ys)
+module _ (n i size : ℕ) (xs ys : List ℕ) (bytes : Bytes xs × Bytes ys) (more : i + n ≤ size)
+    (room : (size ≤ length xs) × (size ≤ length ys)) where
+  same-turn : same (part i (size - i) xs) (part i (size - i) ys)
       ≡ (eqb (field i n xs) (field i n ys)
-        and same (part (i + n) (end - (i + n)) xs) (part (i + n) (end - (i + n)) ys))
+        and same (part (i + n) (size - (i + n)) xs) (part (i + n) (size - (i + n)) ys))
   unfolding field
   same-turn =
       let x : List ℕ = part i n xs in
       let y : List ℕ = part i n ys in
       let l : length x ≡ length y = length-part i n xs (omega arith) ∙ sym (length-part i n ys (omega arith)) in
       let number = same-number x y l (bytes-part i n xs (bytes .0)) (bytes-part i n ys (bytes .1)) in
-      let rest : ℕ = end - (i + n) in
+      let rest : ℕ = size - (i + n) in
+      let k : size - i ≡ n + rest = omega arith in
       let whole = same-append x y (part (i + n) rest xs) (part (i + n) rest ys) l in
-      rw (left-split n i end xs more, left-split n i end ys more, whole, number)
+      rw (k, part-split n rest i xs, part-split n rest i ys, whole, number)
 
   pub same-stop : {v w : ℕ} → v ≡ field i n xs → w ≡ field i n ys → (v ≡ w → ⊥)
-      → same (part i (end - i) xs) (part i (end - i) ys) ≡ false
+      → same (part i (size - i) xs) (part i (size - i) ys) ≡ false
   unfolding _and_
   same-stop p q r = rw (same-turn, ne-eqb (field i n xs) (field i n ys) (λ e. r (p ∙ e ∙ sym q)))
 
   pub same-next : {v w : ℕ} → v ≡ field i n xs → w ≡ field i n ys → v ≡ w
-      → same (part i (end - i) xs) (part i (end - i) ys)
-      ≡ same (part (i + n) (end - (i + n)) xs) (part (i + n) (end - (i + n)) ys)
+      → same (part i (size - i) xs) (part i (size - i) ys)
+      ≡ same (part (i + n) (size - (i + n)) xs) (part (i + n) (size - (i + n)) ys)
   unfolding _and_
   same-next p q r = rw (same-turn, eq-eqb (field i n xs) (field i n ys) (sym p ∙ r ∙ q))

@@ -82,16 +82,15 @@ pub fn are_zero(s: &[u8], from: usize, size: usize) -> bool
     requires { ⌜ from + size ≤ length (now s) ⌝ }
     ensures { λ r. ⌜ r ≡ areZero (part from size (now (s .entry))) ⌝ }
 {
-    let end = from + size;
-    let mut i = from;
-    while 8 <= end - i {
-        if u64_at(s, i) != 0 {
+    let mut i: usize = 0;
+    while 8 <= size - i {
+        if u64_at(s, from + i) != 0 {
             return false;
         }
         i += 8;
     }
-    while i < end {
-        if u8_at(s, i) != 0 {
+    while i < size {
+        if u8_at(s, from + i) != 0 {
             return false;
         }
         i += 1;

@@ -2,7 +2,7 @@
 use mathlib.Core.Path.{_≡_, refl, sym, _∙_}
 use Prim.Native.Nat.{ℕ, _≤_, _-_, _+_}
 use native.Mathlib.Omega.{arith}
-use native.Mathlib.Nat.{add-sub-cancel-left, sub-self}
+use native.Mathlib.Nat.{add-zero, sub-zero}
 use denote.Ref.{now}
 use Rattle.wire.specs.Bytes.{Bytes, part, areZero}
 use Rattle.wire.proofs.PartLaws.{bytes-getD, zero-stop, zero-next}
@@ -10,28 +10,28 @@ use Rattle.wire.proofs.are_zero.Statement.{statement}
 use Rattle.wire.proofs.are_zero.Tie as tie
 
 abbrev Inv-loop : tie.InvT-loop
-Inv-loop s from size end i₀ i = (i ≤ end) × (areZero (part from size s) ≡ areZero (part i (end - i) s))
+Inv-loop s from size i₀ i = (i ≤ size) × (areZero (part from size s) ≡ areZero (part (from + i) (size - i) s))
 
 abbrev μ-loop : tie.MeasureT-loop
-μ-loop s from size end i₀ i = end - i
+μ-loop s from size i₀ i = size - i
 
 abbrev Inv-loop2 : tie.InvT-loop2
-Inv-loop2 s from size end i₀ i = (i ≤ end) × (areZero (part from size s) ≡ areZero (part i (end - i) s))
+Inv-loop2 s from size i₀ i = (i ≤ size) × (areZero (part from size s) ≡ areZero (part (from + i) (size - i) s))
 
 abbrev μ-loop2 : tie.MeasureT-loop2
-μ-loop2 s from size end i₀ i = end - i
+μ-loop2 s from size i₀ i = size - i
 
 bytes : (o : tie.After-shared-slice-known Inv-loop μ-loop Inv-loop2 μ-loop2) → Bytes (now (o .before .args .s))
 bytes o = bytes-getD (now (o .before .args .s)) (λ k. omega (arith, o .shared-slice-known .given k))
 
-add-end : tie.Need-add-end Inv-loop μ-loop Inv-loop2 μ-loop2
-add-end c = omega arith
-
 loop-holds : tie.Need-loop-holds Inv-loop μ-loop Inv-loop2 μ-loop2
-loop-holds c = (omega arith, rw add-sub-cancel-left)
+loop-holds c = (omega arith, rw (add-zero, sub-zero))
 
 sub-loop : tie.Need-sub-loop Inv-loop μ-loop Inv-loop2 μ-loop2
 sub-loop c = omega arith
+
+add-u64-at : tie.Need-add-u64-at Inv-loop μ-loop Inv-loop2 μ-loop2
+add-u64-at c = omega arith
 
 u64-at-requires : tie.Need-u64-at-requires Inv-loop μ-loop Inv-loop2 μ-loop2
 u64-at-requires c κs = omega arith
@@ -42,7 +42,7 @@ returns c =
     let a = b .before .args in
     let l = c .before .before .before .loop in
     let stop =
-      zero-stop 8 (l .i) (a .from + a .size) (now (a .s)) (bytes b) (omega arith)
+      zero-stop 8 (a .from) (l .i) (a .size) (now (a .s)) (bytes b) (omega arith)
       (c .before .u64-at .ensures) (c .if1 .taken) in
     sym (l .inv .1 ∙ stop)
 
@@ -58,12 +58,15 @@ loop-again c =
     let a = b .before .args in
     let l = c .before .before .before .loop in
     let next =
-      zero-next 8 (l .i) (a .from + a .size) (now (a .s)) (bytes b) (omega arith)
+      zero-next 8 (a .from) (l .i) (a .size) (now (a .s)) (bytes b) (omega arith)
       (c .before .u64-at .ensures) (c .if1 .left) in
     (omega arith, l .inv .1 ∙ next)
 
 loop2-holds : tie.Need-loop2-holds Inv-loop μ-loop Inv-loop2 μ-loop2
 loop2-holds c = c .before .loop .inv
+
+add-u8-at : tie.Need-add-u8-at Inv-loop μ-loop Inv-loop2 μ-loop2
+add-u8-at c = omega arith
 
 u8-at-requires : tie.Need-u8-at-requires Inv-loop μ-loop Inv-loop2 μ-loop2
 u8-at-requires c κs = omega arith
@@ -74,7 +77,7 @@ returns-2 c =
     let a = b .before .args in
     let l = c .before .before .before .loop2 in
     let stop =
-      zero-stop 1 (l .i) (a .from + a .size) (now (a .s)) (bytes b) (omega arith)
+      zero-stop 1 (a .from) (l .i) (a .size) (now (a .s)) (bytes b) (omega arith)
       (c .before .u8-at .ensures) (c .if2 .taken) in
     sym (l .inv .1 ∙ stop)
 
@@ -90,7 +93,7 @@ loop2-again c =
     let a = b .before .args in
     let l = c .before .before .before .loop2 in
     let next =
-      zero-next 1 (l .i) (a .from + a .size) (now (a .s)) (bytes b) (omega arith)
+      zero-next 1 (a .from) (l .i) (a .size) (now (a .s)) (bytes b) (omega arith)
       (c .before .u8-at .ensures) (c .if2 .left) in
     (omega arith, l .inv .1 ∙ next)
 
@@ -99,7 +102,7 @@ unfolding areZero part
 returns-3 c =
     let a = c .before .before .before .before .before .args in
     let l = c .before .loop2 in
-    let none : a .from + a .size - l .i ≡ 0 = omega arith in
+    let none : a .size - l .i ≡ 0 = omega arith in
     rw (l .inv .1, none)
 
 pub are-zero-spec : {M : Type 1} → statement M
@@ -110,15 +113,16 @@ are-zero-spec =
     μ-loop
     Inv-loop2
     μ-loop2
-    add-end
     loop-holds
     sub-loop
+    add-u64-at
     u64-at-requires
     returns
     add-i
     loop-less
     loop-again
     loop2-holds
+    add-u8-at
     u8-at-requires
     returns-2
     add-i-2
