@@ -22,7 +22,11 @@ returns-2 c =
     let s = now (c .before .before .before .before .before .args .s) in
     let length-field : eqb (field 0 4 s) (length s) ≡ true =
       eq-eqb _ _ (sym (c .before .before .u32-at .ensures) ∙ c .before .if2 .taken) in
-    rw (le-leb 6 (length s) (c .before .before .before .if1 .left), length-field) (cc)
+    rw (
+      le-leb 6 (length s) (c .before .before .before .if1 .left),
+      length-field,
+      c .u16-at .ensures,
+      c .before .before .u32-at .ensures)
 
 returns-3 : tie.Need-returns-3
 unfolding frameIn _and_
