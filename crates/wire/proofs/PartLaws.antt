@@ -3,7 +3,8 @@ use mathlib.Core.Path.{_≡_, refl, sym, ap, _∙_}
 use mathlib.Core.Bool.{Bool, true, false}
 use mathlib.Core.List.{List, [], _∷_, _++_}
 use Prim.Native.Nat.{ℕ, zero, suc, _+_, _*_, _/_, _%_, _^_, _-_, _≤_, _<_}
-use native.Mathlib.Nat.{add-assoc, mul-assoc, mul-comm, pow-succ', suc-add, zero-add, mod-add-div, mod-lt, suc-inj, suc-ne-zero}
+use native.Mathlib.Nat.{add-assoc, zero-add, suc-add, suc-inj, suc-ne-zero}
+use native.Mathlib.Nat.{mul-assoc, mul-comm, pow-succ', mod-add-div, mod-lt}
 use native.Mathlib.Omega.{arith}
 use lib.Dec.{eqb}
 use lib.ListN.{length, getD, take, drop, length-take, length-drop}
@@ -38,7 +39,7 @@ pub bytes-part : (i n : ℕ) (bs : List ℕ) → Bytes bs → Bytes (part i n bs
 unfolding part
 bytes-part i n bs h = bytes-take n (drop i bs) (bytes-drop i bs h)
 
--- what is known of a lent slice, element by element, is that its elements are bytes
+-- BYTES: what is known of a lent slice, element by element, says that all are bytes
 pub bytes-getD : (bs : List ℕ) → ((i : ℕ) → getD bs i 0 < 256) → Bytes bs
 bytes-getD [] h = tt
 bytes-getD (b ∷ bs) h = (h 0, bytes-getD bs (λ i. h (suc i)))
@@ -61,7 +62,8 @@ unfolding part
 part-one i bs h = rw (drop-cons bs i 0)
 
 -- one byte more
-pub part-more : (i n : ℕ) (bs : List ℕ) → i + n < length bs → part i (n + 1) bs ≡ part i n bs ++ (getD bs (i + n) 0 ∷ [])
+pub part-more : (i n : ℕ) (bs : List ℕ) → i + n < length bs
+    → part i (n + 1) bs ≡ part i n bs ++ (getD bs (i + n) 0 ∷ [])
 part-more i n bs h = rw (part-split n 1 i bs, part-one (i + n) bs h)
 
 -- NUMBERS
@@ -111,17 +113,17 @@ little-split n m x =
     ∙ little-join n m (x % 256 ^ n) (x / 256 ^ n) (mod-lt x (pow-pos n))
 
 -- TESTS
-and-assoc : (a b c : Bool) → ((a and b) and c) ≡ (a and (b and c))
+pub and-assoc : (a b c : Bool) → ((a and b) and c) ≡ (a and (b and c))
 unfolding _and_
 and-assoc true b c = refl
 and-assoc false b c = refl
 
-areZero-append : (xs ys : List ℕ) → areZero (xs ++ ys) ≡ (areZero xs and areZero ys)
+pub areZero-append : (xs ys : List ℕ) → areZero (xs ++ ys) ≡ (areZero xs and areZero ys)
 unfolding areZero _and_
 areZero-append [] ys = refl
 areZero-append (x ∷ xs) ys = rw (areZero-append xs ys, and-assoc (eqb x 0) (areZero xs) (areZero ys))
 
-same-append : (xs ys us vs : List ℕ) → length xs ≡ length ys
+pub same-append : (xs ys us vs : List ℕ) → length xs ≡ length ys
     → same (xs ++ us) (ys ++ vs) ≡ (same xs ys and same us vs)
 unfolding same _and_
 same-append [] [] us vs h = refl
@@ -130,7 +132,7 @@ same-append (x ∷ xs) [] us vs h = absurd (suc-ne-zero _ h)
 same-append (x ∷ xs) (y ∷ ys) us vs h =
     rw (same-append xs ys us vs (suc-inj h), and-assoc (eqb x y) (same xs ys) (same us vs))
 
--- two numbers are equal where their lowest bytes and the rest are
+-- bytes are the same, or zero, where the numbers in them are
 eqb-digits : (x y m n : ℕ) → x < 256 → y < 256 → eqb (x + 256 * m) (y + 256 * n) ≡ (eqb x y and eqb m n)
 unfolding _and_
 eqb-digits x y m n hx hy = by-cases (eqb x y) refl (eqb m n) refl where
@@ -139,7 +141,7 @@ eqb-digits x y m n hx hy = by-cases (eqb x y) refl (eqb m n) refl where
   by-cases true e false f = ne-eqb (x + 256 * m) (y + 256 * n) (λ g. eqb-false m n f (omega arith))
   by-cases false e q f = ne-eqb (x + 256 * m) (y + 256 * n) (λ g. eqb-false x y e (omega arith))
 
-same-number : (xs ys : List ℕ) → length xs ≡ length ys → Bytes xs → Bytes ys
+pub same-number : (xs ys : List ℕ) → length xs ≡ length ys → Bytes xs → Bytes ys
     → same xs ys ≡ eqb (numberOf xs) (numberOf ys)
 unfolding same numberOf
 same-number [] [] l h k = refl
@@ -149,61 +151,73 @@ same-number (x ∷ xs) (y ∷ ys) l h k =
     let t : same xs ys ≡ eqb (numberOf xs) (numberOf ys) = same-number xs ys (suc-inj l) (h .1) (k .1) in
     rw t (sym (eqb-digits x y (numberOf xs) (numberOf ys) (h .0) (k .0)))
 
-areZero-number : (xs : List ℕ) → Bytes xs → areZero xs ≡ eqb (numberOf xs) 0
+pub areZero-number : (xs : List ℕ) → Bytes xs → areZero xs ≡ eqb (numberOf xs) 0
 unfolding areZero numberOf
 areZero-number [] h = refl
 areZero-number (x ∷ xs) h =
     let t : areZero xs ≡ eqb (numberOf xs) 0 = areZero-number xs (h .1) in
     rw t (sym (eqb-digits x 0 (numberOf xs) 0 (h .0) (omega arith)))
 
--- A TURN OF A LOOP over numbers of n bytes: what is left is tested number by number. A number that fails gives the
--- answer; behind one that does not, the answer is that for the rest.
-left-split : (n from i size : ℕ) (bs : List ℕ) → i + n ≤ size
-    → part (from + i) (size - i) bs ≡ part (from + i) n bs ++ part (from + (i + n)) (size - (i + n)) bs
-left-split n from i size bs h =
-    let k : size - i ≡ n + (size - (i + n)) = omega arith in
-    rw (k, part-split n (size - (i + n)) (from + i) bs, add-assoc from i n)
+-- TURNS OF A LOOP over numbers of n bytes. A number that fails the test gives the answer; behind one that does not, the
+-- answer is that for the rest.
+zero-turn : (n from i size : ℕ) (bs : List ℕ) → Bytes bs → i + n ≤ size
+    → areZero (part (from + i) (size - i) bs)
+    ≡ (eqb (field (from + i) n bs) 0 and areZero (part (from + (i + n)) (size - (i + n)) bs))
+unfolding field
+zero-turn n from i size bs bytes more =
+    let first : List ℕ = part (from + i) n bs in
+    let rest : ℕ = size - (i + n) in
+    let k : size - i ≡ n + rest = omega arith in
+    let number = areZero-number first (bytes-part (from + i) n bs bytes) in
+    rw (k, part-split n rest (from + i) bs, add-assoc from i n, areZero-append first, number)
 
-module _ (n from i size : ℕ) (bs : List ℕ) (bytes : Bytes bs) (more : i + n ≤ size) where
-  zero-turn : areZero (part (from + i) (size - i) bs)
-      ≡ (eqb (field (from + i) n bs) 0 and areZero (part (from + (i + n)) (size - (i + n)) bs))
-  unfolding field
-  zero-turn =
-      let number = areZero-number (part (from + i) n bs) (bytes-part (from + i) n bs bytes) in
-      rw (left-split n from i size bs more, areZero-append (part (from + i) n bs), number)
+-- after i bytes the answer for all is the answer for what is left
+abbrev pub ZeroLeft : (from size i : ℕ) → List ℕ → Type 0
+ZeroLeft from size i bs = (i ≤ size) × (areZero (part from size bs) ≡ areZero (part (from + i) (size - i) bs))
 
-  pub zero-stop : {v : ℕ} → v ≡ field (from + i) n bs → (v ≡ 0 → ⊥) → areZero (part (from + i) (size - i) bs) ≡ false
+module _ (n from : ℕ) (bs : List ℕ) {i size v : ℕ} (bytes : Bytes bs) (left : ZeroLeft from size i bs)
+    (more : i + n ≤ size) (number : v ≡ field (from + i) n bs) where
+  pub zero-stop : (v ≡ 0 → ⊥) → false ≡ areZero (part from size bs)
   unfolding _and_
-  zero-stop p q = rw (zero-turn, ne-eqb (field (from + i) n bs) 0 (λ e. q (p ∙ e)))
+  zero-stop other =
+      let differ = ne-eqb (field (from + i) n bs) 0 (λ e. other (number ∙ e)) in
+      rw (left .1, zero-turn n from i size bs bytes more, differ)
 
-  pub zero-next : {v : ℕ} → v ≡ field (from + i) n bs → v ≡ 0
-      → areZero (part (from + i) (size - i) bs) ≡ areZero (part (from + (i + n)) (size - (i + n)) bs)
+  pub zero-next : v ≡ 0 → ZeroLeft from size (i + n) bs
   unfolding _and_
-  zero-next p q = rw (zero-turn, eq-eqb (field (from + i) n bs) 0 (sym p ∙ q))
+  zero-next none =
+      let agree = eq-eqb (field (from + i) n bs) 0 (sym number ∙ none) in
+      (more, rw (left .1, zero-turn n from i size bs bytes more, agree))
 
-module _ (n i size : ℕ) (xs ys : List ℕ) (bytes : Bytes xs × Bytes ys) (more : i + n ≤ size)
-    (room : (size ≤ length xs) × (size ≤ length ys)) where
-  same-turn : same (part i (size - i) xs) (part i (size - i) ys)
-      ≡ (eqb (field i n xs) (field i n ys)
-        and same (part (i + n) (size - (i + n)) xs) (part (i + n) (size - (i + n)) ys))
-  unfolding field
-  same-turn =
-      let x : List ℕ = part i n xs in
-      let y : List ℕ = part i n ys in
-      let l : length x ≡ length y = length-part i n xs (omega arith) ∙ sym (length-part i n ys (omega arith)) in
-      let number = same-number x y l (bytes-part i n xs (bytes .0)) (bytes-part i n ys (bytes .1)) in
-      let rest : ℕ = size - (i + n) in
-      let k : size - i ≡ n + rest = omega arith in
-      let whole = same-append x y (part (i + n) rest xs) (part (i + n) rest ys) l in
-      rw (k, part-split n rest i xs, part-split n rest i ys, whole, number)
+same-turn : (n i size : ℕ) (xs ys : List ℕ) → Bytes xs × Bytes ys → (size ≤ length xs) × (size ≤ length ys)
+    → i + n ≤ size
+    → same (part i (size - i) xs) (part i (size - i) ys)
+    ≡ (eqb (field i n xs) (field i n ys) and same (part (i + n) (size - (i + n)) xs) (part (i + n) (size - (i + n)) ys))
+unfolding field
+same-turn n i size xs ys bytes room more =
+    let x : List ℕ = part i n xs in
+    let y : List ℕ = part i n ys in
+    let rest : ℕ = size - (i + n) in
+    let k : size - i ≡ n + rest = omega arith in
+    let l : length x ≡ length y = length-part i n xs (omega arith) ∙ sym (length-part i n ys (omega arith)) in
+    let both = same-append x y (part (i + n) rest xs) (part (i + n) rest ys) l in
+    let number = same-number x y l (bytes-part i n xs (bytes .0)) (bytes-part i n ys (bytes .1)) in
+    rw (k, part-split n rest i xs, part-split n rest i ys, both, number)
 
-  pub same-stop : {v w : ℕ} → v ≡ field i n xs → w ≡ field i n ys → (v ≡ w → ⊥)
-      → same (part i (size - i) xs) (part i (size - i) ys) ≡ false
+abbrev pub SameLeft : (size i : ℕ) (xs ys : List ℕ) → Type 0
+SameLeft size i xs ys = (i ≤ size) × (same xs ys ≡ same (part i (size - i) xs) (part i (size - i) ys))
+
+module _ (n : ℕ) (xs ys : List ℕ) {i size v w : ℕ} (bytes : Bytes xs × Bytes ys)
+    (room : (size ≤ length xs) × (size ≤ length ys)) (left : SameLeft size i xs ys) (more : i + n ≤ size)
+    (number : v ≡ field i n xs) (number′ : w ≡ field i n ys) where
+  pub same-stop : (v ≡ w → ⊥) → false ≡ same xs ys
   unfolding _and_
-  same-stop p q r = rw (same-turn, ne-eqb (field i n xs) (field i n ys) (λ e. r (p ∙ e ∙ sym q)))
+  same-stop other =
+      let differ = ne-eqb (field i n xs) (field i n ys) (λ e. other (number ∙ e ∙ sym number′)) in
+      rw (left .1, same-turn n i size xs ys bytes room more, differ)
 
-  pub same-next : {v w : ℕ} → v ≡ field i n xs → w ≡ field i n ys → v ≡ w
-      → same (part i (size - i) xs) (part i (size - i) ys)
-      ≡ same (part (i + n) (size - (i + n)) xs) (part (i + n) (size - (i + n)) ys)
+  pub same-next : v ≡ w → SameLeft size (i + n) xs ys
   unfolding _and_
-  same-next p q r = rw (same-turn, eq-eqb (field i n xs) (field i n ys) (sym p ∙ r ∙ q))
+  same-next equal =
+      let agree = eq-eqb (field i n xs) (field i n ys) (sym number ∙ equal ∙ number′) in
+      (more, rw (left .1, same-turn n i size xs ys bytes room more, agree))

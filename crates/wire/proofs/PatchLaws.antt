@@ -1,7 +1,7 @@
 -- Laws of bytes stored over bytes. Assumes nothing.
 use mathlib.Core.Path.{_≡_, refl, sym, _∙_}
 use mathlib.Core.List.{List, [], _∷_, _++_}
-use Prim.Native.Nat.{ℕ, zero, suc, _+_, _/_, _%_, _^_, _≤_, _<_}
+use Prim.Native.Nat.{ℕ, suc, _+_, _/_, _%_, _^_, _≤_, _<_}
 use native.Mathlib.Nat.{add-suc, suc-add, add-zero, zero-add, suc-inj, suc-ne-zero}
 use native.Mathlib.Omega.{arith}
 use lib.ListN.{length, set, length-set}
@@ -20,7 +20,8 @@ patch-append i [] ys bs = rw add-zero
 patch-append i (x ∷ xs) ys bs = rw (patch-append (suc i) xs ys (set bs i x), add-suc, suc-add)
 
 -- one byte more
-pub patch-more : (i n x : ℕ) (xs bs : List ℕ) → length xs ≡ n → set (patch i xs bs) (i + n) x ≡ patch i (xs ++ (x ∷ [])) bs
+pub patch-more : (i n x : ℕ) (xs bs : List ℕ) → length xs ≡ n
+    → set (patch i xs bs) (i + n) x ≡ patch i (xs ++ (x ∷ [])) bs
 unfolding patch
 patch-more i n x xs bs l = rw (patch-append i xs (x ∷ []) bs, l)
 

@@ -41,7 +41,7 @@ part i n bs = take n (drop i bs)
 unfoldable pub field : (from size : ℕ) → List ℕ → ℕ
 field i n bs = numberOf (part i n bs)
 
--- `bs` with the bytes `new` stored over it from a place on; its length stays, and what would come behind its end is left out
+-- the same number of bytes, with `new` stored over them from a place on; what would come behind the end is left out
 unfoldable pub patch : (from : ℕ) → (new : List ℕ) → List ℕ → List ℕ
 patch i [] bs = bs
 patch i (x ∷ xs) bs = patch (suc i) xs (set bs i x)

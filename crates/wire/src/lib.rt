@@ -66,6 +66,7 @@ pub fn put_u64(s: &mut [u8], at: usize, v: u64)
     put_u32(s, at + 4, (v / 4294967296) as u32);
 }
 
+// Frees a record, or a part of one.
 pub fn put_zeros(s: &mut [u8], from: usize, size: usize)
     requires { ⌜ from + size ≤ length (now s) ⌝ }
     ensures { λ _. ⌜ now (s .exit) ≡ patch from (replicate size 0) (now (s .entry)) ⌝ }
@@ -98,6 +99,7 @@ pub fn are_zero(s: &[u8], from: usize, size: usize) -> bool
     true
 }
 
+// Digests are arrays by value: read whole, compared whole, stored whole.
 pub fn digest_at(s: &[u8], at: usize) -> [u8; 32]
     requires { ⌜ at + 32 ≤ length (now s) ⌝ }
     ensures { λ r. ⌜ r ≡ part at 32 (now (s .entry)) ⌝ }
@@ -122,7 +124,7 @@ pub fn put_digest(s: &mut [u8], at: usize, d: [u8; 32])
     }
 }
 
-// Two digests are compared whole, by words of eight bytes.
+// By words of eight bytes.
 pub fn same_digest(a: [u8; 32], b: [u8; 32]) -> bool
     ensures { λ r. ⌜ r ≡ same a b ⌝ }
 {

@@ -1,7 +1,5 @@
 -- By the tests that led to each answer. Assumes nothing.
-use mathlib.Core.Path.{_≡_, sym, _∙_}
-use mathlib.Core.Bool.{true, false}
-use lib.Dec.{leb, eqb}
+use mathlib.Core.Path.{sym, _∙_}
 use lib.ListN.{length}
 use denote.Ref.{now}
 use borrow.Author.Needs.{needs}
@@ -20,21 +18,18 @@ returns-2 : tie.Need-returns-2
 unfolding frameIn _and_
 returns-2 c =
     let s = now (c .before .before .before .before .before .args .s) in
-    let length-field : eqb (field 0 4 s) (length s) ≡ true =
-      eq-eqb _ _ (sym (c .before .before .u32-at .ensures) ∙ c .before .if2 .taken) in
-    rw (
-      le-leb 6 (length s) (c .before .before .before .if1 .left),
-      length-field,
-      c .u16-at .ensures,
-      c .before .before .u32-at .ensures)
+    let read = c .before .before .u32-at .ensures in
+    let enough = le-leb 6 (length s) (c .before .before .before .if1 .left) in
+    let length-field = eq-eqb (field 0 4 s) (length s) (sym read ∙ c .before .if2 .taken) in
+    rw (enough, length-field, c .u16-at .ensures, read)
 
 returns-3 : tie.Need-returns-3
 unfolding frameIn _and_
 returns-3 c =
     let s = now (c .before .before .before .before .args .s) in
-    let length-field : eqb (field 0 4 s) (length s) ≡ false =
-      ne-eqb _ _ (λ e. c .if2 .left (c .before .u32-at .ensures ∙ e)) in
-    rw (le-leb 6 (length s) (c .before .before .if1 .left), length-field)
+    let enough = le-leb 6 (length s) (c .before .before .if1 .left) in
+    let length-field = ne-eqb (field 0 4 s) (length s) (λ e. c .if2 .left (c .before .u32-at .ensures ∙ e)) in
+    rw (enough, length-field)
 
 pub frame-in-spec : {M : Type 1} → statement M
 frame-in-spec =
