@@ -19,20 +19,23 @@ unfolding patch
 patch-append i [] ys bs = rw add-zero
 patch-append i (x ∷ xs) ys bs = rw (patch-append (suc i) xs ys (set bs i x), add-suc, suc-add)
 
--- one byte more
+-- one store right behind another of n bytes
+pub patch-then : (i n : ℕ) (xs ys bs : List ℕ) → length xs ≡ n
+    → patch (i + n) ys (patch i xs bs) ≡ patch i (xs ++ ys) bs
+patch-then i n xs ys bs l = rw (patch-append i xs ys bs, l)
+
 pub patch-more : (i n x : ℕ) (xs bs : List ℕ) → length xs ≡ n
     → set (patch i xs bs) (i + n) x ≡ patch i (xs ++ (x ∷ [])) bs
 unfolding patch
-patch-more i n x xs bs l = rw (patch-append i xs (x ∷ []) bs, l)
+patch-more i n x xs bs l = patch-then i n xs (x ∷ []) bs l
 
 -- a number is stored by halves of n bytes each, the low one first
 pub patch-halves : (n i v : ℕ) (bs : List ℕ) {mid all : List ℕ}
     → mid ≡ patch i (little n (v % 256 ^ n)) bs → all ≡ patch (i + n) (little n (v / 256 ^ n)) mid
     → all ≡ patch i (little (n + n) v) bs
 patch-halves n i v bs {mid} {all} p q =
-    let low : List ℕ = little n (v % 256 ^ n) in
-    let l : length low ≡ n = length-little n (v % 256 ^ n) in
-    rw (q, p, little-split n n v, patch-append i low (little n (v / 256 ^ n)) bs, l)
+    let l = length-little n (v % 256 ^ n) in
+    rw (q, p, little-split n n v) (patch-then i n (little n (v % 256 ^ n)) (little n (v / 256 ^ n)) bs l)
 
 -- WHERE A PATCH LIES
 patch-cons : (i b : ℕ) (xs bs : List ℕ) → patch (suc i) xs (b ∷ bs) ≡ b ∷ patch i xs bs

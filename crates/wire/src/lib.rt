@@ -66,7 +66,7 @@ pub fn put_u64(s: &mut [u8], at: usize, v: u64)
     put_u32(s, at + 4, (v / 4294967296) as u32);
 }
 
-// Frees a record, or a part of one.
+// A free record is all zero.
 pub fn put_zeros(s: &mut [u8], from: usize, size: usize)
     requires { ⌜ from + size ≤ length (now s) ⌝ }
     ensures { λ _. ⌜ now (s .exit) ≡ patch from (replicate size 0) (now (s .entry)) ⌝ }
