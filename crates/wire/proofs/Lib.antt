@@ -1,3 +1,5 @@
 pub mod ChoiceLaws
 pub mod EveryLaws
 pub mod BytesLaws
+pub mod PartLaws
+pub mod PatchLaws
