@@ -49,7 +49,7 @@ size-fits n l u =
 
 -- TABLES that are read, whatever the entries are
 module _ {A : Type 0} where
-  length-read : (g : List ℕ → A) (n : ℕ) (bs : List ℕ) → length (tableIn g n bs) ≡ n
+  pub length-read : (g : List ℕ → A) (n : ℕ) (bs : List ℕ) → length (tableIn g n bs) ≡ n
   length-read g n bs = length-map (pieces slotSize n bs) (slotIn g) ∙ length-pieces slotSize n bs
 
   module _ (P : A → Type 0) (g : List ℕ → A) (f : (p : List ℕ) → length p ≡ slotSize → Bytes p → P (g p)) where

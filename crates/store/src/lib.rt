@@ -1,4 +1,5 @@
 // The store: one ledger's channel ends and packet records, in bytes that the host lends. Its types; specs/ says what they mean.
+pub mod exact; // bytes laid out exactly as a store's
 
 // A height of this ledger, and a height of the other one. Neither can stand where the other is meant.
 pub struct OwnHeight(pub u64);
@@ -51,4 +52,11 @@ impl Store {
     pub const RECORDS: usize = 512;
 
     pub const OUTPUT: usize = 106;
+
+    // Where the tables start, and the size of their records.
+    pub const HEADER: usize = 64;
+
+    pub const SLOT: usize = 64;
+
+    pub const RECORDS_FROM: usize = Store::HEADER + Store::SLOT * Store::CHANNELS;
 }
