@@ -1,4 +1,5 @@
 // The store: one ledger's channel ends and packet records, in bytes that the host lends. Its types; specs/ says what they mean.
+pub mod slot; // a channel end or a packet record in 64 bytes
 
 // A height of this ledger, and a height of the other one. Neither can stand where the other is meant.
 pub struct OwnHeight(pub u64);
@@ -51,4 +52,10 @@ impl Store {
     pub const RECORDS: usize = 512;
 
     pub const OUTPUT: usize = 106;
+}
+
+// Where a scan of a table's slots ends: at an index, or behind them all.
+pub enum Found {
+    At(usize),
+    Nothing,
 }
