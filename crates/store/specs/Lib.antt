@@ -6,3 +6,4 @@ pub mod Ordering
 pub mod Fit
 pub mod Maker
 pub mod Slot
+pub mod Scan
