@@ -60,3 +60,75 @@ module _ {A : Type 0} where
   set-first y zero (some x ∷ xs) h = clash {b = false} h refl
   set-first y (suc i) (none ∷ xs) h = clash {b = true} refl (h .0)
   set-first y (suc i) (some x ∷ xs) h = ap (λ (l : List (Option A)). some x ∷ l) (set-first y i xs (h .1))
+
+  pub set-insert : (y : A) (i : ℕ) (xs : List (Option A)) → firstFree xs ≡ At i → set xs i (some y) ≡ insert y xs
+  set-insert y i xs h = set-first y i xs (first-of isFree i xs h)
+
+  free-first : (i : ℕ) (xs : List (Option A)) → First isFree i xs → hasFree xs ≡ true
+  unfolding hasFree
+  free-first i [] h = absurd h
+  free-first i (none ∷ xs) h = refl
+  free-first zero (some x ∷ xs) h = clash {b = false} h refl
+  free-first (suc i) (some x ∷ xs) h = free-first i xs (h .1)
+
+  pub free-found : (i : ℕ) (xs : List (Option A)) → firstFree xs ≡ At i → hasFree xs ≡ true
+  free-found i xs h = free-first i xs (first-of isFree i xs h)
+
+  -- THE FIRST ENTRY THAT PASSES A TEST makes way for another slot
+  module _ (t : A → Bool) where
+    replace-first : (y : Option A) (i : ℕ) (xs : List (Option A)) → First (holds t) i xs → set xs i y ≡ replace t y xs
+    unfolding replace
+    replace-first y i [] h = absurd h
+    replace-first y zero (none ∷ xs) h = clash {b = false} h refl
+    replace-first y zero (some x ∷ xs) h = rw h
+    replace-first y (suc i) (none ∷ xs) h = ap (λ (l : List (Option A)). none ∷ l) (replace-first y i xs (h .1))
+    replace-first y (suc i) (some x ∷ xs) h =
+        rw (h .0) (ap (λ (l : List (Option A)). some x ∷ l) (replace-first y i xs (h .1)))
+
+    pub set-replace : (y : Option A) (i : ℕ) (xs : List (Option A)) → firstThat t xs ≡ At i → set xs i y ≡ replace t y xs
+    set-replace y i xs h = replace-first y i xs (first-of (holds t) i xs h)
+
+    -- and is what the table is asked for by that test
+    find-first : (i : ℕ) (xs : List (Option A)) → First (holds t) i xs →
+        (find t xs ≡ getD xs i none) × (isSome (find t xs) ≡ true)
+    unfolding find
+    find-first i [] h = absurd h
+    find-first zero (none ∷ xs) h = clash {b = false} h refl
+    find-first zero (some x ∷ xs) h = (rw h, rw h)
+    find-first (suc i) (none ∷ xs) h = find-first i xs (h .1)
+    find-first (suc i) (some x ∷ xs) h = let ih = find-first i xs (h .1) in (rw (h .0) (ih .0), rw (h .0) (ih .1))
+
+    pub find-found : (i : ℕ) (xs : List (Option A)) → firstThat t xs ≡ At i → find t xs ≡ getD xs i none
+    find-found i xs h = find-first i xs (first-of (holds t) i xs h) .0
+
+    pub some-found : (i : ℕ) (xs : List (Option A)) → firstThat t xs ≡ At i → isSome (find t xs) ≡ true
+    some-found i xs h = find-first i xs (first-of (holds t) i xs h) .1
+
+  -- AN INDEX that is found is one of the table's
+  pub found-below : (t : Option A → Bool) (i : ℕ) (xs : List (Option A)) → indexWhere t 0 xs ≡ At i → i < length xs
+  found-below t i xs h = first-below t i xs (first-of t i xs h)
+
+  -- NOTHING FOUND
+  pub free-nothing : (n : ℕ) (xs : List (Option A)) → indexWhere isFree n xs ≡ Nothing → hasFree xs ≡ false
+  unfolding indexWhere hasFree
+  free-nothing n [] h = refl
+  free-nothing n (none ∷ xs) h = let z : _≡_ {A = ℕ} 0 1 = cc in absurd (omega arith)
+  free-nothing n (some x ∷ xs) h = free-nothing (suc n) xs h
+
+  pub find-nothing : (t : A → Bool) (n : ℕ) (xs : List (Option A)) → indexWhere (holds t) n xs ≡ Nothing → find t xs ≡ none
+  unfolding indexWhere find
+  find-nothing t n [] h = refl
+  find-nothing t n (none ∷ xs) h = find-nothing t (suc n) xs h
+  find-nothing t n (some x ∷ xs) h =
+      let ih = find-nothing t (suc n) xs in
+      cases (t x) (λ e. let z : _≡_ {A = ℕ} 0 1 = cc in absurd (omega arith)) (λ e. let k = ih (cc) in cc)
+
+  -- THE SLOT AT AN INDEX of a table that is read
+  pub table-at : (f : List ℕ → A) (n i : ℕ) (bs : List ℕ) → i < n →
+      getD (tableIn f n bs) i none ≡ slotIn f (part (slotSize * i) slotSize bs)
+  unfolding pieces part
+  table-at f zero i bs h = absurd (not-suc-le-zero h)
+  table-at f (suc n) zero bs h = refl
+  table-at f (suc n) (suc i) bs h =
+      let k : slotSize * suc i ≡ slotSize + slotSize * i = omega arith in
+      rw (k, ← drop-drop (slotSize * i) slotSize bs) (table-at f n i (drop slotSize bs) (le-of-suc-le-suc h))
