@@ -21,10 +21,11 @@ use Rattle.store.specs.Layout.{headerSize, slotSize, recordsFrom, sizeFo
 use Rattle.store.specs.Layout.{channelBytes, recordBytes, slotBytes, tableBytes, headerBytes, bytesOf}
 use Rattle.store.specs.Layout.{channelIn, recordIn, slotIn, tableIn, storeIn}
 use Rattle.store.specs.Fit.{sizeFits}
-use Rattle.store.specs.Slots.{everySlot, isExact}
+use Rattle.store.specs.Exact.{everySlot, isExact}
 use Rattle.store.proofs.FitLaws.{fits-size, length-read}
 use Rattle.store.proofs.TurnLaws.{slotsFrom, slotAt, slots-turn}
-use Rattle.store.proofs.FieldLaws.{little-field, same-field, same-zeros, zero-field, part-part, field-part}
+use Rattle.store.proofs.SlotLaws.{part-part, field-part}
+use Rattle.store.proofs.FieldLaws.{little-field, same-field, same-zeros, zero-field}
 
 -- BYTES COMPARED WITH A PART, n at a time
 module _ (bs : List ℕ) (bytes : Bytes bs) (n m i : ℕ) (ys : List ℕ) (room : i + n ≤ length bs) where

@@ -1,34 +1,17 @@
--- Laws of numbers that are read and stored again, of zeros, and of parts of parts. Assumes nothing.
-use mathlib.Core.Path.{_≡_, refl, sym, ap, _∙_}
+-- Laws of numbers that are read and stored again, and of zeros. Assumes nothing.
+use mathlib.Core.Path.{_≡_, refl, sym, _∙_}
 use mathlib.Core.Bool.{true}
 use mathlib.Core.List.{List, [], _∷_}
-use Prim.Native.Nat.{ℕ, zero, suc, _+_, _*_, _-_, _/_, _%_, _^_, _≤_, _<_}
-use native.Mathlib.Nat.{sub-zero, zero-sub, suc-sub-suc, suc-inj, suc-ne-zero}
+use Prim.Native.Nat.{ℕ, zero, suc, _+_, _*_, _/_, _%_, _^_, _≤_, _<_}
+use native.Mathlib.Nat.{suc-inj, suc-ne-zero}
 use native.Mathlib.Omega.{arith}
 use lib.Dec.{eqb}
 use lib.ListN.{length, take, drop, replicate}
-use lib.Seq.{take-nil, take-take, drop-drop}
 use borrow.Author.Tests.{eqb-true, ne-eqb}
 use Rattle.wire.specs.Bytes.{Bytes, same, areZero, little, numberOf, part, field}
 use Rattle.wire.proofs.ChoiceLaws.{and-both}
 use Rattle.wire.proofs.BytesLaws.{read-little, bytes-little, length-little, length-part, bytes-part}
 use Rattle.wire.proofs.PartLaws.{same-number}
-
--- PARTS OF PARTS
-drop-take : {A : Type 0} (i m : ℕ) (l : List A) → drop i (take m l) ≡ take (m - i) (drop i l)
-drop-take zero m l = rw sub-zero
-drop-take (suc i) zero l = rw zero-sub
-drop-take (suc i) (suc m) [] = sym (take-nil (suc m - suc i))
-drop-take (suc i) (suc m) (x ∷ l) = rw (suc-sub-suc m i) (drop-take i m l)
-
-pub part-part : (i n at m : ℕ) (bs : List ℕ) → i + n ≤ m → part i n (part at m bs) ≡ part (at + i) n bs
-unfolding part
-part-part i n at m bs h =
-    rw (drop-take i m (drop at bs), take-take n (m - i) (drop i (drop at bs)) (omega arith), drop-drop i at bs)
-
-pub field-part : (i n at m : ℕ) (bs : List ℕ) → i + n ≤ m → field i n (part at m bs) ≡ field (at + i) n bs
-unfolding field
-field-part i n at m bs h = ap numberOf (part-part i n at m bs h)
 
 -- NUMBERS
 little-number : (bs : List ℕ) → Bytes bs → little (length bs) (numberOf bs) ≡ bs

@@ -5,4 +5,6 @@ pub mod Layout
 pub mod Ordering
 pub mod Fit
 pub mod Maker
-pub mod Slots
+pub mod Slot
+pub mod Scan
+pub mod Exact

@@ -1,4 +1,5 @@
 // The store: one ledger's channel ends and packet records, in bytes that the host lends. Its types; specs/ says what they mean.
+pub mod slot; // a channel end or a packet record in 64 bytes
 pub mod exact; // bytes laid out exactly as a store's
 
 // A height of this ledger, and a height of the other one. Neither can stand where the other is meant.
@@ -59,4 +60,10 @@ impl Store {
     pub const SLOT: usize = 64;
 
     pub const RECORDS_FROM: usize = Store::HEADER + Store::SLOT * Store::CHANNELS;
+}
+
+// Where a scan of a table's slots ends: at an index, or behind them all.
+pub enum Found {
+    At(usize),
+    Nothing,
 }

@@ -7,7 +7,7 @@ use native.Mathlib.Omega.{arith}
 use denote.Ref.{now}
 use Rattle.store.specs.Limits.{channelLimit}
 use Rattle.store.specs.Layout.{headerSize, channelBytes, channelIn}
-use Rattle.store.specs.Slots.{everySlot, isExact}
+use Rattle.store.specs.Exact.{everySlot, isExact}
 use Rattle.store.proofs.TurnLaws.{slotsFrom, slotAt, slots-end, Left, fails, passes}
 use Rattle.store.proofs.ExactLaws.{exact-turn}
 use Rattle.store.proofs.exact.are_channels_exact.Statement.{statement}

@@ -8,7 +8,7 @@ use lib.ListN.{drop}
 use denote.Ref.{now}
 use Rattle.wire.specs.Bytes.{pieces}
 use Rattle.store.specs.Layout.{slotSize, recordsFrom, recordBytes, recordIn}
-use Rattle.store.specs.Slots.{everySlot, isExact}
+use Rattle.store.specs.Exact.{everySlot, isExact}
 use Rattle.store.proofs.TurnLaws.{slotsFrom, slotAt, slots-end, Left, fails, passes}
 use Rattle.store.proofs.ExactLaws.{exact-turn}
 use Rattle.store.proofs.exact.are_records_exact.Statement.{statement}
