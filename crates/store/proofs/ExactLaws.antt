@@ -21,9 +21,8 @@ use Rattle.store.specs.Layout.{headerSize, slotSize, recordsFrom, sizeFo
 use Rattle.store.specs.Layout.{channelBytes, recordBytes, slotBytes, tableBytes, headerBytes, bytesOf}
 use Rattle.store.specs.Layout.{channelIn, recordIn, slotIn, tableIn, storeIn}
 use Rattle.store.specs.Fit.{sizeFits}
-use Rattle.store.specs.Exact.{everySlot, isExact}
+use Rattle.store.specs.Exact.{everySlot, isExact, areExact}
 use Rattle.store.proofs.FitLaws.{fits-size, length-read}
-use Rattle.store.proofs.TurnLaws.{slotsFrom, slotAt, slots-turn}
 use Rattle.store.proofs.SlotLaws.{part-part, field-part}
 use Rattle.store.proofs.FieldLaws.{little-field, same-field, same-zeros, zero-field}
 
@@ -165,7 +164,7 @@ module _ {A : Type 0} (f : A → List ℕ) (g : List ℕ → A)
 
   exact-table : (n : ℕ) (bs rest : List ℕ) → slotSize * n ≤ length bs →
       same (tableBytes f (tableIn g n bs) ++ rest) bs ≡
-      (everySlot (isExact f g) (pieces slotSize n bs) and same rest (drop (slotSize * n) bs))
+      (areExact f g (pieces slotSize n bs) and same rest (drop (slotSize * n) bs))
   unfolding tableBytes pieces everySlot isExact _and_
   exact-table zero bs rest l = refl
   exact-table (suc n) bs rest l =
@@ -182,15 +181,8 @@ module _ {A : Type 0} (f : A → List ℕ) (g : List ℕ → A)
         ih,
         e,
         ← drop-drop (slotSize * n) slotSize bs,
-        and-assoc (same x p) (everySlot (isExact f g) (pieces slotSize n (drop slotSize bs))),
+        and-assoc (same x p) (areExact f g (pieces slotSize n (drop slotSize bs))),
       )
-
--- a turn of the scan
-pub exact-turn : {A : Type 0} (f : A → List ℕ) (g : List ℕ → A) (base n : ℕ) (bs : List ℕ) (i : ℕ) → i < n →
-    everySlot (isExact f g) (slotsFrom base n bs i) ≡
-    (isExact f g (slotAt base bs i) and everySlot (isExact f g) (slotsFrom base n bs (i + 1)))
-unfolding everySlot
-exact-turn f g base n bs i h = rw (slots-turn base n bs i h)
 
 channel-size : (p : List ℕ) → length p ≡ slotSize → length (channelBytes (channelIn p)) ≡ slotSize
 unfolding channelBytes
@@ -208,8 +200,8 @@ header-size h t n = simp (length-append, length-little)
 store-exact : (n : ℕ) (bs : List ℕ) → length bs ≡ sizeFor n →
     same (bytesOf (storeIn bs)) bs ≡
     (same (headerBytes (field 8 8 bs) (field 16 8 bs) n) (part 0 headerSize bs) and
-    (everySlot (isExact channelBytes channelIn) (pieces slotSize channelLimit (drop headerSize bs)) and
-    everySlot (isExact recordBytes recordIn) (pieces slotSize n (drop recordsFrom bs))))
+    (areExact channelBytes channelIn (pieces slotSize channelLimit (drop headerSize bs)) and
+    areExact recordBytes recordIn (pieces slotSize n (drop recordsFrom bs))))
 unfolding bytesOf storeIn roomIn part
 store-exact n bs l =
     let r : roomIn (length bs) ≡ n = omega arith in
@@ -238,7 +230,7 @@ store-exact n bs l =
 pub exact-parts : (bs : List ℕ) → sizeFits (length bs) ≡ true →
     (sizeFits (length bs) and same (bytesOf (storeIn bs)) bs) ≡
     (same (headerBytes (field 8 8 bs) (field 16 8 bs) (roomIn (length bs))) (part 0 headerSize bs) and
-    (everySlot (isExact channelBytes channelIn) (pieces slotSize channelLimit (drop headerSize bs)) and
-    everySlot (isExact recordBytes recordIn) (pieces slotSize (roomIn (length bs)) (drop recordsFrom bs))))
+    (areExact channelBytes channelIn (pieces slotSize channelLimit (drop headerSize bs)) and
+    areExact recordBytes recordIn (pieces slotSize (roomIn (length bs)) (drop recordsFrom bs))))
 unfolding _and_
 exact-parts bs h = rw h (store-exact (roomIn (length bs)) bs (fits-size (length bs) h .whole))

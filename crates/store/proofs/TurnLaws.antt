@@ -1,46 +1,76 @@
--- Laws of a scan, turn by turn, whatever is tested. Assumes nothing.
+-- Laws of a scan of a table's slots, turn by turn. In each, after i turns the answer for all slots is the answer for
+-- those that are left. Assumes nothing.
 use mathlib.Core.Path.{_≡_, sym, _∙_}
 use mathlib.Core.Bool.{Bool, true, false, not}
-use mathlib.Core.List.{List, [], _∷_}
+use mathlib.Core.List.{List, [], _∷_, map}
+use mathlib.Core.Option.{Option}
 use Prim.Native.Nat.{ℕ, suc, _+_, _*_, _-_, _≤_, _<_}
+use native.Mathlib.Numerals.{add-one}
 use native.Mathlib.Omega.{arith}
 use lib.ListN.{drop}
 use lib.Seq.{drop-drop}
 use borrow.Author.Tests.{not-true, not-false}
 use Rattle.wire.specs.Choice.{_and_}
 use Rattle.wire.specs.Bytes.{part, pieces}
-use Rattle.store.specs.Layout.{slotSize}
+use Rattle.store.specs.declared.Found.{Found}
+use Rattle.store.specs.declared.Found.the-variants.{At, Nothing}
+use Rattle.store.specs.Layout.{slotSize, slotIn}
+use Rattle.store.specs.Exact.{everySlot}
+use Rattle.store.specs.Scan.{indexWhere}
 
--- the slots of a table of n from the i-th on
-abbrev pub slotsFrom : (base n : ℕ) → List ℕ → (i : ℕ) → List (List ℕ)
-slotsFrom base n bs i = pieces slotSize (n - i) (drop (base + slotSize * i) bs)
+-- the i-th slot of a table of n that starts at a place, and the slots from it on
+abbrev pub slotAt : (start : ℕ) → List ℕ → (i : ℕ) → List ℕ
+slotAt start bs i = part (start + slotSize * i) slotSize bs
 
-abbrev pub slotAt : (base : ℕ) → List ℕ → (i : ℕ) → List ℕ
-slotAt base bs i = part (base + slotSize * i) slotSize bs
+abbrev pub slotsFrom : (start n : ℕ) → List ℕ → (i : ℕ) → List (List ℕ)
+slotsFrom start n bs i = pieces slotSize (n - i) (drop (start + slotSize * i) bs)
 
-pub slots-turn : (base n : ℕ) (bs : List ℕ) (i : ℕ) → i < n →
-    slotsFrom base n bs i ≡ slotAt base bs i ∷ slotsFrom base n bs (i + 1)
-unfolding pieces part
-slots-turn base n bs i h =
-    let m : n - i ≡ suc (n - (i + 1)) = omega arith in
-    let k : base + slotSize * i + slotSize ≡ base + slotSize * (i + 1) = omega arith in
-    rw (m, drop-drop slotSize (base + slotSize * i) bs, k)
+module _ (start n : ℕ) (bs : List ℕ) (i : ℕ) where
+  slots-turn : i < n → slotsFrom start n bs i ≡ slotAt start bs i ∷ slotsFrom start n bs (i + 1)
+  unfolding pieces part
+  slots-turn h =
+      let m : n - i ≡ suc (n - (i + 1)) = omega arith in
+      let k : start + slotSize * i + slotSize ≡ start + slotSize * (i + 1) = omega arith in
+      rw (m, drop-drop slotSize (start + slotSize * i) bs, k)
 
-pub slots-end : (base n : ℕ) (bs : List ℕ) (i : ℕ) → n ≤ i → slotsFrom base n bs i ≡ []
-unfolding pieces
-slots-end base n bs i h = let z : n - i ≡ 0 = omega arith in rw z
+  slots-end : n ≤ i → slotsFrom start n bs i ≡ []
+  unfolding pieces
+  slots-end h = let z : n - i ≡ 0 = omega arith in rw z
 
--- after i turns the answer for all is the answer for what is left
-abbrev pub Left : {R : Type 0} → (all : R) → (answer : ℕ → R) → (n i : ℕ) → Type 0
-Left all answer n i = (i ≤ n) × (all ≡ answer i)
+-- EACH SLOT MUST PASS a test, which came to r
+module _ (t : List ℕ → List (List ℕ) → Bool) (start n : ℕ) (bs : List ℕ) where
+  abbrev pub everyFrom : (i : ℕ) → Bool
+  everyFrom i = everySlot t (slotsFrom start n bs i)
 
--- EACH TURN MUST PASS a test, which came to r
-module _ (answer test : ℕ → Bool) (n : ℕ) (turn : (i : ℕ) → i < n → answer i ≡ (test i and answer (i + 1)))
-    {i : ℕ} {all r : Bool} (left : Left all answer n i) (more : i < n) (tested : r ≡ test i) where
-  pub fails : not r ≡ true → false ≡ all
-  unfolding _and_
-  fails h = let f = sym tested ∙ not-true r h in rw (left .1, turn i more, f)
+  module _ {i : ℕ} {all : Bool} (left : all ≡ everyFrom i) where
+    module _ {r : Bool} (more : i < n) (tested : r ≡ t (slotAt start bs i) (slotsFrom start n bs (i + 1))) where
+      pub fails : not r ≡ true → false ≡ all
+      unfolding everySlot _and_
+      fails h = let f = sym tested ∙ not-true r h in rw (left, slots-turn start n bs i more, f)
 
-  pub passes : not r ≡ false → Left all answer n (i + 1)
-  unfolding _and_
-  passes h = let f = sym tested ∙ not-false r h in (omega arith, rw (left .1, turn i more, f))
+      pub passes : not r ≡ false → all ≡ everyFrom (i + 1)
+      unfolding everySlot _and_
+      passes h = let f = sym tested ∙ not-false r h in rw (left, slots-turn start n bs i more, f)
+
+    pub passed : n ≤ i → true ≡ all
+    unfolding everySlot
+    passed h = rw (left, slots-end start n bs i h)
+
+-- THE FIRST SLOT that passes a test, which came to r
+module _ {A : Type 0} (g : List ℕ → A) (t : Option A → Bool) (start n : ℕ) (bs : List ℕ) where
+  abbrev pub firstFrom : (i : ℕ) → Found
+  firstFrom i = indexWhere t i (map (slotIn g) (slotsFrom start n bs i))
+
+  module _ {i : ℕ} {all : Found} (left : all ≡ firstFrom i) where
+    module _ {r : Bool} (more : i < n) (tested : r ≡ t (slotIn g (slotAt start bs i))) where
+      pub found : r ≡ true → At i ≡ all
+      unfolding indexWhere
+      found h = let f = sym tested ∙ h in rw (left, slots-turn start n bs i more, f)
+
+      pub missed : r ≡ false → all ≡ firstFrom (i + 1)
+      unfolding indexWhere
+      missed h = let f = sym tested ∙ h in rw (left, slots-turn start n bs i more, f, add-one i)
+
+    pub nothing : n ≤ i → Nothing ≡ all
+    unfolding indexWhere
+    nothing h = rw (left, slots-end start n bs i h)

@@ -13,7 +13,7 @@ ghost use Rattle.store.specs.Layout.{headerSize, slotSize, recordsFrom, 
 ghost use Rattle.store.specs.Layout.{channelBytes, channelIn, recordBytes, recordIn};
 ghost use Rattle.store.specs.Layout.{headerBytes, bytesOf, storeIn};
 ghost use Rattle.store.specs.Fit.{sizeFits};
-ghost use Rattle.store.specs.Exact.{everySlot, isExact};
+ghost use Rattle.store.specs.Exact.{isExact, areExact};
 
 // A header, 16 channel records, and 1 to 512 packet records.
 pub fn size_fits(size: usize) -> bool
@@ -77,7 +77,7 @@ fn is_record_exact(s: &[u8], at: usize) -> bool
 fn are_channels_exact(s: &[u8]) -> bool
     requires { ⌜ recordsFrom ≤ length (now s) ⌝ }
     ensures { λ r. ⌜
-        r ≡ everySlot (isExact channelBytes channelIn) (pieces slotSize channelLimit (drop headerSize (now (s .entry))))
+        r ≡ areExact channelBytes channelIn (pieces slotSize channelLimit (drop headerSize (now (s .entry))))
         ⌝ }
 {
     let mut i: usize = 0;
@@ -93,7 +93,7 @@ fn are_channels_exact(s: &[u8]) -> bool
 fn are_records_exact(s: &[u8], count: usize) -> bool
     requires { ⌜ sizeFor count ≤ length (now s) ⌝ }
     ensures { λ r. ⌜
-        r ≡ everySlot (isExact recordBytes recordIn) (pieces slotSize count (drop recordsFrom (now (s .entry))))
+        r ≡ areExact recordBytes recordIn (pieces slotSize count (drop recordsFrom (now (s .entry))))
         ⌝ }
 {
     let mut i: usize = 0;

@@ -1,4 +1,5 @@
--- The answer for the whole is the answer for what is left. Assumes nothing.
+-- The answer for all slots is the answer for those that are left. Assumes nothing.
+use mathlib.Core.Path.{_≡_}
 use mathlib.Core.Bool.{Bool}
 use mathlib.Core.List.{List}
 use Prim.Native.Nat.{ℕ, _-_}
@@ -8,50 +9,41 @@ use lib.ListN.{drop}
 use denote.Ref.{now}
 use Rattle.wire.specs.Bytes.{pieces}
 use Rattle.store.specs.Layout.{slotSize, recordsFrom, recordBytes, recordIn}
-use Rattle.store.specs.Exact.{everySlot, isExact}
-use Rattle.store.proofs.TurnLaws.{slotsFrom, slotAt, slots-end, Left, fails, passes}
-use Rattle.store.proofs.ExactLaws.{exact-turn}
+use Rattle.store.specs.Exact.{isExact, areExact}
+use Rattle.store.proofs.TurnLaws.{everyFrom, fails, passes, passed}
 use Rattle.store.proofs.exact.are_records_exact.Statement.{statement}
 use Rattle.store.proofs.exact.are_records_exact.Tie as tie
 
-abbrev answer : List ℕ → ℕ → ℕ → Bool
-answer s n i = everySlot (isExact recordBytes recordIn) (slotsFrom recordsFrom n s i)
+abbrev test : List ℕ → List (List ℕ) → Bool
+test p behind = isExact recordBytes recordIn p
 
 abbrev Inv-loop : tie.InvT-loop
-Inv-loop s count i₀ i =
-    Left (everySlot (isExact recordBytes recordIn) (pieces slotSize count (drop recordsFrom s))) (answer s count) count i
+Inv-loop s count i₀ i = areExact recordBytes recordIn (pieces slotSize count (drop recordsFrom s)) ≡ everyFrom test recordsFrom count s i
 
 abbrev μ-loop : tie.MeasureT-loop
 μ-loop s count i₀ i = count - i
 
 loop-holds : tie.Need-loop-holds Inv-loop μ-loop
-loop-holds c = (omega arith, rw sub-zero)
+loop-holds c = rw sub-zero
 
 returns : tie.Need-returns Inv-loop μ-loop
 returns c =
     let l = c .before .before .before in
     let a = l .before .before .args in
-    let s = now (a .s) in
-    fails (answer s (a .count)) (λ j. isExact recordBytes recordIn (slotAt recordsFrom s j)) (a .count)
-    (exact-turn recordBytes recordIn recordsFrom (a .count) s) (l .loop .inv) (c .before .before .loop-test .taken)
+    fails test recordsFrom (a .count) (now (a .s)) (l .loop .inv) (c .before .before .loop-test .taken)
     (c .before .is-record-exact .ensures) (c .if1 .taken)
 
 loop-again : tie.Need-loop-again Inv-loop μ-loop
 loop-again c =
     let l = c .before .before .before in
     let a = l .before .before .args in
-    let s = now (a .s) in
-    passes (answer s (a .count)) (λ j. isExact recordBytes recordIn (slotAt recordsFrom s j)) (a .count)
-    (exact-turn recordBytes recordIn recordsFrom (a .count) s) (l .loop .inv) (c .before .before .loop-test .taken)
+    passes test recordsFrom (a .count) (now (a .s)) (l .loop .inv) (c .before .before .loop-test .taken)
     (c .before .is-record-exact .ensures) (c .if1 .left)
 
 returns-2 : tie.Need-returns-2 Inv-loop μ-loop
-unfolding everySlot
 returns-2 c =
-    let l = c .before in
-    let a = l .before .before .args in
-    let s = now (a .s) in
-    rw (l .loop .inv .1, slots-end recordsFrom (a .count) s (l .loop .i) (omega arith))
+    let a = c .before .before .before .args in
+    passed test recordsFrom (a .count) (now (a .s)) (c .before .loop .inv) (omega arith)
 
 pub are-records-exact-spec : {M : Type 1} → statement M
 are-records-exact-spec =
