@@ -10,7 +10,6 @@ use lib.Dec.{eqb}
 use lib.ListN.{length, getD, take, drop, replicate, length-append, length-replicate, length-drop}
 use lib.ListN.{take-append-drop, drop-of-length-le}
 use lib.Seq.{length-take-le, drop-drop, drop-cons}
-use borrow.Author.Tests.{eq-eqb, ne-eqb}
 use Rattle.wire.specs.Choice.{_and_, pick}
 use Rattle.wire.specs.Bytes.{Bytes, same, areZero, little, part, field, pieces, digestSize}
 use Rattle.wire.proofs.ChoiceLaws.{cases, of-pick}
@@ -23,6 +22,7 @@ use Rattle.store.specs.Layout.{channelIn, recordIn, slotIn, tableIn, sto
 use Rattle.store.specs.Fit.{sizeFits}
 use Rattle.store.specs.Exact.{everySlot, isExact, areExact}
 use Rattle.store.proofs.FitLaws.{fits-size, length-read}
+use Rattle.store.proofs.TestLaws.{and-true}
 use Rattle.store.proofs.SlotLaws.{part-part, field-part}
 use Rattle.store.proofs.FieldLaws.{little-field, same-field, same-zeros, zero-field}
 
@@ -45,16 +45,6 @@ module _ (bs : List ℕ) (bytes : Bytes bs) (n m i : ℕ) (ys : List ℕ) (room 
   number : (x : ℕ) → x < 256 ^ n →
       same (little n x ++ ys) (part i (n + m) bs) ≡ (eqb x (field i n bs) and same ys (part (i + n) m bs))
   number x h = rw (first (little n x) (length-little n x), same-field n x i bs h bytes room)
-
--- a test that holds leaves the rest, and one that does not is the answer
-module _ {x y : ℕ} (rest : Bool) where
-  pub agree : x ≡ y → (eqb x y and rest) ≡ rest
-  unfolding _and_
-  agree h = rw (eq-eqb x y h)
-
-  pub differ : (x ≡ y → ⊥) → (eqb x y and rest) ≡ false
-  unfolding _and_
-  differ h = rw (ne-eqb x y h)
 
 -- THE HEADER
 pub header-exact : (n : ℕ) (bs : List ℕ) → n ≤ recordLimit → Bytes bs → headerSize ≤ length bs →
@@ -108,11 +98,6 @@ channel-exact p b l =
       kept p b 8 24 32 _ (omega arith),
       same-zeros 24 (part 40 24 p) (length-part 40 24 p (omega arith)),
     )))
-
-and-true : (a : Bool) → (a and true) ≡ a
-unfolding _and_
-and-true true = refl
-and-true false = refl
 
 record-exact : (p : List ℕ) → Bytes p → length p ≡ slotSize →
     isExact recordBytes recordIn p ≡ eqb (field 2 2 p) 0

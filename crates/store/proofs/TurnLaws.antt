@@ -1,20 +1,22 @@
 -- Laws of a scan of a table's slots, turn by turn. In each, after i turns the answer for all slots is the answer for
 -- those that are left. Assumes nothing.
-use mathlib.Core.Path.{_≡_, sym, _∙_}
+use mathlib.Core.Path.{_≡_, refl, sym, _∙_}
 use mathlib.Core.Bool.{Bool, true, false, not}
 use mathlib.Core.List.{List, [], _∷_, map}
 use mathlib.Core.Option.{Option}
 use Prim.Native.Nat.{ℕ, suc, _+_, _*_, _-_, _≤_, _<_}
 use native.Mathlib.Numerals.{add-one}
 use native.Mathlib.Omega.{arith}
-use lib.ListN.{drop}
+use lib.ListN.{length, drop}
 use lib.Seq.{drop-drop}
 use borrow.Author.Tests.{not-true, not-false}
 use Rattle.wire.specs.Choice.{_and_}
 use Rattle.wire.specs.Bytes.{part, pieces}
 use Rattle.store.specs.declared.Found.{Found}
 use Rattle.store.specs.declared.Found.the-variants.{At, Nothing}
-use Rattle.store.specs.Layout.{slotSize, slotIn}
+use Rattle.store.specs.Limits.{channelLimit}
+use Rattle.store.specs.Layout.{headerSize, slotSize, recordsFrom, sizeFor, roomIn}
+use Rattle.store.specs.Layout.{channelIn, recordIn, slotIn, storeIn}
 use Rattle.store.specs.Exact.{everySlot}
 use Rattle.store.specs.Scan.{indexWhere}
 
@@ -36,6 +38,17 @@ module _ (start n : ℕ) (bs : List ℕ) (i : ℕ) where
   slots-end : n ≤ i → slotsFrom start n bs i ≡ []
   unfolding pieces
   slots-end h = let z : n - i ≡ 0 = omega arith in rw z
+
+-- the tables of a store are all their slots
+pub channels-from : (bs : List ℕ) →
+    storeIn bs .channels ≡ map (slotIn channelIn) (slotsFrom headerSize channelLimit bs 0)
+unfolding storeIn
+channels-from bs = refl
+
+pub records-from : (n : ℕ) (bs : List ℕ) → length bs ≡ sizeFor n →
+    storeIn bs .records ≡ map (slotIn recordIn) (slotsFrom recordsFrom n bs 0)
+unfolding storeIn roomIn
+records-from n bs l = let r : roomIn (length bs) ≡ n - 0 = omega arith in rw r
 
 -- EACH SLOT MUST PASS a test, which came to r
 module _ (t : List ℕ → List (List ℕ) → Bool) (start n : ℕ) (bs : List ℕ) where

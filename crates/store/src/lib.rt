@@ -1,6 +1,7 @@
 // The store: one ledger's channel ends and packet records, in bytes that the host lends. Its types; specs/ says what they mean.
 pub mod slot; // a channel end or a packet record in 64 bytes
 pub mod exact; // bytes laid out exactly as a store's
+pub mod scan; // the first slot that passes a test
 
 // A height of this ledger, and a height of the other one. Neither can stand where the other is meant.
 pub struct OwnHeight(pub u64);

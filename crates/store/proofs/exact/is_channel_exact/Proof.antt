@@ -5,7 +5,8 @@ use denote.Ref.{now}
 use borrow.Author.Needs.{needs}
 use Rattle.wire.specs.Bytes.{Bytes}
 use Rattle.wire.proofs.PartLaws.{bytes-getD}
-use Rattle.store.proofs.ExactLaws.{agree, differ, channel-exact-at}
+use Rattle.store.proofs.TestLaws.{agree, differ}
+use Rattle.store.proofs.ExactLaws.{channel-exact-at}
 use Rattle.store.proofs.exact.is_channel_exact.Statement.{statement}
 use Rattle.store.proofs.exact.is_channel_exact.Tie as tie
 

@@ -6,7 +6,8 @@ use borrow.Author.Needs.{needs}
 use Rattle.wire.specs.Bytes.{Bytes, field}
 use Rattle.wire.proofs.PartLaws.{bytes-getD}
 use Rattle.store.specs.Layout.{sizeFor}
-use Rattle.store.proofs.ExactLaws.{agree, differ, header-exact}
+use Rattle.store.proofs.TestLaws.{agree, differ}
+use Rattle.store.proofs.ExactLaws.{header-exact}
 use Rattle.store.proofs.exact.is_header_exact.Statement.{statement}
 use Rattle.store.proofs.exact.is_header_exact.Tie as tie
 
