@@ -20,7 +20,7 @@ use Rattle.store.specs.Layout.{headerSize, slotSize, recordsFrom, sizeFo
 use Rattle.store.specs.Layout.{channelBytes, recordBytes, slotBytes, tableBytes, headerBytes, bytesOf}
 use Rattle.store.specs.Layout.{channelIn, recordIn, slotIn, tableIn, storeIn}
 use Rattle.store.specs.Fit.{sizeFits}
-use Rattle.store.specs.Exact.{everySlot, isExact, areExact}
+use Rattle.store.specs.SlotTest.{everySlot, isExact, areExact}
 use Rattle.store.proofs.FitLaws.{fits-size, length-read}
 use Rattle.store.proofs.TestLaws.{and-true}
 use Rattle.store.proofs.SlotLaws.{part-part, field-part}

@@ -17,7 +17,7 @@ use Rattle.store.specs.declared.Found.the-variants.{At, Nothing}
 use Rattle.store.specs.Limits.{channelLimit}
 use Rattle.store.specs.Layout.{headerSize, slotSize, recordsFrom, sizeFor, roomIn}
 use Rattle.store.specs.Layout.{channelIn, recordIn, slotIn, storeIn}
-use Rattle.store.specs.Exact.{everySlot}
+use Rattle.store.specs.SlotTest.{everySlot}
 use Rattle.store.specs.Scan.{indexWhere}
 
 -- the i-th slot of a table of n that starts at a place, and the slots from it on

@@ -7,4 +7,4 @@ pub mod Fit
 pub mod Maker
 pub mod Slot
 pub mod Scan
-pub mod Exact
+pub mod SlotTest

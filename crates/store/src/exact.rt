@@ -13,7 +13,7 @@ ghost use Rattle.store.specs.Layout.{headerSize, slotSize, recordsFrom, 
 ghost use Rattle.store.specs.Layout.{channelBytes, channelIn, recordBytes, recordIn};
 ghost use Rattle.store.specs.Layout.{headerBytes, bytesOf, storeIn};
 ghost use Rattle.store.specs.Fit.{sizeFits};
-ghost use Rattle.store.specs.Exact.{isExact, areExact};
+ghost use Rattle.store.specs.SlotTest.{isExact, areExact};
 
 // A header, 16 channel records, and 1 to 512 packet records.
 pub fn size_fits(size: usize) -> bool

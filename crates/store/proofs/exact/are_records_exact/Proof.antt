@@ -9,7 +9,7 @@ use lib.ListN.{drop}
 use denote.Ref.{now}
 use Rattle.wire.specs.Bytes.{pieces}
 use Rattle.store.specs.Layout.{slotSize, recordsFrom, recordBytes, recordIn}
-use Rattle.store.specs.Exact.{isExact, areExact}
+use Rattle.store.specs.SlotTest.{isExact, areExact}
 use Rattle.store.proofs.TurnLaws.{everyFrom, fails, passes, passed}
 use Rattle.store.proofs.exact.are_records_exact.Statement.{statement}
 use Rattle.store.proofs.exact.are_records_exact.Tie as tie

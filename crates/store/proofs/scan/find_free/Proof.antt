@@ -6,7 +6,7 @@ use denote.Ref.{now}
 use Rattle.store.specs.Layout.{recordsFrom, recordIn, storeIn}
 use Rattle.store.specs.Scan.{isFree, firstFree}
 use Rattle.store.proofs.TurnLaws.{slotAt, records-from, firstFrom, found, missed, nothing}
-use Rattle.store.proofs.HeldLaws.{free-slot}
+use Rattle.store.proofs.SlotTestLaws.{free-slot}
 use Rattle.store.proofs.scan.find_free.Statement.{statement}
 use Rattle.store.proofs.scan.find_free.Tie as tie
 

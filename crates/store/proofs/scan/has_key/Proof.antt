@@ -5,7 +5,7 @@ use denote.Ref.{now}
 use borrow.Author.Needs.{needs}
 use Rattle.store.specs.Table.{Key}
 use Rattle.store.proofs.TestLaws.{agree, differ}
-use Rattle.store.proofs.HeldLaws.{key-held}
+use Rattle.store.proofs.SlotTestLaws.{key-held}
 use Rattle.store.proofs.scan.has_key.Statement.{statement}
 use Rattle.store.proofs.scan.has_key.Tie as tie
 

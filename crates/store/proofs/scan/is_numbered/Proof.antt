@@ -4,7 +4,7 @@ use mathlib.Core.Bool.{not}
 use denote.Ref.{now}
 use borrow.Author.Needs.{needs}
 use Rattle.store.proofs.TestLaws.{agree, differ}
-use Rattle.store.proofs.HeldLaws.{number-held}
+use Rattle.store.proofs.SlotTestLaws.{number-held}
 use Rattle.store.proofs.scan.is_numbered.Statement.{statement}
 use Rattle.store.proofs.scan.is_numbered.Tie as tie
 
