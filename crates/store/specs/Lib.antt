@@ -7,3 +7,4 @@ pub mod Fit
 pub mod Maker
 pub mod Slot
 pub mod Scan
+pub mod Effect
