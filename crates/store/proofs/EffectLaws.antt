@@ -156,11 +156,12 @@ sizes-read bs b h =
     record-in : (p : List ℕ) → length p ≡ slotSize → Bytes p → length (recordBytes (recordIn p)) ≡ slotSize
     record-in p l k = record-size (recordIn p) (digest-in p l)
 
-module _ (bs : List ℕ) (bytes : Bytes bs) (exact : Exact bs) where
-  pub exact-times : (h : OwnHeight) (t : ℕ) →
-      patch 8 (little 8 (h .0) ++ little 8 t) bs ≡ bytesOf (withTimes (storeIn bs) h t)
-  exact-times h t = ap (patch 8 (little 8 (h .0) ++ little 8 t)) (sym (exact .laid)) ∙ patch-times (storeIn bs) h t
+pub exact-times : (bs : List ℕ) → Exact bs → (h : OwnHeight) (t : ℕ) →
+    patch 8 (little 8 (h .0) ++ little 8 t) bs ≡ bytesOf (withTimes (storeIn bs) h t)
+exact-times bs exact h t =
+    ap (patch 8 (little 8 (h .0) ++ little 8 t)) (sym (exact .laid)) ∙ patch-times (storeIn bs) h t
 
+module _ (bs : List ℕ) (bytes : Bytes bs) (exact : Exact bs) where
   pub exact-channel : (j : ℕ) (x : Option Channel) → j < channelLimit →
       patch (headerSize + slotSize * j) (slotBytes channelBytes x) bs ≡ bytesOf (withChannelSlot (storeIn bs) j x)
   exact-channel j x h =
