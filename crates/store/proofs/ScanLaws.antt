@@ -1,18 +1,17 @@
--- What a scan's answer tells of the table, whatever the entries are: an operation on the first slot that passes a test is one
--- on the slot at the index found. Assumes nothing.
-use mathlib.Core.Path.{_≡_, refl, ap, _∙_}
+-- What a scan's answer tells of the table, whatever the entries are: an operation on the first slot that passes a test
+-- is one on the slot at the index found. Assumes nothing.
+use mathlib.Core.Path.{_≡_, refl, ap}
 use mathlib.Core.Bool.{Bool, true, false}
-use mathlib.Core.List.{List, [], _∷_, map}
+use mathlib.Core.List.{List, [], _∷_}
 use mathlib.Core.Option.{Option, none, some}
 use Prim.Native.Nat.{ℕ, zero, suc, _+_, _*_, _≤_, _<_}
 use native.Mathlib.Nat.{zero-add, add-suc, suc-add, le-of-suc-le-suc, not-suc-le-zero}
 use native.Mathlib.Omega.{arith}
 use lib.ListN.{length, getD, set, drop}
 use lib.Seq.{drop-drop}
-use Rattle.wire.specs.Choice.{pick, isSome}
+use Rattle.wire.specs.Choice.{isSome}
 use Rattle.wire.specs.Bytes.{part, pieces}
 use Rattle.wire.proofs.ChoiceLaws.{cases, clash}
-use Rattle.store.specs.declared.Found.{Found}
 use Rattle.store.specs.declared.Found.the-variants.{At, Nothing}
 use Rattle.store.specs.Table.{find, replace, insert, hasFree}
 use Rattle.store.specs.Layout.{slotSize, slotIn, tableIn}
@@ -85,7 +84,8 @@ module _ {A : Type 0} where
     replace-first y (suc i) (some x ∷ xs) h =
         rw (h .0) (ap (λ (l : List (Option A)). some x ∷ l) (replace-first y i xs (h .1)))
 
-    pub set-replace : (y : Option A) (i : ℕ) (xs : List (Option A)) → firstThat t xs ≡ At i → set xs i y ≡ replace t y xs
+    pub set-replace : (y : Option A) (i : ℕ) (xs : List (Option A)) → firstThat t xs ≡ At i →
+        set xs i y ≡ replace t y xs
     set-replace y i xs h = replace-first y i xs (first-of (holds t) i xs h)
 
     -- and is what the table is asked for by that test
@@ -115,7 +115,8 @@ module _ {A : Type 0} where
   free-nothing n (none ∷ xs) h = let z : _≡_ {A = ℕ} 0 1 = cc in absurd (omega arith)
   free-nothing n (some x ∷ xs) h = free-nothing (suc n) xs h
 
-  pub find-nothing : (t : A → Bool) (n : ℕ) (xs : List (Option A)) → indexWhere (holds t) n xs ≡ Nothing → find t xs ≡ none
+  pub find-nothing : (t : A → Bool) (n : ℕ) (xs : List (Option A)) → indexWhere (holds t) n xs ≡ Nothing →
+      find t xs ≡ none
   unfolding indexWhere find
   find-nothing t n [] h = refl
   find-nothing t n (none ∷ xs) h = find-nothing t (suc n) xs h

@@ -8,3 +8,4 @@ pub mod Maker
 pub mod Slot
 pub mod Scan
 pub mod SlotTest
+pub mod Effect

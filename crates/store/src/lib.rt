@@ -1,4 +1,5 @@
 // The store: one ledger's channel ends and packet records, in bytes that the host lends. Its types; specs/ says what they mean.
+pub mod effect; // what acceptance does to the lent store
 pub mod slot; // a channel end or a packet record in 64 bytes
 pub mod exact; // bytes laid out exactly as a store's
 pub mod scan; // the first slot that passes a test

@@ -113,5 +113,5 @@ pub fn free_slot(s: &mut [u8], at: usize)
     requires { ⌜ at + slotSize ≤ length (now s) ⌝ }
     ensures { λ _. ⌜ now (s .exit) ≡ patch at (replicate slotSize 0) (now (s .entry)) ⌝ }
 {
-    put_zeros(s, at, 64);
+    put_zeros(s, at, Store::SLOT);
 }
