@@ -3,6 +3,8 @@ pub mod effect; // what acceptance does to the lent store
 pub mod slot; // a channel end or a packet record in 64 bytes
 pub mod exact; // bytes laid out exactly as a store's
 pub mod scan; // the first slot that passes a test
+pub mod ordering; // what an ordering means for what is stored
+pub mod fit; // a fit store
 
 // A height of this ledger, and a height of the other one. Neither can stand where the other is meant.
 pub struct OwnHeight(pub u64);

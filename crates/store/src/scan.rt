@@ -6,15 +6,16 @@ use wire::u16_at;
 use wire::u32_at;
 use wire::u64_at;
 ghost use mathlib.Core.Path.{_≡_};
-ghost use mathlib.Core.List.{map};
 ghost use Prim.Native.Nat.{_+_, _*_, _-_, _≤_};
 ghost use lib.ListN.{length, drop};
-ghost use Rattle.wire.specs.Bytes.{part, pieces};
+ghost use Rattle.wire.specs.Choice.{isSome};
+ghost use Rattle.wire.specs.Bytes.{part};
 ghost use Rattle.store.specs.Limits.{channelLimit};
-ghost use Rattle.store.specs.Table.{isNumbered, hasKey};
+ghost use Rattle.store.specs.Table.{isNumbered, hasKey, lookup};
 ghost use Rattle.store.specs.Layout.{headerSize, slotSize, recordsFrom, sizeFor};
 ghost use Rattle.store.specs.Layout.{channelIn, recordIn, slotIn, tableIn, storeIn};
 ghost use Rattle.store.specs.Scan.{indexWhere, holds, firstThat, firstFree};
+ghost use Rattle.store.specs.SlotTest.{isAt};
 
 // A free slot has no number, though its bytes read as 0.
 fn is_numbered(s: &[u8], at: usize, number: u32) -> bool
@@ -130,4 +131,26 @@ pub fn find_free(s: &[u8], count: usize) -> Found
         i += 1;
     }
     Found::Nothing
+}
+
+pub fn is_found(f: Found) -> bool
+    ensures { λ r. ⌜ r ≡ isAt f ⌝ }
+{
+    match f {
+        Found::At(_) => true,
+        Found::Nothing => false,
+    }
+}
+
+pub fn has_record(s: &[u8], count: usize, kind: u16, channel: u32, sequence: u64) -> bool
+    requires { ⌜ length (now s) ≡ sizeFor count ⌝ }
+    ensures {
+        λ r. ⌜
+            r ≡
+            isSome
+            (lookup (record { kind = kind; channel = channel; sequence = sequence }) (storeIn (now (s .entry)) .records))
+        ⌝
+    }
+{
+    is_found(find_record(s, count, kind, channel, sequence))
 }
