@@ -14,7 +14,7 @@ use Rattle.wire.proofs.ChoiceLaws.{and-both, or-either, clash, cases}
 use Rattle.wire.proofs.BytesLaws.{field-below, length-part, bytes-part}
 use Rattle.store.proofs.LayoutLaws.{EndFields, TimeoutFields}
 use Rattle.datagram.specs.declared.Packet.{Packet}
-use Rattle.datagram.specs.Datagram.{bodyFrom, packetSize, sizeOfKind, isProved, isSound}
+use Rattle.datagram.specs.Datagram.{bodyFrom, packetSize, verdictSize, sizeOfKind, isProved, isSound}
 use Rattle.datagram.specs.Datagram.{kindIn, contextIn, packetIn}
 use Rattle.datagram.specs.Datagram.{packetFrom, timeoutFrom, sequenceFrom, digestFrom}
 
@@ -57,16 +57,18 @@ pub record PacketFields (p : Packet) : Type 0 where
   pub bytes : Bytes (p .digest)
 
 -- every kind has room where its digest is read (2 and 5, which have none, read their verdict there)
-digest-room : (k : ℕ) → bodyFrom + pick (eqb k 1) 20 (pick (eqb k 3) 12 packetSize) + digestSize ≤ sizeOfKind k
+pub digest-room : (k : ℕ) → bodyFrom + pick (eqb k 1) 20 (pick (eqb k 3) 12 packetSize) + digestSize ≤ sizeOfKind k
 unfolding sizeOfKind
 digest-room k =
     cases (eqb k 1) (λ e. rw (sizeOfKind, e) (omega arith))
     (λ e. cases (eqb k 3) (λ f. rw (sizeOfKind, e, f) (omega arith))
     (λ f. cases (eqb k 4) (λ g. rw (sizeOfKind, e, f, g) (omega arith)) (λ g. rw (sizeOfKind, e, f, g) (omega arith))))
 
-packet-room : (k : ℕ) → isProved k ≡ true → bodyFrom + packetSize ≤ sizeOfKind k
+-- and those that carry a packet and a verdict have room for both
+pub verdict-room : (k : ℕ) → isProved k ≡ true →
+    bodyFrom + packetSize + pick (eqb k 4) digestSize 0 + verdictSize ≤ sizeOfKind k
 unfolding sizeOfKind isProved
-packet-room k h =
+verdict-room k h =
     elim (or-either h) [
       | inl p ↦ elim (or-either p) [
         | inl q ↦ rw (eqb-true k 2 q) (omega arith)
@@ -89,7 +91,7 @@ packet-in i d b l =
 
 pub packet-fields : (d : List ℕ) → Bytes d → Sound d → isProved (kindIn d) ≡ true → PacketFields (packetFrom d)
 unfolding packetFrom
-packet-fields d b s p = packet-in bodyFrom d b (omega (arith, s .size, packet-room (kindIn d) p))
+packet-fields d b s p = packet-in bodyFrom d b (omega (arith, s .size, verdict-room (kindIn d) p))
 
 pub timeout-fields : (d : List ℕ) → Bytes d → TimeoutFields (timeoutFrom d)
 unfolding timeoutFrom

@@ -1,4 +1,6 @@
 // Datagrams and the records that are handed out, in lent bytes. Their types; specs/ says what they mean.
+pub mod read;
+
 use store::End;
 use store::OtherHeight;
 use store::OwnHeight;
