@@ -64,18 +64,25 @@ digest-room k =
     (λ e. cases (eqb k 3) (λ f. rw (sizeOfKind, e, f) (omega arith))
     (λ f. cases (eqb k 4) (λ g. rw (sizeOfKind, e, f, g) (omega arith)) (λ g. rw (sizeOfKind, e, f, g) (omega arith))))
 
--- and those that carry a packet and a verdict have room for both
-pub verdict-room : (k : ℕ) → isProved k ≡ true →
-    bodyFrom + packetSize + pick (eqb k 4) digestSize 0 + verdictSize ≤ sizeOfKind k
-unfolding sizeOfKind isProved
-verdict-room k h =
+-- the kinds that carry a packet and a verdict, one by one
+pub by-proved : (P : ℕ → Type 0) (k : ℕ) → isProved k ≡ true → P 2 → P 4 → P 5 → P k
+unfolding isProved
+by-proved P k h receive acknowledge timeOut =
     elim (or-either h) [
       | inl p ↦ elim (or-either p) [
-        | inl q ↦ rw (eqb-true k 2 q) (omega arith)
-        | inr q ↦ rw (eqb-true k 4 q) (omega arith)
+        | inl q ↦ rw (eqb-true k 2 q) receive
+        | inr q ↦ rw (eqb-true k 4 q) acknowledge
       ]
-      | inr q ↦ rw (eqb-true k 5 q) (omega arith)
+      | inr q ↦ rw (eqb-true k 5 q) timeOut
     ]
+
+-- they have room for both
+pub verdict-room : (k : ℕ) → isProved k ≡ true →
+    bodyFrom + packetSize + pick (eqb k 4) digestSize 0 + verdictSize ≤ sizeOfKind k
+unfolding sizeOfKind
+verdict-room k h =
+    by-proved (λ n. bodyFrom + packetSize + pick (eqb n 4) digestSize 0 + verdictSize ≤ sizeOfKind n) k h
+    (omega arith) (omega arith) (omega arith)
 
 packet-in : (i : ℕ) (d : List ℕ) → Bytes d → i + packetSize ≤ length d → PacketFields (packetIn i d)
 unfolding packetIn

@@ -20,17 +20,17 @@ ghost use Rattle.datagram.specs.Datagram.{kindIn, contextIn, packetIn, v
 ghost use Rattle.datagram.specs.Datagram.{timeoutFrom, sequenceFrom, packetFrom};
 ghost use Rattle.datagram.specs.Datagram.{digestFrom, verdictFrom, channelFrom};
 
-const FRAME: usize = 6;
+pub(crate) const FRAME: usize = 6;
 
 const CONTEXT: usize = 32;
 
-pub const BODY: usize = FRAME + CONTEXT;
+pub(crate) const BODY: usize = FRAME + CONTEXT;
 
-pub const PACKET: usize = 68;
+pub(crate) const PACKET: usize = 68;
 
-pub const VERDICT: usize = 80;
+pub(crate) const VERDICT: usize = 80;
 
-pub const DIGEST: usize = 32;
+pub(crate) const DIGEST: usize = 32;
 
 pub fn context_in(d: &[u8]) -> Context
     requires { ⌜ bodyFrom ≤ length (now d) ⌝ }
