@@ -22,9 +22,12 @@ pub bytes-framed : (k : ℕ) (bs : List ℕ) → Bytes bs → Bytes (framed k bs
 unfolding framed
 bytes-framed k bs b = search (every-append Byte, bytes-little) depth 8
 
-pub length-packet : (p : Packet) → PacketFields p → length (packetBytes p) ≡ packetSize
+pub length-packet-bytes : (p : Packet) → length (p .digest) ≡ digestSize → length (packetBytes p) ≡ packetSize
 unfolding packetBytes little
-length-packet p h = omega (arith, h .size)
+length-packet-bytes p l = omega arith
+
+pub length-packet : (p : Packet) → PacketFields p → length (packetBytes p) ≡ packetSize
+length-packet p h = length-packet-bytes p (h .size)
 
 pub bytes-packet : (p : Packet) → Bytes (p .digest) → Bytes (packetBytes p)
 unfolding packetBytes

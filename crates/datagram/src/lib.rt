@@ -1,4 +1,5 @@
 // Datagrams and the records that are handed out, in lent bytes. Their types; specs/ says what they mean.
+pub mod emit;
 pub mod read;
 pub mod sound;
 
