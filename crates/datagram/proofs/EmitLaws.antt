@@ -7,7 +7,7 @@ use native.Mathlib.Omega.{arith}
 use lib.ListN.{length, take, drop, length-append, take-append-drop}
 use lib.Seq.{length-take-le}
 use Rattle.wire.specs.Bytes.{little, patch}
-use Rattle.wire.proofs.PartLaws.{length-little}
+use Rattle.wire.proofs.BytesLaws.{length-little}
 use Rattle.wire.proofs.PatchLaws.{patch-append, patch-then, patch-front}
 use Rattle.datagram.specs.declared.Packet.{Packet}
 use Rattle.datagram.specs.Datagram.{frameSize}

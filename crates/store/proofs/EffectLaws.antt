@@ -10,7 +10,7 @@ use native.Mathlib.Omega.{arith}
 use lib.ListN.{length, set, drop, replicate, length-append, length-set}
 use Rattle.wire.specs.Bytes.{Bytes, little, patch, digestSize}
 use Rattle.wire.proofs.BytesLaws.{length-part}
-use Rattle.wire.proofs.PartLaws.{length-little}
+use Rattle.wire.proofs.BytesLaws.{length-little}
 use Rattle.wire.proofs.PatchLaws.{patch-behind, patch-front, patch-middle}
 use Rattle.store.specs.declared.OwnHeight.{OwnHeight}
 use Rattle.store.specs.declared.Channel.{Channel}

@@ -7,7 +7,7 @@ use native.Mathlib.Omega.{arith}
 use lib.ListN.{getD, take, drop, replicate, length-append}
 use lib.Seq.{take-take, drop-drop, take-nil, getD-take, getD-drop}
 use Rattle.wire.specs.Bytes.{little, part, field, patch, digestSize}
-use Rattle.wire.proofs.PartLaws.{length-little}
+use Rattle.wire.proofs.BytesLaws.{length-little}
 use Rattle.wire.proofs.PatchLaws.{patch-append}
 use Rattle.store.specs.declared.End.{End}
 use Rattle.store.specs.declared.Counters.{Counters}

@@ -14,30 +14,7 @@ use mir.Val.{Fits}
 use borrow.Author.Tests.{eq-eqb, ne-eqb, eqb-true, eqb-false}
 use Rattle.wire.specs.Choice.{_and_}
 use Rattle.wire.specs.Bytes.{Bytes, same, areZero, little, numberOf, part, field}
-
--- ALSO IN BytesLaws
-pub length-little : (n x : ℕ) → length (little n x) ≡ n
-unfolding little
-length-little zero x = refl
-length-little (suc n) x = ap suc (length-little n (x / 256))
-
-pub length-part : (i n : ℕ) (bs : List ℕ) → i + n ≤ length bs → length (part i n bs) ≡ n
-unfolding part
-length-part i n bs h = length-take n (drop i bs) ∙ omega (arith, length-drop i bs)
-
-bytes-take : (n : ℕ) (bs : List ℕ) → Bytes bs → Bytes (take n bs)
-bytes-take zero bs h = tt
-bytes-take (suc n) [] h = tt
-bytes-take (suc n) (b ∷ bs) h = (h .0, bytes-take n bs (h .1))
-
-bytes-drop : (n : ℕ) (bs : List ℕ) → Bytes bs → Bytes (drop n bs)
-bytes-drop zero bs h = h
-bytes-drop (suc n) [] h = h
-bytes-drop (suc n) (b ∷ bs) h = bytes-drop n bs (h .1)
-
-pub bytes-part : (i n : ℕ) (bs : List ℕ) → Bytes bs → Bytes (part i n bs)
-unfolding part
-bytes-part i n bs h = bytes-take n (drop i bs) (bytes-drop i bs h)
+use Rattle.wire.proofs.BytesLaws.{length-part, bytes-part}
 
 -- BYTES: what is known of a lent slice, element by element, says that all are bytes
 pub bytes-getD : (bs : List ℕ) → ((i : ℕ) → getD bs i 0 < 256) → Bytes bs

@@ -7,7 +7,8 @@ use native.Mathlib.Omega.{arith}
 use lib.ListN.{length, set, length-set}
 use lib.Seq.{set-comm}
 use Rattle.wire.specs.Bytes.{little, patch}
-use Rattle.wire.proofs.PartLaws.{length-little, little-split}
+use Rattle.wire.proofs.BytesLaws.{length-little}
+use Rattle.wire.proofs.PartLaws.{little-split}
 
 pub length-patch : (i : ℕ) (xs bs : List ℕ) → length (patch i xs bs) ≡ length bs
 unfolding patch

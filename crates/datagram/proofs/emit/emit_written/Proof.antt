@@ -7,7 +7,7 @@ use lib.ListN.{length, length-append}
 use denote.Ref.{now}
 use borrow.Author.Needs.{needs}
 use Rattle.wire.specs.Bytes.{little, digestSize}
-use Rattle.wire.proofs.PartLaws.{length-little}
+use Rattle.wire.proofs.BytesLaws.{length-little}
 use Rattle.wire.proofs.PatchLaws.{patch-then}
 use Rattle.datagram.specs.Datagram.{frameSize}
 use Rattle.datagram.specs.Output.{endBytes}

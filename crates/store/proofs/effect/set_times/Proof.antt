@@ -5,7 +5,7 @@ use lib.ListN.{length}
 use denote.Ref.{now}
 use borrow.Author.Needs.{needs}
 use Rattle.wire.specs.Bytes.{little}
-use Rattle.wire.proofs.PartLaws.{length-little}
+use Rattle.wire.proofs.BytesLaws.{length-little}
 use Rattle.wire.proofs.PatchLaws.{patch-then}
 use Rattle.store.specs.Layout.{sizeFor, storeIn}
 use Rattle.store.proofs.EffectLaws.{exact-times, exact-room}
