@@ -48,7 +48,7 @@ module _ (t : List ℕ → List (List ℕ) → Bool) (start n : ℕ) (bs : List 
   abbrev pub everyFrom : (i : ℕ) → Bool
   everyFrom i = everySlot t (slotsFrom start n bs i)
 
-  module _ {i : ℕ} {all : Bool} (left : all ≡ everyFrom i) where
+  module _ (i : ℕ) {all : Bool} (left : all ≡ everyFrom i) where
     module _ {r : Bool} (more : i < n) (tested : r ≡ t (slotAt start bs i) (slotsFrom start n bs (i + 1))) where
       pub fails : not r ≡ true → false ≡ all
       unfolding everySlot _and_
@@ -67,7 +67,7 @@ module _ {A : Type 0} (g : List ℕ → A) (t : Option A → Bool) (start n : �
   abbrev pub firstFrom : (i : ℕ) → Found
   firstFrom i = indexWhere t i (tableFrom g start n bs i)
 
-  module _ {i : ℕ} {all : Found} (left : all ≡ firstFrom i) where
+  module _ (i : ℕ) {all : Found} (left : all ≡ firstFrom i) where
     module _ {r : Bool} (more : i < n) (tested : r ≡ t (slotIn g (slotAt start bs i))) where
       pub found : r ≡ true → At i ≡ all
       unfolding indexWhere

@@ -1,4 +1,5 @@
 -- By the tests that led to each answer. Assumes nothing.
+use native.Mathlib.Omega.{arith}
 use borrow.Author.Needs.{needs}
 use borrow.Author.Tests.{le-leb, lt-leb}
 use Rattle.wire.specs.Choice.{_and_}
@@ -10,19 +11,19 @@ use Rattle.store.proofs.exact.size_fits.Tie as tie
 
 returns : tie.Need-returns
 unfolding sizeFits _and_
-returns c = rw (lt-leb (sizeFor 1) (c .before .args .size) (c .if1 .taken))
+returns c = rw (lt-leb (sizeFor 1) (c .before .args .size) (omega arith))
 
 returns-2 : tie.Need-returns-2
 unfolding sizeFits _and_
 returns-2 c =
     let n = c .before .before .args .size in
-    rw (le-leb (sizeFor 1) n (c .before .if1 .left), lt-leb n (sizeFor recordLimit) (c .if2 .taken))
+    rw (le-leb (sizeFor 1) n (omega arith), lt-leb n (sizeFor recordLimit) (omega arith))
 
 returns-3 : tie.Need-returns-3
 unfolding sizeFits _and_
 returns-3 c =
     let n = c .before .before .args .size in
-    rw (le-leb (sizeFor 1) n (c .before .if1 .left), le-leb n (sizeFor recordLimit) (c .if2 .left))
+    rw (le-leb (sizeFor 1) n (omega arith), le-leb n (sizeFor recordLimit) (omega arith))
 
 pub size-fits-spec : {M : Type 1} → statement M
 size-fits-spec =

@@ -34,20 +34,21 @@ returns : tie.Need-returns Inv-loop μ-loop
 returns c =
     let l = c .before .before .before in
     let a = l .before .before .args in
-    fails test headerSize channelLimit (now (a .s)) (l .loop .inv) (c .before .before .loop-test .taken)
+    fails test headerSize channelLimit (now (a .s)) (l .loop .i) (l .loop .inv) (omega arith)
     (c .before .channel-slot-fits .ensures) (c .if1 .taken)
 
 loop-again : tie.Need-loop-again Inv-loop μ-loop
 loop-again c =
     let l = c .before .before .before in
     let a = l .before .before .args in
-    passes test headerSize channelLimit (now (a .s)) (l .loop .inv) (c .before .before .loop-test .taken)
+    passes test headerSize channelLimit (now (a .s)) (l .loop .i) (l .loop .inv) (omega arith)
     (c .before .channel-slot-fits .ensures) (c .if1 .left)
 
 returns-2 : tie.Need-returns-2 Inv-loop μ-loop
 returns-2 c =
-    let a = c .before .before .before .args in
-    passed test headerSize channelLimit (now (a .s)) (c .before .loop .inv) (omega arith)
+    let l = c .before in
+    let a = l .before .before .args in
+    passed test headerSize channelLimit (now (a .s)) (l .loop .i) (l .loop .inv) (omega arith)
 
 pub channels-fit-spec : {M : Type 1} → statement M
 channels-fit-spec =

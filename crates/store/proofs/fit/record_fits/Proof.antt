@@ -36,7 +36,7 @@ below k = channel-index (bytes k) (index k) (holds (isNumbered (number k))) (fou
 
 returns : tie.Need-returns
 unfolding recordFits _and_
-returns c = rw (recordFits, lt-leb 1 (c .before .before .before .args .r .sequence) (c .if1 .taken))
+returns c = rw (recordFits, lt-leb 1 (c .before .before .before .args .r .sequence) (omega arith))
 
 returns-2 : tie.Need-returns-2
 unfolding recordFits fitsEnd _and_
@@ -46,7 +46,7 @@ returns-2 c =
     let a = d .before .before .before .args in
     let nothing = sym (f .find-channel .ensures) ∙ c .enum-told .given .1 in
     let none = find-nothing (isNumbered (a .r .channel)) 0 (storeIn (now (a .s)) .channels) nothing in
-    rw (recordFits, le-leb 1 (a .r .sequence) (d .if1 .left), none)
+    rw (recordFits, le-leb 1 (a .r .sequence) (omega arith), none)
 
 mul-channel-at : tie.Need-mul-channel-at
 mul-channel-at c = omega (arith, below c)
@@ -64,7 +64,7 @@ returns-3 c =
     let d = k .before .before .before .before in
     rw (
       recordFits,
-      le-leb 1 (d .before .before .before .args .r .sequence) (d .if1 .left),
+      le-leb 1 (d .before .before .before .args .r .sequence) (omega arith),
       channel-found (bytes k) (index k) (isNumbered (number k)) (found k),
       ← c .before .channel-at .ensures,
     )

@@ -24,7 +24,7 @@ returns : tie.Need-returns Inv-loop μ-loop
 returns c =
     let l = c .before .before .before in
     let a = l .before .before .args in
-    found recordIn isFree recordsFrom (a .count) (now (a .s)) (l .loop .inv) (c .before .before .loop-test .taken)
+    found recordIn isFree recordsFrom (a .count) (now (a .s)) (l .loop .i) (l .loop .inv) (omega arith)
     (c .before .are-zero .ensures ∙ sym (free-slot recordIn (slotAt recordsFrom (now (a .s)) (l .loop .i))))
     (c .if1 .taken)
 
@@ -32,14 +32,15 @@ loop-again : tie.Need-loop-again Inv-loop μ-loop
 loop-again c =
     let l = c .before .before .before in
     let a = l .before .before .args in
-    missed recordIn isFree recordsFrom (a .count) (now (a .s)) (l .loop .inv) (c .before .before .loop-test .taken)
+    missed recordIn isFree recordsFrom (a .count) (now (a .s)) (l .loop .i) (l .loop .inv) (omega arith)
     (c .before .are-zero .ensures ∙ sym (free-slot recordIn (slotAt recordsFrom (now (a .s)) (l .loop .i))))
     (c .if1 .left)
 
 returns-2 : tie.Need-returns-2 Inv-loop μ-loop
 returns-2 c =
-    let a = c .before .before .before .args in
-    nothing recordIn isFree recordsFrom (a .count) (now (a .s)) (c .before .loop .inv) (omega arith)
+    let l = c .before in
+    let a = l .before .before .args in
+    nothing recordIn isFree recordsFrom (a .count) (now (a .s)) (l .loop .i) (l .loop .inv) (omega arith)
 
 pub find-free-spec : {M : Type 1} → statement M
 find-free-spec =

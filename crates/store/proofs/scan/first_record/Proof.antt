@@ -31,21 +31,22 @@ returns : tie.Need-returns Inv-loop μ-loop
 returns c =
     let l = c .before .before .before in
     let a = l .before .before .args in
-    found recordIn (test (a .kind) (a .channel) (a .sequence)) recordsFrom (a .count) (now (a .s)) (l .loop .inv)
-    (c .before .before .loop-test .taken) (c .before .has-key .ensures) (c .if1 .taken)
+    found recordIn (test (a .kind) (a .channel) (a .sequence)) recordsFrom (a .count) (now (a .s)) (l .loop .i)
+    (l .loop .inv) (omega arith) (c .before .has-key .ensures) (c .if1 .taken)
 
 loop-again : tie.Need-loop-again Inv-loop μ-loop
 loop-again c =
     let l = c .before .before .before in
     let a = l .before .before .args in
-    missed recordIn (test (a .kind) (a .channel) (a .sequence)) recordsFrom (a .count) (now (a .s)) (l .loop .inv)
-    (c .before .before .loop-test .taken) (c .before .has-key .ensures) (c .if1 .left)
+    missed recordIn (test (a .kind) (a .channel) (a .sequence)) recordsFrom (a .count) (now (a .s)) (l .loop .i)
+    (l .loop .inv) (omega arith) (c .before .has-key .ensures) (c .if1 .left)
 
 returns-2 : tie.Need-returns-2 Inv-loop μ-loop
 returns-2 c =
-    let a = c .before .before .before .args in
+    let l = c .before in
+    let a = l .before .before .args in
     nothing recordIn (test (a .kind) (a .channel) (a .sequence)) recordsFrom (a .count) (now (a .s))
-    (c .before .loop .inv) (omega arith)
+    (l .loop .i) (l .loop .inv) (omega arith)
 
 pub first-record-spec : {M : Type 1} → statement M
 first-record-spec =
