@@ -1,5 +1,5 @@
-// What a datagram holds, read into structs by value. The places stand here once: behind the frame lies the
-// context, and behind it the body. A longer context is another CONTEXT and what `context_in` reads of it.
+// What a datagram holds, read into structs by value. The sizes stand here once: behind the frame lies the context,
+// and behind it the body. A longer context is another CONTEXT, and what `context_in` reads and `sound` tests of it.
 use super::Context;
 use super::Packet;
 use super::Verdict;
