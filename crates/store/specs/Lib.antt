@@ -5,3 +5,4 @@ pub mod Layout
 pub mod Ordering
 pub mod Fit
 pub mod Maker
+pub mod Length

@@ -1,4 +1,5 @@
 // The store: one ledger's channel ends and packet records, in bytes that the host lends. Its types; specs/ says what they mean.
+mod maker;
 
 // A height of this ledger, and a height of the other one. Neither can stand where the other is meant.
 pub struct OwnHeight(pub u64);
