@@ -5,7 +5,8 @@ use mathlib.Core.Option.{Option, none, some}
 use Prim.Native.Nat.{ℕ, zero, suc, _+_, _*_, _-_, _/_, _%_, _≤_, _<_}
 use native.Mathlib.Nat.{add-assoc}
 use native.Mathlib.Omega.{arith}
-use lib.ListN.{length, replicate, length-append, length-replicate, replicate-append-replicate}
+use lib.ListN.{length, take, replicate, length-append, length-replicate, replicate-append-replicate}
+use lib.Seq.{length-take-le}
 use Rattle.wire.specs.Bytes.{little, patch}
 use Rattle.wire.proofs.BytesLaws.{length-little}
 use Rattle.wire.proofs.PatchLaws.{length-patch, patch-append, patch-then, patch-front}
@@ -15,9 +16,9 @@ use Rattle.store.specs.declared.Counters.{Counters}
 use Rattle.store.specs.Limits.{channelLimit}
 use Rattle.store.specs.Layout.{slotSize, headerSize, recordsFrom, sizeFor, roomIn}
 use Rattle.store.specs.Layout.{channelBytes, recordBytes, slotBytes, tableBytes, headerBytes, bytesOf}
-use Rattle.store.specs.Maker.{openingSize, endsOf, makeNumber, madeStore}
+use Rattle.store.specs.Maker.{openingSize, openingOf, endsOf, makeNumber, madeStore}
 use Rattle.store.proofs.MakerLaws.{made}
-use Rattle.store.proofs.OpeningLaws.{length-ends}
+use Rattle.store.proofs.OpeningLaws.{openingAt, length-ends, end-more}
 
 -- TABLES
 module _ {A : Type 0} (f : A → List ℕ) where
@@ -44,6 +45,20 @@ length-channels [] = refl
 length-channels (none ∷ xs) = omega (arith, length-channels xs)
 length-channels (some c ∷ xs) =
     length-append (channelBytes c) (tableBytes channelBytes xs) ∙ omega (arith, length-channel c, length-channels xs)
+
+-- one end more
+pub patch-end : (i : ℕ) (os bs : List ℕ) → i < length os / openingSize
+    → patch (headerSize + slotSize * i) (channelBytes (openingOf (openingAt os i)))
+      (patch headerSize (tableBytes channelBytes (take i (endsOf os))) bs)
+    ≡ patch headerSize (tableBytes channelBytes (take (i + 1) (endsOf os))) bs
+unfolding tableBytes slotBytes
+patch-end i os bs more =
+    let before : List (Option Channel) = take i (endsOf os) in
+    let next : Channel = openingOf (openingAt os i) in
+    let count : length before ≡ i = length-take-le i (endsOf os) (omega (arith, length-ends os)) in
+    let size : length (tableBytes channelBytes before) ≡ slotSize * i = length-channels before ∙ omega arith in
+    patch-then headerSize (slotSize * i) (tableBytes channelBytes before) (channelBytes next) bs size
+    ∙ rw (end-more os i more, table-append channelBytes before (some next ∷ []), append-nil (channelBytes next))
 
 -- FIELD BY FIELD
 two-bytes : (x y : ℕ) → x < 256 → y < 256 → x ∷ y ∷ [] ≡ little 1 x ++ little 1 y

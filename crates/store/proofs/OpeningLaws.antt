@@ -1,5 +1,6 @@
 -- Laws of a list of openings: an opening is read field by field, and a turn of a loop takes the next one. Assumes nothing.
 use mathlib.Core.Path.{_≡_, refl, sym, ap, _∙_}
+use mathlib.Core.Bool.{not}
 use mathlib.Core.List.{List, [], _∷_, _++_, map}
 use mathlib.Core.Option.{Option, some}
 use Prim.Native.Nat.{ℕ, zero, suc, _+_, _*_, _-_, _/_, _≤_, _<_}
@@ -7,14 +8,15 @@ use native.Mathlib.Nat.{sub-zero, suc-sub-suc, zero-sub, add-zero, mul-zero}
 use native.Mathlib.Numerals.{add-one}
 use native.Mathlib.Omega.{arith}
 use lib.Dec.{eqb}
-use lib.ListN.{length, getD, take, drop, length-map, List·getD-map}
+use lib.ListN.{length, getD, take, drop, length-map, List·getD-map, drop-of-length-le}
 use lib.Seq.{take-take, take-nil, take-suc, drop-drop, drop-cons, getD-take, getD-drop}
-use Rattle.wire.specs.Choice.{_and_, isIn}
+use Rattle.wire.specs.Choice.{_and_, pick, isSome, isIn}
 use Rattle.wire.specs.Bytes.{numberOf, part, field, pieces}
 use Rattle.wire.proofs.BytesLaws.{length-pieces}
 use Rattle.wire.proofs.PartLaws.{field-one}
 use Rattle.store.specs.declared.Channel.{Channel}
-use Rattle.store.specs.Maker.{openingSize, openingsIn, openingFits, openingOf, endsOf}
+use Rattle.store.specs.Table.{find, distinct, isNumbered, sameNumber, channelAt}
+use Rattle.store.specs.Maker.{openingSize, openingsIn, openingFits, allOpeningsFit, openingOf, endsOf}
 
 -- PARTS OF A PART
 drop-take : {A : Type 0} (i n : ℕ) (l : List A) → drop i (take n l) ≡ take (n - i) (drop i l)
@@ -88,25 +90,54 @@ unfolding endsOf
 length-ends bs =
     length-map (openingsIn bs) (λ o. some (openingOf o)) ∙ length-pieces openingSize (length bs / openingSize) bs
 
-module _ (bs : List ℕ) (i : ℕ) (more : i < length bs / openingSize) where
-  -- the opening of index i, and the end that it opens
-  abbrev pub openingAt : List ℕ
-  openingAt = part (openingSize * i) openingSize bs
+-- the opening of index i
+abbrev pub openingAt : (openings : List ℕ) → (index : ℕ) → List ℕ
+openingAt bs i = part (openingSize * i) openingSize bs
 
-  end-at : getD (endsOf bs) i (some (openingOf [])) ≡ some (openingOf openingAt)
+module _ (bs : List ℕ) (i : ℕ) (more : i < length bs / openingSize) where
+  end-at : getD (endsOf bs) i (some (openingOf [])) ≡ some (openingOf (openingAt bs i))
   unfolding endsOf
   end-at =
       List·getD-map (λ o. some (openingOf o)) (openingsIn bs) i []
       ∙ rw (piece-at openingSize (length bs / openingSize) bs i more)
 
-  pub opening-next : drop i (openingsIn bs) ≡ openingAt ∷ drop (i + 1) (openingsIn bs)
+  pub opening-next : drop i (openingsIn bs) ≡ openingAt bs i ∷ drop (i + 1) (openingsIn bs)
   opening-next =
       let count = length-pieces openingSize (length bs / openingSize) bs in
       drop-cons (openingsIn bs) i [] (omega arith)
       ∙ rw (piece-at openingSize (length bs / openingSize) bs i more, add-one)
 
-  pub end-next : drop i (endsOf bs) ≡ some (openingOf openingAt) ∷ drop (i + 1) (endsOf bs)
+  pub end-next : drop i (endsOf bs) ≡ some (openingOf (openingAt bs i)) ∷ drop (i + 1) (endsOf bs)
   end-next = drop-cons (endsOf bs) i (some (openingOf [])) (omega (arith, length-ends bs)) ∙ rw (end-at, add-one)
 
-  pub end-more : take (i + 1) (endsOf bs) ≡ take i (endsOf bs) ++ (some (openingOf openingAt) ∷ [])
+  pub end-more : take (i + 1) (endsOf bs) ≡ take i (endsOf bs) ++ (some (openingOf (openingAt bs i)) ∷ [])
   end-more = rw (add-one, take-suc (endsOf bs) i (some (openingOf [])) (omega (arith, length-ends bs)), end-at)
+
+  -- TURNS OF A LOOP: the answer for what is left, by the next opening
+  pub fit-turn : allOpeningsFit (drop i (openingsIn bs))
+      ≡ (openingFits (openingAt bs i) and allOpeningsFit (drop (i + 1) (openingsIn bs)))
+  unfolding allOpeningsFit
+  fit-turn = rw opening-next
+
+  number-at : openingOf (openingAt bs i) .own .channel ≡ field (openingSize * i + 8) 4 bs
+  unfolding openingOf
+  number-at = field-part 8 4 (openingSize * i) openingSize bs (omega arith)
+
+  pub number-turn : (n : ℕ) → channelAt n (drop i (endsOf bs))
+      ≡ pick (eqb (field (openingSize * i + 8) 4 bs) n) (some (openingOf (openingAt bs i))) (channelAt n (drop (i + 1) (endsOf bs)))
+  unfolding find isNumbered
+  number-turn n = rw (end-next, number-at)
+
+  pub distinct-turn : distinct sameNumber (drop i (endsOf bs))
+      ≡ (not (isSome (channelAt (field (openingSize * i + 8) 4 bs) (drop (i + 1) (endsOf bs)))) and
+      distinct sameNumber (drop (i + 1) (endsOf bs)))
+  unfolding distinct
+  distinct-turn = rw (end-next, number-at)
+
+-- and behind the last one
+module _ (bs : List ℕ) (i : ℕ) (over : length bs / openingSize ≤ i) where
+  pub openings-over : drop i (openingsIn bs) ≡ []
+  openings-over = drop-of-length-le (openingsIn bs) {i = i} (omega (arith, length-pieces openingSize (length bs / openingSize) bs))
+
+  pub ends-over : drop i (endsOf bs) ≡ []
+  ends-over = drop-of-length-le (endsOf bs) {i = i} (omega (arith, length-ends bs))
