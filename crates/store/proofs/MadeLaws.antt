@@ -7,6 +7,7 @@ use native.Mathlib.Nat.{add-assoc}
 use native.Mathlib.Omega.{arith}
 use lib.ListN.{length, take, replicate, length-append, length-replicate, replicate-append-replicate}
 use lib.Seq.{length-take-le}
+use borrow.Author.Tests.{ne-eqb}
 use Rattle.wire.specs.Bytes.{little, patch}
 use Rattle.wire.proofs.BytesLaws.{length-little}
 use Rattle.wire.proofs.PatchLaws.{length-patch, patch-append, patch-then, patch-front}
@@ -16,7 +17,7 @@ use Rattle.store.specs.declared.Counters.{Counters}
 use Rattle.store.specs.Limits.{channelLimit}
 use Rattle.store.specs.Layout.{slotSize, headerSize, recordsFrom, sizeFor, roomIn}
 use Rattle.store.specs.Layout.{channelBytes, recordBytes, slotBytes, tableBytes, headerBytes, bytesOf}
-use Rattle.store.specs.Maker.{openingSize, openingOf, endsOf, makeNumber, madeStore}
+use Rattle.store.specs.Maker.{openingSize, openingOf, endsOf, makeNumber, madeStore, makeTold, makeStore}
 use Rattle.store.proofs.MakerLaws.{made}
 use Rattle.store.proofs.OpeningLaws.{openingAt, length-ends, end-more}
 
@@ -153,3 +154,8 @@ patch-made bs os h =
     ∙ patch-then 0 headerSize header (ends ++ zeros) bs lh
     ∙ patch-whole (header ++ (ends ++ zeros)) bs whole
     ∙ sym (made-parts (length bs) os h)
+
+-- a refusal leaves all bytes as they are
+pub make-refused : (bs os : List ℕ) → (makeTold bs os ≡ 0 → ⊥) → makeStore bs os ≡ bs
+unfolding makeStore
+make-refused bs os h = rw (makeStore, ne-eqb (makeTold bs os) 0 h)
