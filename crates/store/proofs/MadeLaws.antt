@@ -50,7 +50,7 @@ length-channels (some c ∷ xs) =
 -- one end more
 pub patch-end : (i : ℕ) (os bs : List ℕ) → i < length os / openingSize
     → patch (headerSize + slotSize * i) (channelBytes (openingOf (openingAt os i)))
-      (patch headerSize (tableBytes channelBytes (take i (endsOf os))) bs)
+    (patch headerSize (tableBytes channelBytes (take i (endsOf os))) bs)
     ≡ patch headerSize (tableBytes channelBytes (take (i + 1) (endsOf os))) bs
 unfolding tableBytes slotBytes
 patch-end i os bs more =
@@ -75,17 +75,17 @@ counterBytes n = little 8 (n .send) ++ little 8 (n .receive) ++ little 8 (n .ack
 pub patch-counters : (at : ℕ) (n : Counters) (bs : List ℕ)
     → patch at (counterBytes n) bs
     ≡ patch (at + 24) (replicate 24 0)
-      (patch (at + 16) (little 8 (n .acknowledge)) (patch (at + 8) (little 8 (n .receive)) (patch at (little 8 (n .send)) bs)))
+    (patch (at + 16) (little 8 (n .acknowledge)) (patch (at + 8) (little 8 (n .receive)) (patch at (little 8 (n .send)) bs)))
 patch-counters at n bs = simp (patch-append, length-append, length-little, add-assoc)
 
 pub patch-channel : (at : ℕ) (c : Channel) (bs : List ℕ) → c .state < 256 → c .order < 256
     → patch at (channelBytes c) bs
     ≡ patch (at + 16) (counterBytes (c .next))
-      (patch (at + 12) (little 4 (c .counterparty .channel))
-      (patch (at + 10) (little 2 (c .counterparty .port))
-      (patch (at + 8) (little 2 (c .own .port))
-      (patch (at + 4) (little 4 (c .own .channel))
-      (patch (at + 3) (little 1 (c .order)) (patch (at + 2) (little 1 (c .state)) (patch at (little 2 1) bs)))))))
+    (patch (at + 12) (little 4 (c .counterparty .channel))
+    (patch (at + 10) (little 2 (c .counterparty .port))
+    (patch (at + 8) (little 2 (c .own .port))
+    (patch (at + 4) (little 4 (c .own .channel))
+    (patch (at + 3) (little 1 (c .order)) (patch (at + 2) (little 1 (c .state)) (patch at (little 2 1) bs)))))))
 unfolding channelBytes
 patch-channel at c bs s o =
     rw (two-bytes (c .state) (c .order) s o) (simp (patch-append, length-append, length-little, add-assoc))
@@ -93,10 +93,10 @@ patch-channel at c bs s o =
 pub patch-header : (n : ℕ) (bs : List ℕ)
     → patch 0 (headerBytes 0 0 n) bs
     ≡ patch 28 (replicate 36 0)
-      (patch 24 (little 4 n)
-      (patch 16 (little 8 0)
-      (patch 8 (little 8 0)
-      (patch 6 (little 2 channelLimit) (patch 4 (little 2 0x0401) (patch 0 (little 4 (sizeFor n)) bs))))))
+    (patch 24 (little 4 n)
+    (patch 16 (little 8 0)
+    (patch 8 (little 8 0)
+    (patch 6 (little 2 channelLimit) (patch 4 (little 2 0x0401) (patch 0 (little 4 (sizeFor n)) bs))))))
 unfolding headerBytes
 patch-header n bs = simp (patch-append, length-append, length-little)
 
@@ -114,7 +114,7 @@ length-header h t n = refl
 made-parts : (n : ℕ) (os : List ℕ) → makeNumber n os ≡ 0
     → bytesOf (madeStore n os)
     ≡ headerBytes 0 0 (roomIn n) ++
-      (tableBytes channelBytes (endsOf os) ++ replicate (n - (headerSize + slotSize * (length os / openingSize))) 0)
+    (tableBytes channelBytes (endsOf os) ++ replicate (n - (headerSize + slotSize * (length os / openingSize))) 0)
 unfolding bytesOf madeStore
 made-parts n os h =
     let m = made n os h in
@@ -136,8 +136,8 @@ made-parts n os h =
 -- and written so
 pub patch-made : (bs os : List ℕ) → makeNumber (length bs) os ≡ 0
     → patch (headerSize + slotSize * (length os / openingSize))
-      (replicate (length bs - (headerSize + slotSize * (length os / openingSize))) 0)
-      (patch headerSize (tableBytes channelBytes (endsOf os)) (patch 0 (headerBytes 0 0 (roomIn (length bs))) bs))
+    (replicate (length bs - (headerSize + slotSize * (length os / openingSize))) 0)
+    (patch headerSize (tableBytes channelBytes (endsOf os)) (patch 0 (headerBytes 0 0 (roomIn (length bs))) bs))
     ≡ bytesOf (madeStore (length bs) os)
 patch-made bs os h =
     let m = made (length bs) os h in
@@ -149,7 +149,7 @@ patch-made bs os h =
     let le : length ends ≡ slotSize * (length os / openingSize) = length-channels (endsOf os) ∙ omega (arith, length-ends os) in
     let lz : length zeros ≡ length bs - from = length-replicate (length bs - from) 0 in
     let whole : length (header ++ (ends ++ zeros)) ≡ length bs =
-      simp length-append (omega (arith, lh, le, lz, m .sized .whole, m .few)) in
+    simp length-append (omega (arith, lh, le, lz, m .sized .whole, m .few)) in
     patch-then headerSize (slotSize * (length os / openingSize)) ends zeros (patch 0 header bs) le
     ∙ patch-then 0 headerSize header (ends ++ zeros) bs lh
     ∙ patch-whole (header ++ (ends ++ zeros)) bs whole

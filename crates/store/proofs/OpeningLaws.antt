@@ -68,12 +68,12 @@ module _ (at : ℕ) (bs : List ℕ) (room : at + openingSize ≤ length bs) wher
 
   pub opening-part : openingOf (part at openingSize bs)
       ≡ record {
-          state = 3;
-          order = field (at + 18) 1 bs;
-          own = record { port = field (at + 6) 2 bs; channel = field (at + 8) 4 bs };
-          counterparty = record { port = field (at + 12) 2 bs; channel = field (at + 14) 4 bs };
-          next = record { send = 1; receive = 1; acknowledge = 1 };
-        }
+        state = 3;
+        order = field (at + 18) 1 bs;
+        own = record { port = field (at + 6) 2 bs; channel = field (at + 8) 4 bs };
+        counterparty = record { port = field (at + 12) 2 bs; channel = field (at + 14) 4 bs };
+        next = record { send = 1; receive = 1; acknowledge = 1 };
+      }
   unfolding openingOf
   opening-part =
       rw (

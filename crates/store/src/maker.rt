@@ -1,7 +1,17 @@
 // The maker of a fresh store, from the slice to be filled and a list of openings. specs/Maker.antt says what it answers
 // and what it leaves in the slice. All tests come before the first store of a byte, so a refusal changes nothing.
-use super::{Channel, Counters, End, Store};
-use wire::{put_u16, put_u32, put_u64, put_u8, put_zeros, u16_at, u32_at, u8_at};
+use super::Channel;
+use super::Counters;
+use super::End;
+use super::Store;
+use wire::put_u8;
+use wire::put_u16;
+use wire::put_u32;
+use wire::put_u64;
+use wire::put_zeros;
+use wire::u8_at;
+use wire::u16_at;
+use wire::u32_at;
 ghost use mathlib.Core.Path.{_≡_};
 ghost use mathlib.Core.List.{_++_};
 ghost use Prim.Native.Nat.{_+_, _*_, _/_, _%_, _≤_};
@@ -9,11 +19,12 @@ ghost use lib.Dec.{eqb};
 ghost use lib.ListN.{length, drop, replicate};
 ghost use Rattle.wire.specs.Choice.{_and_, isSome};
 ghost use Rattle.wire.specs.Bytes.{little, part, patch};
+ghost use Rattle.store.specs.Limits.{recordLimit};
 ghost use Rattle.store.specs.Table.{distinct, sameNumber, channelAt};
-ghost use Rattle.store.specs.Layout.{tableBytes, channelBytes, headerBytes, bytesOf};
+ghost use Rattle.store.specs.Layout.{headerSize, slotSize, channelBytes, tableBytes, headerBytes, bytesOf};
 ghost use Rattle.store.specs.Fit.{sizeFits};
 ghost use Rattle.store.specs.Length.{lengthFor};
-ghost use Rattle.store.specs.Maker.{openingsIn, openingFits, allOpeningsFit, openingOf, endsOf};
+ghost use Rattle.store.specs.Maker.{openingSize, openingsIn, openingFits, allOpeningsFit, openingOf, endsOf};
 ghost use Rattle.store.specs.Maker.{makeNumber, madeStore, makeTold, makeStore};
 
 // The header, a record of either table and an opening, in bytes, and where the packet records start.
@@ -67,10 +78,10 @@ fn size_fits(size: usize) -> bool
 
 // The opening from `at` on: length, kind, order and zero byte.
 fn opening_fits(openings: &[u8], at: usize) -> bool
-    requires { ⌜ at + 20 ≤ length (now openings) ⌝ }
-    ensures { λ r. ⌜ r ≡ openingFits (part at 20 (now (openings .entry))) ⌝ }
+    requires { ⌜ at + openingSize ≤ length (now openings) ⌝ }
+    ensures { λ r. ⌜ r ≡ openingFits (part at openingSize (now (openings .entry))) ⌝ }
 {
-    if u32_at(openings, at) != 20 {
+    if u32_at(openings, at) as usize != OPENING {
         return false;
     }
     if u16_at(openings, at + 4) != 0x0010 {
@@ -87,9 +98,7 @@ fn opening_fits(openings: &[u8], at: usize) -> bool
 }
 
 fn openings_fit(openings: &[u8]) -> bool
-    ensures {
-        λ r. ⌜ r ≡ eqb (length (now (openings .entry)) % 20) 0 and allOpeningsFit (openingsIn (now (openings .entry))) ⌝
-    }
+    ensures { λ r. ⌜ r ≡ eqb (length (now (openings .entry)) % openingSize) 0 and allOpeningsFit (openingsIn (now (openings .entry))) ⌝ }
 {
     if openings.len() % OPENING != 0 {
         return false;
@@ -155,8 +164,8 @@ fn make_number(size: usize, openings: &[u8]) -> u8
 
 // An OPEN end with counters 1, as the opening from `at` on says.
 fn opening_at(openings: &[u8], at: usize) -> Channel
-    requires { ⌜ at + 20 ≤ length (now openings) ⌝ }
-    ensures { λ r. ⌜ r ≡ openingOf (part at 20 (now (openings .entry))) ⌝ }
+    requires { ⌜ at + openingSize ≤ length (now openings) ⌝ }
+    ensures { λ r. ⌜ r ≡ openingOf (part at openingSize (now (openings .entry))) ⌝ }
 {
     Channel {
         state: 3,
@@ -180,7 +189,11 @@ fn opening_at(openings: &[u8], at: usize) -> Channel
 // The three counters and the zero bytes behind them.
 fn write_counters(store: &mut [u8], at: usize, next: Counters)
     requires { ⌜ at + 48 ≤ length (now store) ⌝ }
-    ensures { λ _. ⌜ now (store .exit) ≡ patch at (little 8 (next .send) ++ little 8 (next .receive) ++ little 8 (next .acknowledge) ++ replicate 24 0) (now (store .entry)) ⌝ }
+    ensures { λ _. ⌜
+        now (store .exit) ≡ patch at
+        (little 8 (next .send) ++ little 8 (next .receive) ++ little 8 (next .acknowledge) ++ replicate 24 0)
+        (now (store .entry))
+        ⌝ }
 {
     put_u64(store, at, next.send);
     put_u64(store, at + 8, next.receive);
@@ -189,7 +202,7 @@ fn write_counters(store: &mut [u8], at: usize, next: Counters)
 }
 
 fn write_channel(store: &mut [u8], at: usize, c: Channel)
-    requires { ⌜ at + 64 ≤ length (now store) ⌝ }
+    requires { ⌜ at + slotSize ≤ length (now store) ⌝ }
     ensures { λ _. ⌜ now (store .exit) ≡ patch at (channelBytes c) (now (store .entry)) ⌝ }
 {
     put_u16(store, at, 1);
@@ -205,7 +218,7 @@ fn write_channel(store: &mut [u8], at: usize, c: Channel)
 
 // Last height and time are 0.
 fn write_header(store: &mut [u8], records: usize)
-    requires { ⌜ (64 ≤ length (now store)) × (records ≤ 512) ⌝ }
+    requires { ⌜ (headerSize ≤ length (now store)) × (records ≤ recordLimit) ⌝ }
     ensures { λ _. ⌜ now (store .exit) ≡ patch 0 (headerBytes 0 0 records) (now (store .entry)) ⌝ }
 {
     put_u32(store, 0, (RECORDS_FROM + SLOT * records) as u32);
@@ -219,10 +232,8 @@ fn write_header(store: &mut [u8], records: usize)
 
 // The ends in list order, from the first channel record on.
 fn write_openings(store: &mut [u8], openings: &[u8])
-    requires { ⌜ 64 + 64 * (length (now openings) / 20) ≤ length (now store) ⌝ }
-    ensures {
-        λ _. ⌜ now (store .exit) ≡ patch 64 (tableBytes channelBytes (endsOf (now (openings .entry)))) (now (store .entry)) ⌝
-    }
+    requires { ⌜ headerSize + slotSize * (length (now openings) / openingSize) ≤ length (now store) ⌝ }
+    ensures { λ _. ⌜ now (store .exit) ≡ patch headerSize (tableBytes channelBytes (endsOf (now (openings .entry)))) (now (store .entry)) ⌝ }
 {
     let count = openings.len() / OPENING;
     let mut i: usize = 0;
@@ -235,9 +246,7 @@ fn write_openings(store: &mut [u8], openings: &[u8])
 // Each byte once: the header, the ends, and zeros behind them.
 fn write_store(store: &mut [u8], openings: &[u8])
     requires { ⌜ makeNumber (length (now store)) (now openings) ≡ 0 ⌝ }
-    ensures {
-        λ _. ⌜ now (store .exit) ≡ bytesOf (madeStore (length (now (store .entry))) (now (openings .entry))) ⌝
-    }
+    ensures { λ _. ⌜ now (store .exit) ≡ bytesOf (madeStore (length (now (store .entry))) (now (openings .entry))) ⌝ }
 {
     let size = store.len();
     let from = HEADER + SLOT * (openings.len() / OPENING);

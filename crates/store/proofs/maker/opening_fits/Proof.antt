@@ -10,6 +10,9 @@ use Rattle.store.proofs.maker.opening_fits.Tie as tie
 u32-at-requires : tie.Need-u32-at-requires
 u32-at-requires c κs = search needs
 
+cast-if1 : tie.Need-cast-if1
+cast-if1 c = search needs
+
 returns : tie.Need-returns
 unfolding _and_
 returns c =
@@ -108,6 +111,7 @@ opening-fits-spec =
     tie.close
     (tie.spec
     u32-at-requires
+    cast-if1
     returns
     add-u16-at
     u16-at-requires
