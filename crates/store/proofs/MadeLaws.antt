@@ -1,8 +1,8 @@
 -- Laws of what the maker writes: a header, the channel records in order, and zeros behind them. Assumes nothing.
-use mathlib.Core.Path.{_≡_, refl, sym, ap, _∙_}
+use mathlib.Core.Path.{_≡_, refl, sym, _∙_}
 use mathlib.Core.List.{List, [], _∷_, _++_, append-assoc, append-nil}
 use mathlib.Core.Option.{Option, none, some}
-use Prim.Native.Nat.{ℕ, zero, suc, _+_, _*_, _-_, _/_, _%_, _≤_, _<_}
+use Prim.Native.Nat.{ℕ, zero, suc, _+_, _*_, _-_, _/_, _%_, _<_}
 use native.Mathlib.Nat.{add-assoc}
 use native.Mathlib.Omega.{arith}
 use lib.ListN.{length, take, replicate, length-append, length-replicate, replicate-append-replicate}
@@ -10,12 +10,12 @@ use lib.Seq.{length-take-le}
 use borrow.Author.Tests.{ne-eqb}
 use Rattle.wire.specs.Bytes.{little, patch}
 use Rattle.wire.proofs.BytesLaws.{length-little}
-use Rattle.wire.proofs.PatchLaws.{length-patch, patch-append, patch-then, patch-front}
+use Rattle.wire.proofs.PatchLaws.{patch-append, patch-then, patch-front}
 use Rattle.store.specs.declared.Channel.{Channel}
 use Rattle.store.specs.declared.Record.{Record}
 use Rattle.store.specs.declared.Counters.{Counters}
 use Rattle.store.specs.Limits.{channelLimit}
-use Rattle.store.specs.Layout.{slotSize, headerSize, recordsFrom, sizeFor, roomIn}
+use Rattle.store.specs.Layout.{slotSize, headerSize, sizeFor, roomIn}
 use Rattle.store.specs.Layout.{channelBytes, recordBytes, slotBytes, tableBytes, headerBytes, bytesOf}
 use Rattle.store.specs.Maker.{openingSize, openingOf, endsOf, makeNumber, madeStore, makeTold, makeStore}
 use Rattle.store.proofs.MakerLaws.{made}
@@ -75,7 +75,8 @@ counterBytes n = little 8 (n .send) ++ little 8 (n .receive) ++ little 8 (n .ack
 pub patch-counters : (at : ℕ) (n : Counters) (bs : List ℕ)
     → patch at (counterBytes n) bs
     ≡ patch (at + 24) (replicate 24 0)
-    (patch (at + 16) (little 8 (n .acknowledge)) (patch (at + 8) (little 8 (n .receive)) (patch at (little 8 (n .send)) bs)))
+    (patch (at + 16) (little 8 (n .acknowledge))
+    (patch (at + 8) (little 8 (n .receive)) (patch at (little 8 (n .send)) bs)))
 patch-counters at n bs = simp (patch-append, length-append, length-little, add-assoc)
 
 pub patch-channel : (at : ℕ) (c : Channel) (bs : List ℕ) → c .state < 256 → c .order < 256
@@ -146,7 +147,8 @@ patch-made bs os h =
     let ends : List ℕ = tableBytes channelBytes (endsOf os) in
     let zeros : List ℕ = replicate (length bs - from) 0 in
     let lh : length header ≡ headerSize = length-header 0 0 (roomIn (length bs)) in
-    let le : length ends ≡ slotSize * (length os / openingSize) = length-channels (endsOf os) ∙ omega (arith, length-ends os) in
+    let le : length ends ≡ slotSize * (length os / openingSize) =
+    length-channels (endsOf os) ∙ omega (arith, length-ends os) in
     let lz : length zeros ≡ length bs - from = length-replicate (length bs - from) 0 in
     let whole : length (header ++ (ends ++ zeros)) ≡ length bs =
     simp length-append (omega (arith, lh, le, lz, m .sized .whole, m .few)) in

@@ -1,8 +1,8 @@
--- Laws of a list of openings: an opening is read field by field, and a turn of a loop takes the next one. Assumes nothing.
-use mathlib.Core.Path.{_≡_, refl, sym, ap, _∙_}
+-- Laws of a list of openings: one is read field by field, and a turn of a loop takes the next one. Assumes nothing.
+use mathlib.Core.Path.{_≡_, sym, ap, _∙_}
 use mathlib.Core.Bool.{not}
-use mathlib.Core.List.{List, [], _∷_, _++_, map}
-use mathlib.Core.Option.{Option, some}
+use mathlib.Core.List.{List, [], _∷_, _++_}
+use mathlib.Core.Option.{some}
 use Prim.Native.Nat.{ℕ, zero, suc, _+_, _*_, _-_, _/_, _≤_, _<_}
 use native.Mathlib.Nat.{sub-zero, suc-sub-suc, zero-sub, add-zero, mul-zero}
 use native.Mathlib.Numerals.{add-one}
@@ -14,7 +14,6 @@ use Rattle.wire.specs.Choice.{_and_, pick, isSome, isIn}
 use Rattle.wire.specs.Bytes.{numberOf, part, field, pieces}
 use Rattle.wire.proofs.BytesLaws.{length-pieces}
 use Rattle.wire.proofs.PartLaws.{field-one}
-use Rattle.store.specs.declared.Channel.{Channel}
 use Rattle.store.specs.Table.{find, distinct, isNumbered, sameNumber, channelAt}
 use Rattle.store.specs.Maker.{openingSize, openingsIn, openingFits, allOpeningsFit, openingOf, endsOf}
 
@@ -124,7 +123,8 @@ module _ (bs : List ℕ) (i : ℕ) (more : i < length bs / openingSize) where
   number-at = field-part 8 4 (openingSize * i) openingSize bs (omega arith)
 
   pub number-turn : (n : ℕ) → channelAt n (drop i (endsOf bs))
-      ≡ pick (eqb (field (openingSize * i + 8) 4 bs) n) (some (openingOf (openingAt bs i))) (channelAt n (drop (i + 1) (endsOf bs)))
+      ≡ pick (eqb (field (openingSize * i + 8) 4 bs) n) (some (openingOf (openingAt bs i)))
+      (channelAt n (drop (i + 1) (endsOf bs)))
   unfolding find isNumbered
   number-turn n = rw (end-next, number-at)
 
@@ -137,7 +137,9 @@ module _ (bs : List ℕ) (i : ℕ) (more : i < length bs / openingSize) where
 -- and behind the last one
 module _ (bs : List ℕ) (i : ℕ) (over : length bs / openingSize ≤ i) where
   pub openings-over : drop i (openingsIn bs) ≡ []
-  openings-over = drop-of-length-le (openingsIn bs) {i = i} (omega (arith, length-pieces openingSize (length bs / openingSize) bs))
+  openings-over =
+      let count = length-pieces openingSize (length bs / openingSize) bs in
+      drop-of-length-le (openingsIn bs) {i = i} (omega arith)
 
   pub ends-over : drop i (endsOf bs) ≡ []
   ends-over = drop-of-length-le (endsOf bs) {i = i} (omega (arith, length-ends bs))

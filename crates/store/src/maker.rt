@@ -98,7 +98,9 @@ fn opening_fits(openings: &[u8], at: usize) -> bool
 }
 
 fn openings_fit(openings: &[u8]) -> bool
-    ensures { λ r. ⌜ r ≡ eqb (length (now (openings .entry)) % openingSize) 0 and allOpeningsFit (openingsIn (now (openings .entry))) ⌝ }
+    ensures { λ r. ⌜
+        r ≡ eqb (length (now (openings .entry)) % openingSize) 0 and allOpeningsFit (openingsIn (now (openings .entry)))
+        ⌝ }
 {
     if openings.len() % OPENING != 0 {
         return false;
@@ -233,7 +235,11 @@ fn write_header(store: &mut [u8], records: usize)
 // The ends in list order, from the first channel record on.
 fn write_openings(store: &mut [u8], openings: &[u8])
     requires { ⌜ headerSize + slotSize * (length (now openings) / openingSize) ≤ length (now store) ⌝ }
-    ensures { λ _. ⌜ now (store .exit) ≡ patch headerSize (tableBytes channelBytes (endsOf (now (openings .entry)))) (now (store .entry)) ⌝ }
+    ensures { λ _. ⌜
+        now (store .exit) ≡ patch headerSize
+        (tableBytes channelBytes (endsOf (now (openings .entry))))
+        (now (store .entry))
+        ⌝ }
 {
     let count = openings.len() / OPENING;
     let mut i: usize = 0;

@@ -18,12 +18,6 @@ returns-2 c =
     let n : ℕ = c .before .before .args .records in
     rw (le-leb 1 n (c .before .if1 .left), lt-leb n recordLimit (c .if2 .taken))
 
-mul-result : tie.Need-mul-result
-mul-result c = search needs
-
-add-result : tie.Need-add-result
-add-result c = search needs
-
 returns-3 : tie.Need-returns-3
 unfolding lengthFor _and_
 returns-3 c =
@@ -31,4 +25,7 @@ returns-3 c =
     rw (le-leb 1 n (c .before .if1 .left), le-leb n recordLimit (c .if2 .left))
 
 pub length-spec : {M : Type 1} → statement M
-length-spec = tie.close (tie.spec returns returns-2 mul-result add-result returns-3)
+length-spec =
+    tie.close
+    (tie.spec
+    returns returns-2 (λ c. search needs) (λ c. search needs) returns-3)

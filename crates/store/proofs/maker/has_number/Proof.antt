@@ -12,7 +12,8 @@ use Rattle.store.proofs.maker.has_number.Statement.{statement}
 use Rattle.store.proofs.maker.has_number.Tie as tie
 
 abbrev Inv-loop : tie.InvT-loop
-Inv-loop openings from channel count i₀ i = channelAt channel (drop from (endsOf openings)) ≡ channelAt channel (drop i (endsOf openings))
+Inv-loop openings from channel count i₀ i =
+    channelAt channel (drop from (endsOf openings)) ≡ channelAt channel (drop i (endsOf openings))
 
 abbrev μ-loop : tie.MeasureT-loop
 μ-loop openings from channel count i₀ i = count - i
@@ -20,27 +21,12 @@ abbrev μ-loop : tie.MeasureT-loop
 loop-holds : tie.Need-loop-holds Inv-loop μ-loop
 loop-holds c = refl
 
-mul-u32-at : tie.Need-mul-u32-at Inv-loop μ-loop
-mul-u32-at c = omega arith
-
-add-u32-at : tie.Need-add-u32-at Inv-loop μ-loop
-add-u32-at c = omega arith
-
-u32-at-requires : tie.Need-u32-at-requires Inv-loop μ-loop
-u32-at-requires c κs = omega arith
-
 returns : tie.Need-returns Inv-loop μ-loop
 returns c =
     let l = c .before .before .before in
     let a = l .before .before .args in
     let turn = number-turn (now (a .openings)) (l .loop .i) (c .before .before .loop-test .taken) (a .channel) in
     rw (l .loop .inv, turn, ← (c .before .u32-at .ensures), eq-eqb _ _ (c .if1 .taken))
-
-add-i : tie.Need-add-i Inv-loop μ-loop
-add-i c = omega arith
-
-loop-less : tie.Need-loop-less Inv-loop μ-loop
-loop-less c = omega arith
 
 loop-again : tie.Need-loop-again Inv-loop μ-loop
 loop-again c =
@@ -60,14 +46,5 @@ pub has-number-spec : {M : Type 1} → statement M
 has-number-spec =
     tie.close
     (tie.spec
-    Inv-loop
-    μ-loop
-    loop-holds
-    mul-u32-at
-    add-u32-at
-    u32-at-requires
-    returns
-    add-i
-    loop-less
-    loop-again
-    returns-2)
+    Inv-loop μ-loop loop-holds (λ c. omega arith) (λ c. omega arith) (λ c κs. omega arith) returns (λ c. omega arith)
+    (λ c. omega arith) loop-again returns-2)

@@ -27,17 +27,11 @@ few : (p : tie.Else3) → let bs = now (p .before .before .before .before .befor
     ltb channelLimit (length bs / openingSize) ≡ false
 few p = le-ltb _ _ (p .if3 .left)
 
-size-fits-requires : tie.Need-size-fits-requires
-size-fits-requires c κs = search needs
-
 returns : tie.Need-returns
 unfolding makeNumber
 returns c =
     let call = c .before .size-fits in
     rw (sym (call .ensures) ∙ not-true (call .result) (c .if1 .taken))
-
-openings-fit-requires : tie.Need-openings-fit-requires
-openings-fit-requires c κs = search needs
 
 returns-2 : tie.Need-returns-2
 unfolding makeNumber
@@ -51,32 +45,25 @@ returns-3 c =
     let count = length (now (c .before .before .before .before .before .before .args .openings)) / openingSize in
     rw (sized (c .before .before .before), whole (c .before), lt-ltb channelLimit count (c .if3 .taken))
 
-numbers-distinct-requires : tie.Need-numbers-distinct-requires
-numbers-distinct-requires c κs = search needs
-
 returns-4 : tie.Need-returns-4
 unfolding makeNumber
 returns-4 c =
     let p = c .before .before in
     let call = c .before .numbers-distinct in
-    rw (sized (p .before .before .before), whole (p .before), few p, sym (call .ensures) ∙ not-true (call .result) (c .if4 .taken))
+    let twice = sym (call .ensures) ∙ not-true (call .result) (c .if4 .taken) in
+    rw (sized (p .before .before .before), whole (p .before), few p, twice)
 
 returns-5 : tie.Need-returns-5
 unfolding makeNumber
 returns-5 c =
     let p = c .before .before in
     let call = c .before .numbers-distinct in
-    rw (sized (p .before .before .before), whole (p .before), few p, sym (call .ensures) ∙ not-false (call .result) (c .if4 .left))
+    let apart = sym (call .ensures) ∙ not-false (call .result) (c .if4 .left) in
+    rw (sized (p .before .before .before), whole (p .before), few p, apart)
 
 pub make-number-spec : {M : Type 1} → statement M
 make-number-spec =
     tie.close
     (tie.spec
-    size-fits-requires
-    returns
-    openings-fit-requires
-    returns-2
-    returns-3
-    numbers-distinct-requires
-    returns-4
+    (λ c κs. search needs) returns (λ c κs. search needs) returns-2 returns-3 (λ c κs. search needs) returns-4
     returns-5)

@@ -20,18 +20,6 @@ abbrev μ-loop : tie.MeasureT-loop
 loop-holds : tie.Need-loop-holds Inv-loop μ-loop
 loop-holds c = refl
 
-add-has-number : tie.Need-add-has-number Inv-loop μ-loop
-add-has-number c = omega arith
-
-mul-u32-at : tie.Need-mul-u32-at Inv-loop μ-loop
-mul-u32-at c = omega arith
-
-add-u32-at : tie.Need-add-u32-at Inv-loop μ-loop
-add-u32-at c = omega arith
-
-u32-at-requires : tie.Need-u32-at-requires Inv-loop μ-loop
-u32-at-requires c κs = omega arith
-
 has-number-requires : tie.Need-has-number-requires Inv-loop μ-loop
 has-number-requires c κs = tt
 
@@ -42,12 +30,6 @@ returns c =
     let l = read .before .before in
     let turn = distinct-turn (now (l .before .before .args .openings)) (l .loop .i) (read .before .loop-test .taken) in
     rw (l .loop .inv, turn, ← (read .u32-at .ensures), ← (c .before .has-number .ensures), c .if1 .taken)
-
-add-i : tie.Need-add-i Inv-loop μ-loop
-add-i c = omega arith
-
-loop-less : tie.Need-loop-less Inv-loop μ-loop
-loop-less c = omega arith
 
 loop-again : tie.Need-loop-again Inv-loop μ-loop
 unfolding _and_
@@ -67,16 +49,5 @@ pub numbers-distinct-spec : {M : Type 1} → statement M
 numbers-distinct-spec =
     tie.close
     (tie.spec
-    Inv-loop
-    μ-loop
-    loop-holds
-    add-has-number
-    mul-u32-at
-    add-u32-at
-    u32-at-requires
-    has-number-requires
-    returns
-    add-i
-    loop-less
-    loop-again
-    returns-2)
+    Inv-loop μ-loop loop-holds (λ c. omega arith) (λ c. omega arith) (λ c. omega arith) (λ c κs. omega arith)
+    has-number-requires returns (λ c. omega arith) (λ c. omega arith) loop-again returns-2)

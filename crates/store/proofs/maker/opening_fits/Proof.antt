@@ -7,24 +7,12 @@ use borrow.Author.Needs.{needs}
 use Rattle.store.proofs.maker.opening_fits.Statement.{statement}
 use Rattle.store.proofs.maker.opening_fits.Tie as tie
 
-u32-at-requires : tie.Need-u32-at-requires
-u32-at-requires c κs = search needs
-
-cast-if1 : tie.Need-cast-if1
-cast-if1 c = search needs
-
 returns : tie.Need-returns
 unfolding _and_
 returns c =
     let o = c .before .before .before in
     let tests = opening-tests (o .args .at) (now (o .args .openings)) (o .pre) in
     rw (tests, ← (c .before .u32-at .ensures), ne-eqb _ _ (c .if1 .taken))
-
-add-u16-at : tie.Need-add-u16-at
-add-u16-at c = search needs
-
-u16-at-requires : tie.Need-u16-at-requires
-u16-at-requires c κs = search needs
 
 returns-2 : tie.Need-returns-2
 unfolding _and_
@@ -39,12 +27,6 @@ returns-2 c =
       ← (c .before .u16-at .ensures),
       ne-eqb _ _ (c .if2 .taken),
     )
-
-add-u8-at : tie.Need-add-u8-at
-add-u8-at c = search needs
-
-u8-at-requires : tie.Need-u8-at-requires
-u8-at-requires c κs = search needs
 
 returns-3 : tie.Need-returns-3
 unfolding _and_
@@ -81,12 +63,6 @@ returns-4 c =
       lt-leb _ 2 (c .if4 .taken),
     )
 
-add-u8-at-2 : tie.Need-add-u8-at-2
-add-u8-at-2 c = search needs
-
-u8-at-requires-2 : tie.Need-u8-at-requires-2
-u8-at-requires-2 c κs = search needs
-
 returns-5 : tie.Need-returns-5
 unfolding _and_
 returns-5 c =
@@ -110,16 +86,6 @@ pub opening-fits-spec : {M : Type 1} → statement M
 opening-fits-spec =
     tie.close
     (tie.spec
-    u32-at-requires
-    cast-if1
-    returns
-    add-u16-at
-    u16-at-requires
-    returns-2
-    add-u8-at
-    u8-at-requires
-    returns-3
-    returns-4
-    add-u8-at-2
-    u8-at-requires-2
+    (λ c κs. search needs) (λ c. search needs) returns (λ c. search needs) (λ c κs. search needs) returns-2
+    (λ c. search needs) (λ c κs. search needs) returns-3 returns-4 (λ c. search needs) (λ c κs. search needs)
     returns-5)

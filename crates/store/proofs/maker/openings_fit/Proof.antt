@@ -24,12 +24,6 @@ returns c = rw (ne-eqb (length (now (c .before .before .args .openings)) % openi
 loop-holds : tie.Need-loop-holds Inv-loop μ-loop
 loop-holds c = refl
 
-mul-opening-fits : tie.Need-mul-opening-fits Inv-loop μ-loop
-mul-opening-fits c = omega arith
-
-opening-fits-requires : tie.Need-opening-fits-requires Inv-loop μ-loop
-opening-fits-requires c κs = omega arith
-
 returns-2 : tie.Need-returns-2 Inv-loop μ-loop
 unfolding _and_
 returns-2 c =
@@ -39,12 +33,6 @@ returns-2 c =
     let turn = fit-turn bs (l .loop .i) (c .before .before .loop-test .taken) in
     let test = not-true (c .before .opening-fits .result) (c .if2 .taken) in
     rw (whole, l .loop .inv, turn, ← (c .before .opening-fits .ensures), test)
-
-add-i : tie.Need-add-i Inv-loop μ-loop
-add-i c = omega arith
-
-loop-less : tie.Need-loop-less Inv-loop μ-loop
-loop-less c = omega arith
 
 loop-again : tie.Need-loop-again Inv-loop μ-loop
 unfolding _and_
@@ -67,14 +55,5 @@ pub openings-fit-spec : {M : Type 1} → statement M
 openings-fit-spec =
     tie.close
     (tie.spec
-    Inv-loop
-    μ-loop
-    returns
-    loop-holds
-    mul-opening-fits
-    opening-fits-requires
-    returns-2
-    add-i
-    loop-less
-    loop-again
-    returns-3)
+    Inv-loop μ-loop returns loop-holds (λ c. omega arith) (λ c κs. omega arith) returns-2 (λ c. omega arith)
+    (λ c. omega arith) loop-again returns-3)

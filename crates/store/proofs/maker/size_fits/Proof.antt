@@ -9,27 +9,15 @@ use borrow.Author.Needs.{needs}
 use Rattle.store.proofs.maker.size_fits.Statement.{statement}
 use Rattle.store.proofs.maker.size_fits.Tie as tie
 
-add-if1 : tie.Need-add-if1
-add-if1 c = search needs
-
 returns : tie.Need-returns
 unfolding sizeFits _and_
 returns c = rw (lt-leb (sizeFor 1) (c .before .args .size) (c .if1 .taken))
-
-mul-if2 : tie.Need-mul-if2
-mul-if2 c = search needs
-
-add-if2 : tie.Need-add-if2
-add-if2 c = search needs
 
 returns-2 : tie.Need-returns-2
 unfolding sizeFits _and_
 returns-2 c =
     let n : ℕ = c .before .before .args .size in
     rw (le-leb (sizeFor 1) n (c .before .if1 .left), lt-leb n (sizeFor recordLimit) (c .if2 .taken))
-
-sub-result : tie.Need-sub-result
-sub-result c = search needs
 
 returns-3 : tie.Need-returns-3
 unfolding sizeFits _and_
@@ -39,4 +27,6 @@ returns-3 c =
 
 pub size-fits-spec : {M : Type 1} → statement M
 size-fits-spec =
-    tie.close (tie.spec add-if1 returns mul-if2 add-if2 returns-2 sub-result returns-3)
+    tie.close
+    (tie.spec
+    (λ c. search needs) returns (λ c. search needs) (λ c. search needs) returns-2 (λ c. search needs) returns-3)

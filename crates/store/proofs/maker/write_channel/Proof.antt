@@ -11,54 +11,6 @@ use Rattle.store.proofs.maker.write_channel.Tie as tie
 small : (o : tie.Start) → (o .args .c .state < 256) × (o .args .c .order < 256)
 small o = (search needs, search needs)
 
-put-u16-requires : tie.Need-put-u16-requires
-put-u16-requires c κs = search needs
-
-add-put-u8 : tie.Need-add-put-u8
-add-put-u8 c = search needs
-
-put-u8-requires : tie.Need-put-u8-requires
-put-u8-requires c κs = search needs
-
-add-put-u8-2 : tie.Need-add-put-u8-2
-add-put-u8-2 c = search needs
-
-put-u8-requires-2 : tie.Need-put-u8-requires-2
-put-u8-requires-2 c κs = search needs
-
-add-put-u32 : tie.Need-add-put-u32
-add-put-u32 c = search needs
-
-put-u32-requires : tie.Need-put-u32-requires
-put-u32-requires c κs = search needs
-
-add-put-u16 : tie.Need-add-put-u16
-add-put-u16 c = search needs
-
-put-u16-requires-2 : tie.Need-put-u16-requires-2
-put-u16-requires-2 c κs = search needs
-
-add-put-u16-2 : tie.Need-add-put-u16-2
-add-put-u16-2 c = search needs
-
-put-u16-requires-3 : tie.Need-put-u16-requires-3
-put-u16-requires-3 c κs = search needs
-
-add-put-u32-2 : tie.Need-add-put-u32-2
-add-put-u32-2 c = search needs
-
-put-u32-requires-2 : tie.Need-put-u32-requires-2
-put-u32-requires-2 c κs = search needs
-
-add-write-counters : tie.Need-add-write-counters
-add-write-counters c = search needs
-
-write-counters-requires : tie.Need-write-counters-requires
-write-counters-requires c κs = search needs
-
-same-length : tie.Need-same-length
-same-length c = search needs
-
 returns : tie.Need-returns
 returns c =
     let c0 = c .before .before in
@@ -72,26 +24,23 @@ returns c =
     let o = c7 .before .before .before in
     let a = o .args in
     let fields = patch-channel (a .at) (a .c) (now (a .store)) (small o .0) (small o .1) in
-    rw (c0 .write-counters .ensures, c1 .put-u322 .ensures, c2 .put-u163 .ensures, c3 .put-u162 .ensures, c4 .put-u32 .ensures, c5 .put-u82 .ensures, c6 .put-u8 .ensures, c7 .put-u16 .ensures) (sym fields)
+    rw (
+      c0 .write-counters .ensures,
+      c1 .put-u322 .ensures,
+      c2 .put-u163 .ensures,
+      c3 .put-u162 .ensures,
+      c4 .put-u32 .ensures,
+      c5 .put-u82 .ensures,
+      c6 .put-u8 .ensures,
+      c7 .put-u16 .ensures,
+    )
+    (sym fields)
 
 pub write-channel-spec : {M : Type 1} → statement M
 write-channel-spec =
     tie.close
     (tie.spec
-    put-u16-requires
-    add-put-u8
-    put-u8-requires
-    add-put-u8-2
-    put-u8-requires-2
-    add-put-u32
-    put-u32-requires
-    add-put-u16
-    put-u16-requires-2
-    add-put-u16-2
-    put-u16-requires-3
-    add-put-u32-2
-    put-u32-requires-2
-    add-write-counters
-    write-counters-requires
-    same-length
-    returns)
+    (λ c κs. search needs) (λ c. search needs) (λ c κs. search needs) (λ c. search needs) (λ c κs. search needs)
+    (λ c. search needs) (λ c κs. search needs) (λ c. search needs) (λ c κs. search needs) (λ c. search needs)
+    (λ c κs. search needs) (λ c. search needs) (λ c κs. search needs) (λ c. search needs) (λ c κs. search needs)
+    (λ c. search needs) returns)
