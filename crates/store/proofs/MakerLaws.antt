@@ -45,13 +45,13 @@ module _ {A : Type 0} where
   distinct-free u n (some x ∷ xs) = rw (find-free (u x) n xs, distinct-free u n xs)
 
 -- ACCEPTED
-record Made (n : ℕ) (os : List ℕ) : Type 0 where
-  sized : Sized n
-  fits : allOpeningsFit (openingsIn os) ≡ true
-  few : length os / openingSize ≤ channelLimit
-  apart : distinct sameNumber (endsOf os) ≡ true
+pub record Made (n : ℕ) (os : List ℕ) : Type 0 where
+  pub sized : Sized n
+  pub fits : allOpeningsFit (openingsIn os) ≡ true
+  pub few : length os / openingSize ≤ channelLimit
+  pub apart : distinct sameNumber (endsOf os) ≡ true
 
-made : (n : ℕ) (os : List ℕ) → makeNumber n os ≡ 0 → Made n os
+pub made : (n : ℕ) (os : List ℕ) → makeNumber n os ≡ 0 → Made n os
 unfolding makeNumber
 made n os h =
     let a = pick-zero (not (sizeFits n)) 20 _ h in

@@ -10,3 +10,4 @@ pub mod Slot
 pub mod Scan
 pub mod SlotTest
 pub mod Effect
+pub mod Length

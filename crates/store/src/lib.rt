@@ -6,6 +6,7 @@ pub mod exact; // bytes laid out exactly as a store's
 pub mod scan; // the first slot that passes a test
 pub mod ordering; // what an ordering means for what is stored
 pub mod fit; // a fit store
+mod maker; // fresh stores out of an opening list
 
 // A height of this ledger, and a height of the other one. Neither can stand where the other is meant.
 pub struct OwnHeight(pub u64);

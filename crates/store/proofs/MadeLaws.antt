@@ -1,0 +1,163 @@
+-- Laws of what the maker writes: a header, the channel records in order, and zeros behind them. Assumes nothing.
+use mathlib.Core.Path.{_≡_, refl, sym, _∙_}
+use mathlib.Core.List.{List, [], _∷_, _++_, append-assoc, append-nil}
+use mathlib.Core.Option.{Option, none, some}
+use Prim.Native.Nat.{ℕ, zero, suc, _+_, _*_, _-_, _/_, _%_, _<_}
+use native.Mathlib.Nat.{add-assoc}
+use native.Mathlib.Omega.{arith}
+use lib.ListN.{length, take, replicate, length-append, length-replicate, replicate-append-replicate}
+use lib.Seq.{length-take-le}
+use borrow.Author.Tests.{ne-eqb}
+use Rattle.wire.specs.Bytes.{little, patch}
+use Rattle.wire.proofs.BytesLaws.{length-little}
+use Rattle.wire.proofs.PatchLaws.{patch-append, patch-then, patch-front}
+use Rattle.store.specs.declared.Channel.{Channel}
+use Rattle.store.specs.declared.Record.{Record}
+use Rattle.store.specs.declared.Counters.{Counters}
+use Rattle.store.specs.Limits.{channelLimit}
+use Rattle.store.specs.Layout.{slotSize, headerSize, sizeFor, roomIn}
+use Rattle.store.specs.Layout.{channelBytes, recordBytes, slotBytes, tableBytes, headerBytes, bytesOf}
+use Rattle.store.specs.Maker.{openingSize, openingOf, endsOf, makeNumber, madeStore, makeTold, makeStore}
+use Rattle.store.proofs.MakerLaws.{made}
+use Rattle.store.proofs.OpeningLaws.{openingAt, length-ends, end-more}
+
+-- TABLES
+module _ {A : Type 0} (f : A → List ℕ) where
+  table-append : (xs ys : List (Option A)) → tableBytes f (xs ++ ys) ≡ tableBytes f xs ++ tableBytes f ys
+  unfolding tableBytes
+  table-append [] ys = refl
+  table-append (x ∷ xs) ys =
+      rw (table-append xs ys, append-assoc (slotBytes f x) (tableBytes f xs) (tableBytes f ys))
+
+  table-free : (n : ℕ) → tableBytes f (replicate n none) ≡ replicate (slotSize * n) 0
+  unfolding tableBytes slotBytes
+  table-free zero = refl
+  table-free (suc n) =
+      let z : slotSize + slotSize * n ≡ slotSize * suc n = omega arith in
+      rw (table-free n, replicate-append-replicate {A = ℕ} slotSize (slotSize * n) 0, z)
+
+length-channel : (c : Channel) → length (channelBytes c) ≡ slotSize
+unfolding channelBytes little
+length-channel c = refl
+
+pub length-channels : (xs : List (Option Channel)) → length (tableBytes channelBytes xs) ≡ slotSize * length xs
+unfolding tableBytes slotBytes
+length-channels [] = refl
+length-channels (none ∷ xs) = omega (arith, length-channels xs)
+length-channels (some c ∷ xs) =
+    length-append (channelBytes c) (tableBytes channelBytes xs) ∙ omega (arith, length-channel c, length-channels xs)
+
+-- one end more
+pub patch-end : (i : ℕ) (os bs : List ℕ) → i < length os / openingSize
+    → patch (headerSize + slotSize * i) (channelBytes (openingOf (openingAt os i)))
+    (patch headerSize (tableBytes channelBytes (take i (endsOf os))) bs)
+    ≡ patch headerSize (tableBytes channelBytes (take (i + 1) (endsOf os))) bs
+unfolding tableBytes slotBytes
+patch-end i os bs more =
+    let before : List (Option Channel) = take i (endsOf os) in
+    let next : Channel = openingOf (openingAt os i) in
+    let count : length before ≡ i = length-take-le i (endsOf os) (omega (arith, length-ends os)) in
+    let size : length (tableBytes channelBytes before) ≡ slotSize * i = length-channels before ∙ omega arith in
+    patch-then headerSize (slotSize * i) (tableBytes channelBytes before) (channelBytes next) bs size
+    ∙ rw (end-more os i more, table-append channelBytes before (some next ∷ []), append-nil (channelBytes next))
+
+-- FIELD BY FIELD
+two-bytes : (x y : ℕ) → x < 256 → y < 256 → x ∷ y ∷ [] ≡ little 1 x ++ little 1 y
+unfolding little
+two-bytes x y h k =
+    let a : x % 256 ≡ x = omega arith in
+    let b : y % 256 ≡ y = omega arith in
+    rw (a, b)
+
+abbrev pub counterBytes : Counters → List ℕ
+counterBytes n = little 8 (n .send) ++ little 8 (n .receive) ++ little 8 (n .acknowledge) ++ replicate 24 0
+
+pub patch-counters : (at : ℕ) (n : Counters) (bs : List ℕ)
+    → patch at (counterBytes n) bs
+    ≡ patch (at + 24) (replicate 24 0)
+    (patch (at + 16) (little 8 (n .acknowledge))
+    (patch (at + 8) (little 8 (n .receive)) (patch at (little 8 (n .send)) bs)))
+patch-counters at n bs = simp (patch-append, length-append, length-little, add-assoc)
+
+pub patch-channel : (at : ℕ) (c : Channel) (bs : List ℕ) → c .state < 256 → c .order < 256
+    → patch at (channelBytes c) bs
+    ≡ patch (at + 16) (counterBytes (c .next))
+    (patch (at + 12) (little 4 (c .counterparty .channel))
+    (patch (at + 10) (little 2 (c .counterparty .port))
+    (patch (at + 8) (little 2 (c .own .port))
+    (patch (at + 4) (little 4 (c .own .channel))
+    (patch (at + 3) (little 1 (c .order)) (patch (at + 2) (little 1 (c .state)) (patch at (little 2 1) bs)))))))
+unfolding channelBytes
+patch-channel at c bs s o =
+    rw (two-bytes (c .state) (c .order) s o) (simp (patch-append, length-append, length-little, add-assoc))
+
+pub patch-header : (n : ℕ) (bs : List ℕ)
+    → patch 0 (headerBytes 0 0 n) bs
+    ≡ patch 28 (replicate 36 0)
+    (patch 24 (little 4 n)
+    (patch 16 (little 8 0)
+    (patch 8 (little 8 0)
+    (patch 6 (little 2 channelLimit) (patch 4 (little 2 0x0401) (patch 0 (little 4 (sizeFor n)) bs))))))
+unfolding headerBytes
+patch-header n bs = simp (patch-append, length-append, length-little)
+
+-- THE WHOLE
+patch-whole : (xs bs : List ℕ) → length xs ≡ length bs → patch 0 xs bs ≡ xs
+patch-whole xs bs l =
+    let front = patch-front xs bs [] l in
+    simp append-nil at front
+
+length-header : (h t n : ℕ) → length (headerBytes h t n) ≡ headerSize
+unfolding headerBytes little
+length-header h t n = refl
+
+-- a made store is a header, the ends, and zeros
+made-parts : (n : ℕ) (os : List ℕ) → makeNumber n os ≡ 0
+    → bytesOf (madeStore n os)
+    ≡ headerBytes 0 0 (roomIn n) ++
+    (tableBytes channelBytes (endsOf os) ++ replicate (n - (headerSize + slotSize * (length os / openingSize))) 0)
+unfolding bytesOf madeStore
+made-parts n os h =
+    let m = made n os h in
+    let k : ℕ = length os / openingSize in
+    let ends : List ℕ = tableBytes channelBytes (endsOf os) in
+    let free : ℕ = slotSize * (channelLimit - k) in
+    let records : ℕ = slotSize * roomIn n in
+    let rest : free + records ≡ n - (headerSize + slotSize * k) = omega (arith, m .sized .whole, m .few) in
+    rw (
+      length-replicate {A = Option Record} (roomIn n) none,
+      table-append channelBytes (endsOf os) (replicate (channelLimit - k) none),
+      table-free channelBytes (channelLimit - k),
+      table-free recordBytes (roomIn n),
+      append-assoc ends (replicate free 0) (replicate records 0),
+      replicate-append-replicate {A = ℕ} free records 0,
+      rest,
+    )
+
+-- and written so
+pub patch-made : (bs os : List ℕ) → makeNumber (length bs) os ≡ 0
+    → patch (headerSize + slotSize * (length os / openingSize))
+    (replicate (length bs - (headerSize + slotSize * (length os / openingSize))) 0)
+    (patch headerSize (tableBytes channelBytes (endsOf os)) (patch 0 (headerBytes 0 0 (roomIn (length bs))) bs))
+    ≡ bytesOf (madeStore (length bs) os)
+patch-made bs os h =
+    let m = made (length bs) os h in
+    let from : ℕ = headerSize + slotSize * (length os / openingSize) in
+    let header : List ℕ = headerBytes 0 0 (roomIn (length bs)) in
+    let ends : List ℕ = tableBytes channelBytes (endsOf os) in
+    let zeros : List ℕ = replicate (length bs - from) 0 in
+    let lh : length header ≡ headerSize = length-header 0 0 (roomIn (length bs)) in
+    let le : length ends ≡ slotSize * (length os / openingSize) =
+    length-channels (endsOf os) ∙ omega (arith, length-ends os) in
+    let lz : length zeros ≡ length bs - from = length-replicate (length bs - from) 0 in
+    let whole : length (header ++ (ends ++ zeros)) ≡ length bs =
+    simp length-append (omega (arith, lh, le, lz, m .sized .whole, m .few)) in
+    patch-then headerSize (slotSize * (length os / openingSize)) ends zeros (patch 0 header bs) le
+    ∙ patch-then 0 headerSize header (ends ++ zeros) bs lh
+    ∙ patch-whole (header ++ (ends ++ zeros)) bs whole
+    ∙ sym (made-parts (length bs) os h)
+
+-- a refusal leaves all bytes as they are
+pub make-refused : (bs os : List ℕ) → (makeTold bs os ≡ 0 → ⊥) → makeStore bs os ≡ bs
+unfolding makeStore
+make-refused bs os h = rw (makeStore, ne-eqb (makeTold bs os) 0 h)
