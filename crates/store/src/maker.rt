@@ -4,7 +4,8 @@ use super::Channel;
 use super::Counters;
 use super::End;
 use super::Store;
-use wire::put_u8;
+use super::exact::size_fits;
+use super::slot::put_channel;
 use wire::put_u16;
 use wire::put_u32;
 use wire::put_u64;
@@ -13,28 +14,20 @@ use wire::u8_at;
 use wire::u16_at;
 use wire::u32_at;
 ghost use mathlib.Core.Path.{_≡_};
-ghost use mathlib.Core.List.{_++_};
 ghost use Prim.Native.Nat.{_+_, _*_, _/_, _%_, _≤_};
 ghost use lib.Dec.{eqb};
-ghost use lib.ListN.{length, drop, replicate};
+ghost use lib.ListN.{length, drop};
 ghost use Rattle.wire.specs.Choice.{_and_, isSome};
-ghost use Rattle.wire.specs.Bytes.{little, part, patch};
+ghost use Rattle.wire.specs.Bytes.{part, patch};
 ghost use Rattle.store.specs.Limits.{recordLimit};
 ghost use Rattle.store.specs.Table.{distinct, sameNumber, channelAt};
 ghost use Rattle.store.specs.Layout.{headerSize, slotSize, channelBytes, tableBytes, headerBytes, bytesOf};
-ghost use Rattle.store.specs.Fit.{sizeFits};
 ghost use Rattle.store.specs.Length.{lengthFor};
 ghost use Rattle.store.specs.Maker.{openingSize, openingsIn, openingFits, allOpeningsFit, openingOf, endsOf};
 ghost use Rattle.store.specs.Maker.{makeNumber, madeStore, makeTold, makeStore};
 
-// The header, a record of either table and an opening, in bytes, and where the packet records start.
-const HEADER: usize = 64;
-
-const SLOT: usize = 64;
-
+// An opening, in bytes.
 const OPENING: usize = 20;
-
-const RECORDS_FROM: usize = HEADER + SLOT * Store::CHANNELS;
 
 impl Store {
     // The length of a store with so many packet records, or 0 where no store has so many.
@@ -47,7 +40,7 @@ impl Store {
         if Store::RECORDS < records {
             return 0;
         }
-        RECORDS_FROM + SLOT * records
+        Store::RECORDS_FROM + Store::SLOT * records
     }
 
     // Makes a fresh store of the whole slice. Answers 0, or why not: 21 to 24.
@@ -62,18 +55,6 @@ impl Store {
         write_store(store, openings);
         0
     }
-}
-
-fn size_fits(size: usize) -> bool
-    ensures { λ r. ⌜ r ≡ sizeFits size ⌝ }
-{
-    if size < RECORDS_FROM + SLOT {
-        return false;
-    }
-    if RECORDS_FROM + SLOT * Store::RECORDS < size {
-        return false;
-    }
-    (size - RECORDS_FROM) % SLOT == 0
 }
 
 // The opening from `at` on: length, kind, order and zero byte.
@@ -188,42 +169,16 @@ fn opening_at(openings: &[u8], at: usize) -> Channel
     }
 }
 
-// The three counters and the zero bytes behind them.
-fn write_counters(store: &mut [u8], at: usize, next: Counters)
-    requires { ⌜ at + 48 ≤ length (now store) ⌝ }
-    ensures { λ _. ⌜
-        now (store .exit) ≡ patch at
-        (little 8 (next .send) ++ little 8 (next .receive) ++ little 8 (next .acknowledge) ++ replicate 24 0)
-        (now (store .entry))
-        ⌝ }
-{
-    put_u64(store, at, next.send);
-    put_u64(store, at + 8, next.receive);
-    put_u64(store, at + 16, next.acknowledge);
-    put_zeros(store, at + 24, 24);
-}
-
-fn write_channel(store: &mut [u8], at: usize, c: Channel)
-    requires { ⌜ at + slotSize ≤ length (now store) ⌝ }
-    ensures { λ _. ⌜ now (store .exit) ≡ patch at (channelBytes c) (now (store .entry)) ⌝ }
-{
-    put_u16(store, at, 1);
-    put_u8(store, at + 2, c.state);
-    put_u8(store, at + 3, c.order);
-    put_u32(store, at + 4, c.own.channel);
-    put_u16(store, at + 8, c.own.port);
-    put_u16(store, at + 10, c.counterparty.port);
-    put_u32(store, at + 12, c.counterparty.channel);
-    let next = c.next;
-    write_counters(store, at + 16, next);
-}
-
 // Last height and time are 0.
 fn write_header(store: &mut [u8], records: usize)
     requires { ⌜ (headerSize ≤ length (now store)) × (records ≤ recordLimit) ⌝ }
     ensures { λ _. ⌜ now (store .exit) ≡ patch 0 (headerBytes 0 0 records) (now (store .entry)) ⌝ }
 {
-    put_u32(store, 0, (RECORDS_FROM + SLOT * records) as u32);
+    put_u32(
+        store,
+        0,
+        (Store::RECORDS_FROM + Store::SLOT * records) as u32,
+    );
     put_u16(store, 4, 0x0401);
     put_u16(store, 6, Store::CHANNELS as u16);
     put_u64(store, 8, 0);
@@ -244,7 +199,11 @@ fn write_openings(store: &mut [u8], openings: &[u8])
     let count = openings.len() / OPENING;
     let mut i: usize = 0;
     while i < count {
-        write_channel(store, HEADER + SLOT * i, opening_at(openings, OPENING * i));
+        put_channel(
+            store,
+            Store::HEADER + Store::SLOT * i,
+            opening_at(openings, OPENING * i),
+        );
         i += 1;
     }
 }
@@ -255,8 +214,8 @@ fn write_store(store: &mut [u8], openings: &[u8])
     ensures { λ _. ⌜ now (store .exit) ≡ bytesOf (madeStore (length (now (store .entry))) (now (openings .entry))) ⌝ }
 {
     let size = store.len();
-    let from = HEADER + SLOT * (openings.len() / OPENING);
-    write_header(store, (size - RECORDS_FROM) / SLOT);
+    let from = Store::HEADER + Store::SLOT * (openings.len() / OPENING);
+    write_header(store, (size - Store::RECORDS_FROM) / Store::SLOT);
     write_openings(store, openings);
     put_zeros(store, from, size - from);
 }

@@ -25,8 +25,8 @@ loop-holds : tie.Need-loop-holds Inv-loop μ-loop
 unfolding patch tableBytes
 loop-holds c = (omega arith, refl)
 
-write-channel-requires : tie.Need-write-channel-requires Inv-loop μ-loop
-write-channel-requires c κs = rw (c .before .before .before .loop .inv .1) (simp length-patch (omega arith))
+put-channel-requires : tie.Need-put-channel-requires Inv-loop μ-loop
+put-channel-requires c κs = rw (c .before .before .before .loop .inv .1) (simp length-patch (omega arith))
 
 loop-again : tie.Need-loop-again Inv-loop μ-loop
 loop-again c =
@@ -35,7 +35,7 @@ loop-again c =
     let l = test .before in
     let a = l .before .before .before .args in
     let one = patch-end (l .loop .i) (now (a .openings)) (now (a .store)) (test .loop-test .taken) in
-    (omega arith, rw (call .write-channel .ensures, call .before .opening-at .ensures, l .loop .inv .1) one)
+    (omega arith, rw (call .put-channel .ensures, call .before .opening-at .ensures, l .loop .inv .1) one)
 
 same-length : tie.Need-same-length Inv-loop μ-loop
 same-length c = rw (c .before .loop .inv .1) (length-patch _ _ _)
@@ -52,4 +52,4 @@ write-openings-spec =
     tie.close
     (tie.spec
     Inv-loop μ-loop loop-holds (λ c. omega arith) (λ c. omega arith) (λ c. omega arith) (λ c κs. omega arith)
-    write-channel-requires (λ c. omega arith) (λ c. omega arith) loop-again same-length returns)
+    put-channel-requires (λ c. omega arith) (λ c. omega arith) loop-again same-length returns)
