@@ -1,6 +1,6 @@
 -- What a scan's answer tells of the table, whatever the entries are: an operation on the first slot that passes a test
 -- is one on the slot at the index found. Assumes nothing.
-use mathlib.Core.Path.{_≡_, refl, ap}
+use mathlib.Core.Path.{_≡_, refl, sym, ap, _∙_}
 use mathlib.Core.Bool.{Bool, true, false}
 use mathlib.Core.List.{List, [], _∷_}
 use mathlib.Core.Option.{Option, none, some}
@@ -10,12 +10,17 @@ use native.Mathlib.Omega.{arith}
 use lib.ListN.{length, getD, set, drop}
 use lib.Seq.{drop-drop}
 use Rattle.wire.specs.Choice.{isSome}
-use Rattle.wire.specs.Bytes.{part, pieces}
+use Rattle.wire.specs.Bytes.{areZero, part, pieces}
 use Rattle.wire.proofs.ChoiceLaws.{cases, clash}
+use Rattle.store.specs.declared.Channel.{Channel}
+use Rattle.store.specs.declared.Record.{Record}
 use Rattle.store.specs.declared.Found.the-variants.{At, Nothing}
 use Rattle.store.specs.Table.{find, replace, insert, hasFree}
-use Rattle.store.specs.Layout.{slotSize, slotIn, tableIn}
+use Rattle.store.specs.Limits.{channelLimit}
+use Rattle.store.specs.Layout.{headerSize, slotSize, recordsFrom, roomIn}
+use Rattle.store.specs.Layout.{channelIn, recordIn, slotIn, tableIn, storeIn}
 use Rattle.store.specs.Scan.{indexWhere, isFree, holds, firstFree, firstThat}
+use Rattle.store.proofs.FitLaws.{length-read}
 
 -- the slot at an index is the first that passes a test
 abbrev pub First : {A : Type 0} → (Option A → Bool) → ℕ → List (Option A) → Type 0
@@ -133,3 +138,30 @@ module _ {A : Type 0} where
   table-at f (suc n) (suc i) bs h =
       let k : slotSize * suc i ≡ slotSize + slotSize * i = omega arith in
       rw (k, ← drop-drop (slotSize * i) slotSize bs) (table-at f n i (drop slotSize bs) (le-of-suc-le-suc h))
+
+  -- what a scan of such a table finds is what the bytes at that slot are read as
+  pub table-found : (f : List ℕ → A) (t : A → Bool) (n i from : ℕ) (bs : List ℕ) →
+      firstThat t (tableIn f n (drop from bs)) ≡ At i →
+      find t (tableIn f n (drop from bs)) ≡ some (f (part (from + slotSize * i) slotSize bs))
+  unfolding slotIn part
+  table-found f t n i from bs h =
+      let xs : List (Option A) = tableIn f n (drop from bs) in
+      let p : List ℕ = part (slotSize * i) slotSize (drop from bs) in
+      let below : i < n = omega (arith, found-below (holds t) i xs h, length-read f n (drop from bs)) in
+      let slot = find-found t i xs h ∙ table-at f n i (drop from bs) below in
+      let there : isSome (slotIn f p) ≡ true = ap isSome (sym slot) ∙ some-found t i xs h in
+      let place : p ≡ part (from + slotSize * i) slotSize bs = rw (drop-drop (slotSize * i) from bs) in
+      let taken : slotIn f p ≡ some (f p) =
+      cases (areZero p) (λ e. clash {b = isSome (slotIn f p)} there (cc)) (λ e. cc) in
+      slot ∙ taken ∙ ap (λ (q : List ℕ). some (f q)) place
+
+-- THE TWO TABLES of a store that is read
+pub channel-found : (t : Channel → Bool) (j : ℕ) (bs : List ℕ) → firstThat t (storeIn bs .channels) ≡ At j →
+    find t (storeIn bs .channels) ≡ some (channelIn (part (headerSize + slotSize * j) slotSize bs))
+unfolding storeIn
+channel-found t j bs h = table-found channelIn t channelLimit j headerSize bs h
+
+pub record-found : (t : Record → Bool) (i : ℕ) (bs : List ℕ) → firstThat t (storeIn bs .records) ≡ At i →
+    find t (storeIn bs .records) ≡ some (recordIn (part (recordsFrom + slotSize * i) slotSize bs))
+unfolding storeIn
+record-found t i bs h = table-found recordIn t (roomIn (length bs)) i recordsFrom bs h

@@ -23,7 +23,8 @@ returns c =
     let a = o .args in
     let h = a .height .0 in
     let both = patch-then 8 8 (little 8 h) (little 8 (a .time)) (now (a .s)) (length-little 8 h) in
-    rw (second .put-u642 .ensures, first .put-u64 .ensures, both) (exact-times (now (a .s)) (o .pre) (a .height) (a .time))
+    rw (second .put-u642 .ensures, first .put-u64 .ensures, both)
+    (exact-times (now (a .s)) (o .pre) (a .height) (a .time))
 
 pub set-times-spec : {M : Type 1} → statement M
 set-times-spec =
