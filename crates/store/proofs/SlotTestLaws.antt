@@ -3,30 +3,28 @@ use mathlib.Core.Path.{_≡_, refl, sym, ap, _∙_}
 use mathlib.Core.Bool.{Bool, true, false, not}
 use mathlib.Core.List.{List, [], _∷_, map}
 use mathlib.Core.Option.{Option, none, some}
-use Prim.Native.Nat.{ℕ, suc, _+_, _*_, _-_, _<_}
+use Prim.Native.Nat.{ℕ, suc, _+_, _<_}
 use native.Mathlib.Nat.{add-zero}
 use native.Mathlib.Omega.{arith}
 use lib.Dec.{eqb}
 use lib.ListN.{length, drop}
-use lib.Seq.{drop-drop}
 use Rattle.wire.specs.Choice.{_and_, isSome}
 use Rattle.wire.specs.Bytes.{areZero, part, field}
-use Rattle.wire.proofs.ChoiceLaws.{cases, clash}
+use Rattle.wire.proofs.ChoiceLaws.{cases}
 use Rattle.wire.proofs.PartLaws.{and-assoc}
 use Rattle.store.specs.declared.Channel.{Channel}
 use Rattle.store.specs.declared.Record.{Record}
 use Rattle.store.specs.declared.Found.the-variants.{At}
 use Rattle.store.specs.Table.{find, all, distinct, isNumbered, Key, hasKey}
 use Rattle.store.specs.Limits.{channelLimit}
-use Rattle.store.specs.Layout.{headerSize, slotSize, recordsFrom, sizeFor}
+use Rattle.store.specs.Layout.{headerSize, slotSize, recordsFrom, sizeFor, roomIn}
 use Rattle.store.specs.Layout.{channelIn, recordIn, slotIn, storeIn}
-use Rattle.store.specs.Scan.{indexWhere, isFree, holds, firstThat}
-use Rattle.store.specs.SlotTest.{slotAt, tableFrom, everySlot, fitsBefore, isAt}
+use Rattle.store.specs.Scan.{indexWhere, isFree, holds}
+use Rattle.store.specs.SlotTest.{everySlot, fitsBefore, isAt}
 use Rattle.store.proofs.TestLaws.{and-true, and-false, and-comm, and-swap, holds-then, fails-then}
 use Rattle.store.proofs.FitLaws.{length-read}
 use Rattle.store.proofs.SlotLaws.{field-part}
-use Rattle.store.proofs.ScanLaws.{find-found, some-found, found-below, table-at}
-use Rattle.store.proofs.TurnLaws.{records-from}
+use Rattle.store.proofs.ScanLaws.{found-below}
 
 module _ {A : Type 0} (g : List ℕ → A) (p : List ℕ) where
   -- it is free where its bytes are zero
@@ -62,10 +60,6 @@ module _ (at : ℕ) (bs : List ℕ) where
       )
 
 -- WHAT A SCAN FOUND
-part-drop : (i n m : ℕ) (bs : List ℕ) → part i n (drop m bs) ≡ part (m + i) n bs
-unfolding part
-part-drop i n m bs = rw (drop-drop i m bs)
-
 module _ {A : Type 0} where
   -- an entry passes where a scan from any index finds one
   pub find-at : (t : A → Bool) (n : ℕ) (xs : List (Option A)) → isSome (find t xs) ≡ isAt (indexWhere (holds t) n xs)
@@ -74,28 +68,6 @@ module _ {A : Type 0} where
   find-at t n (none ∷ xs) = find-at t (suc n) xs
   find-at t n (some x ∷ xs) =
       cases (t x) (λ e. rw (find, e)) (λ e. rw (find, e) (find-at t (suc n) xs))
-
-  slot-some : (g : List ℕ → A) (p : List ℕ) → isSome (slotIn g p) ≡ true → slotIn g p ≡ some (g p)
-  unfolding slotIn
-  slot-some g p h = cases (areZero p) (λ e. clash h (rw (slotIn, e))) (λ e. rw (slotIn, e))
-
-  -- it is the one that stands in the slot at that index
-  module _ (g : List ℕ → A) (start n : ℕ) (bs : List ℕ) (j : ℕ) where
-    found-index : (t : Option A → Bool) → indexWhere t 0 (tableFrom g start n bs 0) ≡ At j → j < n
-    found-index t h =
-        let l = length-read g (n - 0) (drop (start + slotSize * 0) bs) in
-        omega (arith, found-below t j (tableFrom g start n bs 0) h)
-
-    found-entry : (t : A → Bool) → firstThat t (tableFrom g start n bs 0) ≡ At j →
-        find t (tableFrom g start n bs 0) ≡ some (g (slotAt start bs j))
-    found-entry t h =
-        let xs = tableFrom g start n bs 0 in
-        let k : start + slotSize * 0 + slotSize * j ≡ start + slotSize * j = omega arith in
-        let slot = table-at g (n - 0) j (drop (start + slotSize * 0) bs) (omega (arith, found-index (holds t) h)) in
-        let place : part (slotSize * j) slotSize (drop (start + slotSize * 0) bs) ≡ slotAt start bs j =
-        rw (part-drop (slotSize * j) slotSize (start + slotSize * 0) bs, k) in
-        let e = find-found t j xs h ∙ slot ∙ ap (slotIn g) place in
-        e ∙ slot-some g (slotAt start bs j) (sym (ap isSome e) ∙ some-found t j xs h)
 
   -- ALL AND DISTINCT, of a table that is read, in one scan
   module _ (t : A → Bool) (u : A → A → Bool) (g : List ℕ → A) where
@@ -133,22 +105,17 @@ module _ {A : Type 0} where
         slot-fit h n found =
             rw (slot-held, holds-then (not (isSome (find (u x) xs))) tested h, find-at (u x) n xs, found)
 
--- THE TWO TABLES of a store: what a scan found is at its place
-module _ (bs : List ℕ) (i : ℕ) where
+-- AN INDEX that a scan of a store's table found is one of the table's
+module _ (i : ℕ) (bs : List ℕ) where
   pub channel-index : (t : Option Channel → Bool) → indexWhere t 0 (storeIn bs .channels) ≡ At i → i < channelLimit
   unfolding storeIn
-  channel-index t h = found-index channelIn headerSize channelLimit bs i t h
+  channel-index t h =
+      let l = length-read channelIn channelLimit (drop headerSize bs) in
+      omega (arith, found-below t i (storeIn bs .channels) h)
 
-  pub channel-found : (t : Channel → Bool) → firstThat t (storeIn bs .channels) ≡ At i →
-      find t (storeIn bs .channels) ≡ some (channelIn (slotAt headerSize bs i))
-  unfolding storeIn
-  channel-found t h = found-entry channelIn headerSize channelLimit bs i t h
-
-  module _ (n : ℕ) (size : length bs ≡ sizeFor n) where
-    pub record-index : (t : Option Record → Bool) → indexWhere t 0 (storeIn bs .records) ≡ At i → i < n
-    record-index t h = found-index recordIn recordsFrom n bs i t (rw (records-from n bs size) at h)
-
-    pub record-found : (t : Record → Bool) → firstThat t (storeIn bs .records) ≡ At i →
-        find t (storeIn bs .records) ≡ some (recordIn (slotAt recordsFrom bs i))
-    record-found t h =
-        rw (records-from n bs size) (found-entry recordIn recordsFrom n bs i t (rw (records-from n bs size) at h))
+  pub record-index : (t : Option Record → Bool) (n : ℕ) → length bs ≡ sizeFor n →
+      indexWhere t 0 (storeIn bs .records) ≡ At i → i < n
+  unfolding storeIn roomIn
+  record-index t n size h =
+      let l = length-read recordIn (roomIn (length bs)) (drop recordsFrom bs) in
+      omega (arith, found-below t i (storeIn bs .records) h)

@@ -13,8 +13,8 @@ use Rattle.store.specs.Table.{isNumbered}
 use Rattle.store.specs.Layout.{storeIn}
 use Rattle.store.specs.Scan.{holds, firstThat}
 use Rattle.store.specs.Fit.{fitsEnd, recordFits}
-use Rattle.store.proofs.ScanLaws.{find-nothing}
-use Rattle.store.proofs.SlotTestLaws.{channel-index, channel-found}
+use Rattle.store.proofs.ScanLaws.{find-nothing, channel-found}
+use Rattle.store.proofs.SlotTestLaws.{channel-index}
 use Rattle.store.proofs.fit.record_fits.Statement.{statement}
 use Rattle.store.proofs.fit.record_fits.Tie as tie
 
@@ -32,7 +32,7 @@ found : (k : tie.After-known-told) → firstThat (isNumbered (number k)) (storeI
 found k = sym (k .before .before .before .find-channel .ensures) ∙ k .before .j .given .1
 
 below : (k : tie.After-known-told) → index k < channelLimit
-below k = channel-index (bytes k) (index k) (holds (isNumbered (number k))) (found k)
+below k = channel-index (index k) (bytes k) (holds (isNumbered (number k))) (found k)
 
 returns : tie.Need-returns
 unfolding recordFits _and_
@@ -65,7 +65,7 @@ returns-3 c =
     rw (
       recordFits,
       le-leb 1 (d .before .before .before .args .r .sequence) (omega arith),
-      channel-found (bytes k) (index k) (isNumbered (number k)) (found k),
+      channel-found (isNumbered (number k)) (index k) (bytes k) (found k),
       ← c .before .channel-at .ensures,
     )
     (c .fits-end .ensures)
