@@ -1,5 +1,7 @@
 // The store: one ledger's channel ends and packet records, in bytes that the host lends. Its types; specs/ says what
 // they mean.
+pub mod effect; // what acceptance does to the lent store
+pub mod slot; // a channel end or a packet record in 64 bytes
 
 // A height of this ledger, and a height of the other one. Neither can stand where the other is meant.
 pub struct OwnHeight(pub u64);
@@ -52,4 +54,17 @@ impl Store {
     pub const RECORDS: usize = 512;
 
     pub const OUTPUT: usize = 106;
+
+    // Where the tables start, and the size of their records.
+    pub const HEADER: usize = 64;
+
+    pub const SLOT: usize = 64;
+
+    pub const RECORDS_FROM: usize = Store::HEADER + Store::SLOT * Store::CHANNELS;
+}
+
+// Where a scan of a table's slots ends: at an index, or behind them all.
+pub enum Found {
+    At(usize),
+    Nothing,
 }
