@@ -2,6 +2,8 @@
 // they mean.
 pub mod effect; // what acceptance does to the lent store
 pub mod slot; // a channel end or a packet record in 64 bytes
+pub mod exact; // bytes laid out exactly as a store's
+pub mod scan; // the first slot that passes a test
 
 // A height of this ledger, and a height of the other one. Neither can stand where the other is meant.
 pub struct OwnHeight(pub u64);
