@@ -3,6 +3,7 @@ use super::Channel;
 use super::Counters;
 use super::End;
 use super::Record;
+use super::Store;
 use super::Timeout;
 use wire::digest_at;
 use wire::put_digest;
