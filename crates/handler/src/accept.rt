@@ -126,10 +126,7 @@ fn accept_write(store: &mut [u8], output: &mut [u8], datagram: &[u8], c: Channel
     write_record(store, written);
     let own = c.own;
     let size = emit_written(output, own, sequence, digest);
-    Carried {
-        end: c,
-        size: size,
-    }
+    Carried { end: c, size: size }
 }
 
 fn accept_acknowledge(store: &mut [u8], output: &mut [u8], datagram: &[u8], c: Channel) -> Carried

@@ -68,10 +68,7 @@ pub(crate) fn plain_record(kind: u16, channel: u32, sequence: u64, digest: [u8; 
         kind: kind,
         channel: channel,
         sequence: sequence,
-        timeout: Timeout {
-            height: 0,
-            time: 0,
-        },
+        timeout: Timeout { height: 0, time: 0 },
         digest: digest,
     }
 }

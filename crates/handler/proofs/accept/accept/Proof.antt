@@ -36,8 +36,11 @@ store o = now (o .args .store)
 abbrev heard : tie.Start → List ℕ
 heard o = now (o .args .datagram)
 
-accepted : (o : tie.Start) → (c : Channel) × Accepts (store o) (now (o .args .output)) (heard o) (datagramIn (heard o) .kind) c
-accepted o = accepts (store o) (now (o .args .output)) (heard o) (o .pre)
+abbrev output : tie.Start → List ℕ
+output o = now (o .args .output)
+
+accepted : (o : tie.Start) → (c : Channel) × Accepts (store o) (output o) (heard o) (datagramIn (heard o) .kind) c
+accepted o = accepts (store o) (output o) (heard o) (o .pre)
 
 sized : (o : tie.Start) → length (heard o) ≡ sizeOfKind (kindIn (heard o))
 sized o = sound (accepted o .1) .size
@@ -56,7 +59,8 @@ number : (i : tie.After-channel-in) → i .channel-in .result ≡ datagramIn (he
 unfolding datagramIn
 number i = i .channel-in .ensures ∙ ap (λ (k : ℕ). channelFrom k (heard (first i))) (i .before .kind-in .ensures)
 
-there : (i : tie.After-channel-in) → isSome (channelAt (i .channel-in .result) (storeIn (store (first i)) .channels)) ≡ true
+there : (i : tie.After-channel-in) →
+    isSome (channelAt (i .channel-in .result) (storeIn (store (first i)) .channels)) ≡ true
 there i =
     ap (λ (n : ℕ). isSome (channelAt n (storeIn (store (first i)) .channels))) (number i) ∙
     ap isSome (accepted (first i) .1 .found)
@@ -66,8 +70,10 @@ below j =
     let i = j .before .before in
     index-below (i .channel-in .result) (j .channel-index .result) (store (first i)) (j .channel-index .ensures)
 
-here : (x : tie.After-channel-at) → Accepts (store (first (x .before .before .before .before)))
-    (now (first (x .before .before .before .before) .args .output)) (heard (first (x .before .before .before .before)))
+abbrev entry : tie.After-channel-at → tie.Start
+entry x = first (x .before .before .before .before)
+
+here : (x : tie.After-channel-at) → Accepts (store (entry x)) (output (entry x)) (heard (entry x))
     (x .before .before .before .before .before .kind-in .result) (x .channel-at .result)
 unfolding datagramIn
 here x =
@@ -128,7 +134,7 @@ context-in-requires : tie.Need-context-in-requires
 context-in-requires c κs =
     let y = c .before .before .before .before .before .before .before .before .before in
     let x = y .before .before .before in
-    let o = first (x .before .before .before .before) in
+    let o = entry x in
     omega (arith, sized o, digest-room (kindIn (heard o)))
 
 set-times-requires : tie.Need-set-times-requires
@@ -155,12 +161,11 @@ returns c =
     let o = f .before .before .before in
     let done = y .carry-out .ensures in
     let h = held-records b (heard-bytes f) a (done .store) in
-    let t = held-tables b (heard-bytes f) a h (found (x .before .before)) (done .end) (z .set-channel .ensures) in
-    (
+    let t = held-tables b (heard-bytes f) a h (found (x .before .before)) (done .end) (z .set-channel .ensures) in (
       done .size ∙ ap (λ (e : Effect). length (e .emitted)) (effect-is a),
       (
-      held-all b (heard-bytes f) a t (w .before .before .before .context-in .ensures) (w .set-times .ensures),
-      done .output ∙ ap (λ (e : Effect). atFront (e .emitted) (now (o .args .output))) (effect-is a),
+        held-all b (heard-bytes f) a t (w .before .before .before .context-in .ensures) (w .set-times .ensures),
+        done .output ∙ ap (λ (e : Effect). atFront (e .emitted) (output o)) (effect-is a),
       ),
     )
 

@@ -5,7 +5,8 @@ use native.Mathlib.Omega.{arith}
 use borrow.Author.Needs.{needs}
 use Rattle.datagram.specs.Datagram.{sizeOfKind, datagramIn}
 use Rattle.rules.specs.Acceptance.{acknowledges}
-use Rattle.handler.proofs.AcceptLaws.{store-exact, output-room, kind-read, datagram-size, commitment-there, acknowledging}
+use Rattle.handler.proofs.AcceptLaws.{store-exact, output-room, kind-read, datagram-size}
+use Rattle.handler.proofs.AcceptLaws.{commitment-there, acknowledging}
 use Rattle.handler.proofs.accept.accept_acknowledge.Statement.{statement}
 use Rattle.handler.proofs.accept.accept_acknowledge.Tie as tie
 
@@ -43,7 +44,8 @@ returns c =
     let kind = kind-read (packet .before .before .before .before .pre) in
     record {
       end = c .acknowledged-end .ensures;
-      size = rw (kind, ← digest .digest-in .ensures, ← packet .packet-in .ensures) (emit .emit-acknowledged .ensures .1);
+      size =
+          rw (kind, ← digest .digest-in .ensures, ← packet .packet-in .ensures) (emit .emit-acknowledged .ensures .1);
       store = rw (← packet .packet-in .ensures) (free .free-commitment .ensures);
       output =
           rw (kind, ← digest .digest-in .ensures, ← packet .packet-in .ensures) (emit .emit-acknowledged .ensures .0);

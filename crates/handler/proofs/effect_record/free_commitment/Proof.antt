@@ -8,8 +8,8 @@ use borrow.Author.Needs.{needs}
 use Rattle.wire.specs.Choice.{isSome}
 use Rattle.wire.proofs.ChoiceLaws.{clash}
 use Rattle.store.specs.declared.Found.the-variants.{At}
-use Rattle.store.specs.Layout.{sizeFor, storeIn}
-use Rattle.store.specs.Table.{hasKey, commitmentKey}
+use Rattle.store.specs.Layout.{Store, sizeFor, storeIn}
+use Rattle.store.specs.Table.{Key, hasKey, commitmentKey}
 use Rattle.store.specs.Scan.{firstThat}
 use Rattle.store.proofs.EffectLaws.{exact-room}
 use Rattle.store.proofs.ScanLaws.{find-nothing, found-below}
@@ -17,32 +17,40 @@ use Rattle.handler.proofs.AcceptLaws.{freed}
 use Rattle.handler.proofs.effect_record.free_commitment.Statement.{statement}
 use Rattle.handler.proofs.effect_record.free_commitment.Tie as tie
 
-room : (o : tie.Start) → length (now (o .args .store)) ≡ sizeFor (length (storeIn (now (o .args .store)) .records))
+abbrev held : tie.Start → Store
+held o = storeIn (now (o .args .store))
+
+abbrev key : tie.Start → Key
+key o = commitmentKey (o .args .channel) (o .args .sequence)
+
+room : (o : tie.Start) → length (now (o .args .store)) ≡ sizeFor (length (held o .records))
 room o = exact-room (now (o .args .store)) (o .pre .0)
 
 returns : tie.Need-returns
 returns c =
     let o = c .before .before .before .before .before in
-    clash (o .pre .1) (ap isSome (find-nothing (hasKey (commitmentKey (o .args .channel) (o .args .sequence))) 0 (storeIn (now (o .args .store)) .records) (sym (c .before .before .find-record .ensures) ∙ c .enum-told .given .1)))
+    let told = sym (c .before .before .find-record .ensures) ∙ c .enum-told .given .1 in
+    clash (o .pre .1) (ap isSome (find-nothing (hasKey (key o)) 0 (held o .records) told))
 
 -- the index that the scan found
+abbrev start : tie.After-known-told → tie.Start
+start f = f .before .before .before .before .before .before
+
 abbrev index : tie.After-known-told → ℕ
 index f = f .before .i .given .0 .0
 
-found : (f : tie.After-known-told) → firstThat (hasKey (commitmentKey (f .before .before .before .before .before .before .args .channel) (f .before .before .before .before .before .before .args .sequence))) (storeIn (now (f .before .before .before .before .before .before .args .store)) .records) ≡ At (index f)
+found : (f : tie.After-known-told) → firstThat (hasKey (key (start f))) (held (start f) .records) ≡ At (index f)
 found f = sym (f .before .before .before .find-record .ensures) ∙ f .before .i .given .1
 
 remove-record-requires : tie.Need-remove-record-requires
 remove-record-requires c κs =
     let f = c .before in
-    let o = f .before .before .before .before .before .before in
-    (o .pre .0, found-below _ (index f) (storeIn (now (o .args .store)) .records) (found f))
+    (start f .pre .0, found-below _ (index f) (held (start f) .records) (found f))
 
 returns-2 : tie.Need-returns-2
 returns-2 c =
     let f = c .before .before .before .before in
-    let o = f .before .before .before .before .before .before in
-    c .before .before .remove-record .ensures ∙ freed (storeIn (now (o .args .store))) (index f) (commitmentKey (o .args .channel) (o .args .sequence)) (found f)
+    c .before .before .remove-record .ensures ∙ freed (held (start f)) (index f) (key (start f)) (found f)
 
 pub free-commitment-spec : {M : Type 1} → statement M
 free-commitment-spec =
