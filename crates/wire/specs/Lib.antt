@@ -1,4 +1,4 @@
 pub mod Choice
 pub mod Bytes
-pub mod Frame
 pub mod Names
+pub mod Frame

@@ -1,0 +1,104 @@
+// The channel end that acceptance leaves, by the kind of datagram and the channel's ordering.
+use store::Channel;
+use store::Counters;
+ghost use mathlib.Core.Path.{_≡_};
+ghost use mathlib.Core.Bool.{true, false};
+ghost use Prim.Native.Nat.{_<_};
+ghost use Rattle.store.specs.Limits.{top};
+ghost use Rattle.store.specs.Ordering.{isOrdered};
+ghost use Rattle.rules.specs.Ordering.{counted, closed, raisedSend, raisesReceive, raisesAcknowledge};
+ghost use Rattle.rules.specs.Ordering.{receivedEnd, acknowledgedEnd, timedOutEnd, isAtTop};
+
+fn is_ordered(c: Channel) -> bool
+    ensures { λ r. ⌜ r ≡ isOrdered c ⌝ }
+{
+    c.order == 1
+}
+
+pub(crate) fn raises_receive(c: Channel) -> bool
+    ensures { λ r. ⌜ r ≡ raisesReceive c ⌝ }
+{
+    is_ordered(c)
+}
+
+fn raises_acknowledge(c: Channel) -> bool
+    ensures { λ r. ⌜ r ≡ raisesAcknowledge c ⌝ }
+{
+    is_ordered(c)
+}
+
+fn with_counters(c: Channel, next: Counters) -> Channel
+    ensures { λ r. ⌜ r ≡ counted c next ⌝ }
+{
+    let own = c.own;
+    let counterparty = c.counterparty;
+    Channel {
+        state: c.state,
+        order: c.order,
+        own: own,
+        counterparty: counterparty,
+        next: next,
+    }
+}
+
+// The counter that rises is below 2^64 - 1: the table's line 19 refused it otherwise.
+pub(crate) fn sent_end(c: Channel) -> Channel
+    requires { ⌜ isAtTop 1 c ≡ false ⌝ }
+    ensures { λ r. ⌜ r ≡ counted c (raisedSend (c .next)) ⌝ }
+{
+    let next = Counters {
+        send: c.next.send + 1,
+        receive: c.next.receive,
+        acknowledge: c.next.acknowledge,
+    };
+    with_counters(c, next)
+}
+
+pub(crate) fn received_end(c: Channel) -> Channel
+    requires { ⌜ isAtTop 2 c ≡ false ⌝ }
+    ensures { λ r. ⌜ r ≡ receivedEnd c ⌝ }
+{
+    if !raises_receive(c) {
+        return c;
+    }
+    let next = Counters {
+        send: c.next.send,
+        receive: c.next.receive + 1,
+        acknowledge: c.next.acknowledge,
+    };
+    with_counters(c, next)
+}
+
+pub(crate) fn acknowledged_end(c: Channel) -> Channel
+    requires { ⌜ isAtTop 4 c ≡ false ⌝ }
+    ensures { λ r. ⌜ r ≡ acknowledgedEnd c ⌝ }
+{
+    if !raises_acknowledge(c) {
+        return c;
+    }
+    let next = Counters {
+        send: c.next.send,
+        receive: c.next.receive,
+        acknowledge: c.next.acknowledge + 1,
+    };
+    with_counters(c, next)
+}
+
+// An ordered channel becomes CLOSED: no later packet of it can be received in order.
+pub(crate) fn timed_out_end(c: Channel) -> Channel
+    ensures { λ r. ⌜ r ≡ timedOutEnd c ⌝ }
+{
+    if !is_ordered(c) {
+        return c;
+    }
+    let own = c.own;
+    let counterparty = c.counterparty;
+    let next = c.next;
+    Channel {
+        state: 4,
+        order: c.order,
+        own: own,
+        counterparty: counterparty,
+        next: next,
+    }
+}
