@@ -2,8 +2,7 @@
 use mathlib.Core.Path.{_≡_, refl, sym, _∙_}
 use mathlib.Core.List.{List, [], _∷_, _++_, append-assoc, append-nil}
 use mathlib.Core.Option.{Option, none, some}
-use Prim.Native.Nat.{ℕ, zero, suc, _+_, _*_, _-_, _/_, _%_, _<_}
-use native.Mathlib.Nat.{add-assoc}
+use Prim.Native.Nat.{ℕ, zero, suc, _+_, _*_, _-_, _/_, _<_}
 use native.Mathlib.Omega.{arith}
 use lib.ListN.{length, take, replicate, length-append, length-replicate, replicate-append-replicate}
 use lib.Seq.{length-take-le}
@@ -13,7 +12,6 @@ use Rattle.wire.proofs.BytesLaws.{length-little}
 use Rattle.wire.proofs.PatchLaws.{patch-append, patch-then, patch-front}
 use Rattle.store.specs.declared.Channel.{Channel}
 use Rattle.store.specs.declared.Record.{Record}
-use Rattle.store.specs.declared.Counters.{Counters}
 use Rattle.store.specs.Limits.{channelLimit}
 use Rattle.store.specs.Layout.{slotSize, headerSize, sizeFor, roomIn}
 use Rattle.store.specs.Layout.{channelBytes, recordBytes, slotBytes, tableBytes, headerBytes, bytesOf}
@@ -62,35 +60,6 @@ patch-end i os bs more =
     ∙ rw (end-more os i more, table-append channelBytes before (some next ∷ []), append-nil (channelBytes next))
 
 -- FIELD BY FIELD
-two-bytes : (x y : ℕ) → x < 256 → y < 256 → x ∷ y ∷ [] ≡ little 1 x ++ little 1 y
-unfolding little
-two-bytes x y h k =
-    let a : x % 256 ≡ x = omega arith in
-    let b : y % 256 ≡ y = omega arith in
-    rw (a, b)
-
-abbrev pub counterBytes : Counters → List ℕ
-counterBytes n = little 8 (n .send) ++ little 8 (n .receive) ++ little 8 (n .acknowledge) ++ replicate 24 0
-
-pub patch-counters : (at : ℕ) (n : Counters) (bs : List ℕ)
-    → patch at (counterBytes n) bs
-    ≡ patch (at + 24) (replicate 24 0)
-    (patch (at + 16) (little 8 (n .acknowledge))
-    (patch (at + 8) (little 8 (n .receive)) (patch at (little 8 (n .send)) bs)))
-patch-counters at n bs = simp (patch-append, length-append, length-little, add-assoc)
-
-pub patch-channel : (at : ℕ) (c : Channel) (bs : List ℕ) → c .state < 256 → c .order < 256
-    → patch at (channelBytes c) bs
-    ≡ patch (at + 16) (counterBytes (c .next))
-    (patch (at + 12) (little 4 (c .counterparty .channel))
-    (patch (at + 10) (little 2 (c .counterparty .port))
-    (patch (at + 8) (little 2 (c .own .port))
-    (patch (at + 4) (little 4 (c .own .channel))
-    (patch (at + 3) (little 1 (c .order)) (patch (at + 2) (little 1 (c .state)) (patch at (little 2 1) bs)))))))
-unfolding channelBytes
-patch-channel at c bs s o =
-    rw (two-bytes (c .state) (c .order) s o) (simp (patch-append, length-append, length-little, add-assoc))
-
 pub patch-header : (n : ℕ) (bs : List ℕ)
     → patch 0 (headerBytes 0 0 n) bs
     ≡ patch 28 (replicate 36 0)

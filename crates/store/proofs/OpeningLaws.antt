@@ -1,38 +1,24 @@
 -- Laws of a list of openings: one is read field by field, and a turn of a loop takes the next one. Assumes nothing.
-use mathlib.Core.Path.{_≡_, sym, ap, _∙_}
+use mathlib.Core.Path.{_≡_, sym, _∙_}
 use mathlib.Core.Bool.{not}
 use mathlib.Core.List.{List, [], _∷_, _++_}
 use mathlib.Core.Option.{some}
 use Prim.Native.Nat.{ℕ, zero, suc, _+_, _*_, _-_, _/_, _≤_, _<_}
-use native.Mathlib.Nat.{sub-zero, suc-sub-suc, zero-sub, add-zero, mul-zero}
+use native.Mathlib.Nat.{add-zero, mul-zero}
 use native.Mathlib.Numerals.{add-one}
 use native.Mathlib.Omega.{arith}
 use lib.Dec.{eqb}
 use lib.ListN.{length, getD, take, drop, length-map, List·getD-map, drop-of-length-le}
-use lib.Seq.{take-take, take-nil, take-suc, drop-drop, drop-cons, getD-take, getD-drop}
+use lib.Seq.{take-suc, drop-drop, drop-cons, getD-take, getD-drop}
 use Rattle.wire.specs.Choice.{_and_, pick, isSome, isIn}
-use Rattle.wire.specs.Bytes.{numberOf, part, field, pieces}
+use Rattle.wire.specs.Bytes.{part, field, pieces}
 use Rattle.wire.proofs.BytesLaws.{length-pieces}
 use Rattle.wire.proofs.PartLaws.{field-one}
 use Rattle.store.specs.Table.{find, distinct, isNumbered, sameNumber, channelAt}
 use Rattle.store.specs.Maker.{openingSize, openingsIn, openingFits, allOpeningsFit, openingOf, endsOf}
+use Rattle.store.proofs.SlotLaws.{field-part}
 
 -- PARTS OF A PART
-drop-take : {A : Type 0} (i n : ℕ) (l : List A) → drop i (take n l) ≡ take (n - i) (drop i l)
-drop-take zero n l = rw sub-zero
-drop-take (suc i) zero l = rw zero-sub
-drop-take (suc i) (suc n) [] = sym (take-nil (suc n - suc i))
-drop-take (suc i) (suc n) (x ∷ l) = rw (suc-sub-suc n i) (drop-take i n l)
-
-part-part : (k m i n : ℕ) (bs : List ℕ) → k + m ≤ n → part k m (part i n bs) ≡ part (i + k) m bs
-unfolding part
-part-part k m i n bs h =
-    rw (drop-take k n (drop i bs), take-take m (n - k) (drop k (drop i bs)) (omega arith), drop-drop k i bs)
-
-field-part : (k m i n : ℕ) (bs : List ℕ) → k + m ≤ n → field k m (part i n bs) ≡ field (i + k) m bs
-unfolding field
-field-part k m i n bs h = ap numberOf (part-part k m i n bs h)
-
 byte-part : (k i n d : ℕ) (bs : List ℕ) → k < n → i + n ≤ length bs → getD (part i n bs) k d ≡ field (i + k) 1 bs
 unfolding part
 byte-part k i n d bs h l =
