@@ -3,3 +3,5 @@ pub mod ChoiceLaws
 pub mod EveryLaws
 pub mod BytesLaws
 pub mod Laws
+pub mod PartLaws
+pub mod PatchLaws

@@ -3,7 +3,7 @@ use mathlib.Core.Bool.{Bool, true, false}
 use mathlib.Core.List.{List, [], _∷_}
 use Prim.Native.Nat.{ℕ, zero, suc, _+_, _*_, _/_, _%_, _<_}
 use lib.Dec.{eqb}
-use lib.ListN.{take, drop, replicate}
+use lib.ListN.{take, drop, set, replicate}
 use Rattle.wire.specs.Choice.{_and_}
 
 -- every element has a property
@@ -40,6 +40,11 @@ part i n bs = take n (drop i bs)
 
 unfoldable pub field : (from size : ℕ) → List ℕ → ℕ
 field i n bs = numberOf (part i n bs)
+
+-- the same number of bytes, with `new` stored over them from a place on; what would come behind the end is left out
+unfoldable pub patch : (from : ℕ) → (new : List ℕ) → List ℕ → List ℕ
+patch i [] bs = bs
+patch i (x ∷ xs) bs = patch (suc i) xs (set bs i x)
 
 -- the first `count` pieces of `size` bytes each
 unfoldable pub pieces : (size count : ℕ) → List ℕ → List (List ℕ)

@@ -1,1 +1,169 @@
-// Numbers, digests and frames in lent bytes. What they mean is in specs/; nothing here has code yet.
+// Numbers, digests and frames in lent bytes. What they mean is in specs/: `field` and `part` of a list
+// of bytes, `patch` for what a store of bytes leaves. Numbers are read and stored by halves, down to
+// bytes: each width is proved by the same law, and the compiler makes one load or one store of it.
+ghost use mathlib.Core.Path.{_≡_};
+ghost use Prim.Native.Nat.{_+_, _≤_};
+ghost use lib.ListN.{length, replicate};
+ghost use Rattle.wire.specs.Bytes.{part, field, little, patch, same, areZero};
+ghost use Rattle.wire.specs.Frame.{frameIn};
+
+pub fn u8_at(s: &[u8], at: usize) -> u8
+    requires { ⌜ at + 1 ≤ length (now s) ⌝ }
+    ensures { λ r. ⌜ r ≡ field at 1 (now (s .entry)) ⌝ }
+{
+    s[at]
+}
+
+pub fn u16_at(s: &[u8], at: usize) -> u16
+    requires { ⌜ at + 2 ≤ length (now s) ⌝ }
+    ensures { λ r. ⌜ r ≡ field at 2 (now (s .entry)) ⌝ }
+{
+    (u8_at(s, at) as u16) + (u8_at(s, at + 1) as u16) * 256
+}
+
+pub fn u32_at(s: &[u8], at: usize) -> u32
+    requires { ⌜ at + 4 ≤ length (now s) ⌝ }
+    ensures { λ r. ⌜ r ≡ field at 4 (now (s .entry)) ⌝ }
+{
+    (u16_at(s, at) as u32) + (u16_at(s, at + 2) as u32) * 65536
+}
+
+pub fn u64_at(s: &[u8], at: usize) -> u64
+    requires { ⌜ at + 8 ≤ length (now s) ⌝ }
+    ensures { λ r. ⌜ r ≡ field at 8 (now (s .entry)) ⌝ }
+{
+    (u32_at(s, at) as u64) + (u32_at(s, at + 4) as u64) * 4294967296
+}
+
+pub fn put_u8(s: &mut [u8], at: usize, v: u8)
+    requires { ⌜ at + 1 ≤ length (now s) ⌝ }
+    ensures { λ _. ⌜ now (s .exit) ≡ patch at (little 1 v) (now (s .entry)) ⌝ }
+{
+    s[at] = v;
+}
+
+pub fn put_u16(s: &mut [u8], at: usize, v: u16)
+    requires { ⌜ at + 2 ≤ length (now s) ⌝ }
+    ensures { λ _. ⌜ now (s .exit) ≡ patch at (little 2 v) (now (s .entry)) ⌝ }
+{
+    put_u8(s, at, (v % 256) as u8);
+    put_u8(s, at + 1, (v / 256) as u8);
+}
+
+pub fn put_u32(s: &mut [u8], at: usize, v: u32)
+    requires { ⌜ at + 4 ≤ length (now s) ⌝ }
+    ensures { λ _. ⌜ now (s .exit) ≡ patch at (little 4 v) (now (s .entry)) ⌝ }
+{
+    put_u16(s, at, (v % 65536) as u16);
+    put_u16(s, at + 2, (v / 65536) as u16);
+}
+
+pub fn put_u64(s: &mut [u8], at: usize, v: u64)
+    requires { ⌜ at + 8 ≤ length (now s) ⌝ }
+    ensures { λ _. ⌜ now (s .exit) ≡ patch at (little 8 v) (now (s .entry)) ⌝ }
+{
+    put_u32(s, at, (v % 4294967296) as u32);
+    put_u32(s, at + 4, (v / 4294967296) as u32);
+}
+
+// A free record is all zero.
+pub fn put_zeros(s: &mut [u8], from: usize, size: usize)
+    requires { ⌜ from + size ≤ length (now s) ⌝ }
+    ensures { λ _. ⌜ now (s .exit) ≡ patch from (replicate size 0) (now (s .entry)) ⌝ }
+{
+    let mut i: usize = 0;
+    while i < size {
+        s[from + i] = 0;
+        i += 1;
+    }
+}
+
+// Whether `size` bytes are zero. Most sizes are whole words of eight bytes; the rest goes by bytes.
+pub fn are_zero(s: &[u8], from: usize, size: usize) -> bool
+    requires { ⌜ from + size ≤ length (now s) ⌝ }
+    ensures { λ r. ⌜ r ≡ areZero (part from size (now (s .entry))) ⌝ }
+{
+    let mut i: usize = 0;
+    while 8 <= size - i {
+        if u64_at(s, from + i) != 0 {
+            return false;
+        }
+        i += 8;
+    }
+    while i < size {
+        if u8_at(s, from + i) != 0 {
+            return false;
+        }
+        i += 1;
+    }
+    true
+}
+
+// Digests are arrays by value: read whole, compared whole, stored whole.
+pub fn digest_at(s: &[u8], at: usize) -> [u8; 32]
+    requires { ⌜ at + 32 ≤ length (now s) ⌝ }
+    ensures { λ r. ⌜ r ≡ part at 32 (now (s .entry)) ⌝ }
+{
+    let mut d = [0u8; 32];
+    let mut i: usize = 0;
+    while i < 32 {
+        d[i] = s[at + i];
+        i += 1;
+    }
+    d
+}
+
+pub fn put_digest(s: &mut [u8], at: usize, d: [u8; 32])
+    requires { ⌜ at + 32 ≤ length (now s) ⌝ }
+    ensures { λ _. ⌜ now (s .exit) ≡ patch at d (now (s .entry)) ⌝ }
+{
+    let mut i: usize = 0;
+    while i < 32 {
+        s[at + i] = d[i];
+        i += 1;
+    }
+}
+
+// By words of eight bytes.
+pub fn same_digest(a: [u8; 32], b: [u8; 32]) -> bool
+    ensures { λ r. ⌜ r ≡ same a b ⌝ }
+{
+    let mut i: usize = 0;
+    while i < 32 {
+        if u64_at(&a, i) != u64_at(&b, i) {
+            return false;
+        }
+        i += 8;
+    }
+    true
+}
+
+pub fn is_zero_digest(d: [u8; 32]) -> bool
+    ensures { λ r. ⌜ r ≡ areZero d ⌝ }
+{
+    are_zero(&d, 0, 32)
+}
+
+// What a slice is as a framed record: whole, or malformed, as where its length field is another.
+pub enum Frame {
+    Whole { kind: u16, length: u32 },
+    Malformed,
+}
+
+// The length field is compared as a usize: a slice can be longer than any length field says.
+pub fn frame_in(s: &[u8]) -> Frame
+    ensures { λ r. ⌜ r ≡ frameIn (now (s .entry)) ⌝ }
+{
+    if s.len() < 6 {
+        return Frame::Malformed;
+    }
+    let length = u32_at(s, 0);
+    if length as usize == s.len() {
+        Frame::Whole {
+            kind: u16_at(s, 4),
+            length,
+        }
+    } else {
+        Frame::Malformed
+    }
+}
