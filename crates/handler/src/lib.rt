@@ -1,0 +1,1 @@
+// The handler: answers a datagram and carries it out.
