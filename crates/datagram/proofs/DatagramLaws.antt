@@ -5,8 +5,8 @@ use Rattle.wire.specs.Names.{_or_, pick, Bytes, digestSize}
 use Rattle.wire.proofs.Laws.{and-both, or-either, clash, cases, field-below, length-part, bytes-part}
 use Rattle.store.proofs.Laws.{EndFields, TimeoutFields}
 use Rattle.datagram.specs.declared.Packet.{Packet}
-use Rattle.datagram.specs.Names.{bodyFrom, packetSize, sizeOfKind, isProved, isSound, kindIn, contextIn, packetIn}
-use Rattle.datagram.specs.Names.{packetFrom, timeoutFrom, sequenceFrom, digestFrom}
+use Rattle.datagram.specs.Names.{bodyFrom, packetSize, verdictSize, sizeOfKind, isProved, isSound, kindIn}
+use Rattle.datagram.specs.Names.{contextIn, packetIn, packetFrom, timeoutFrom, sequenceFrom, digestFrom}
 
 -- what a well-formed datagram tells
 pub record Sound (d : List ℕ) : Type 0 where
@@ -47,23 +47,32 @@ pub record PacketFields (p : Packet) : Type 0 where
   pub bytes : Bytes (p .digest)
 
 -- every kind has room where its digest is read (2 and 5, which have none, read their verdict there)
-digest-room : (k : ℕ) → bodyFrom + pick (eqb k 1) 20 (pick (eqb k 3) 12 packetSize) + digestSize ≤ sizeOfKind k
+pub digest-room : (k : ℕ) → bodyFrom + pick (eqb k 1) 20 (pick (eqb k 3) 12 packetSize) + digestSize ≤ sizeOfKind k
 unfolding sizeOfKind
 digest-room k =
     cases (eqb k 1) (λ e. rw (sizeOfKind, e) (omega arith))
     (λ e. cases (eqb k 3) (λ f. rw (sizeOfKind, e, f) (omega arith))
     (λ f. cases (eqb k 4) (λ g. rw (sizeOfKind, e, f, g) (omega arith)) (λ g. rw (sizeOfKind, e, f, g) (omega arith))))
 
-packet-room : (k : ℕ) → isProved k ≡ true → bodyFrom + packetSize ≤ sizeOfKind k
-unfolding sizeOfKind isProved
-packet-room k h =
+-- the kinds that carry a packet and a verdict, one by one
+pub by-proved : (P : ℕ → Type 0) (k : ℕ) → isProved k ≡ true → P 2 → P 4 → P 5 → P k
+unfolding isProved
+by-proved P k h receive acknowledge timeOut =
     elim (or-either h) [
       | inl p ↦ elim (or-either p) [
-        | inl q ↦ rw (eqb-true k 2 q) (omega arith)
-        | inr q ↦ rw (eqb-true k 4 q) (omega arith)
+        | inl q ↦ rw (eqb-true k 2 q) receive
+        | inr q ↦ rw (eqb-true k 4 q) acknowledge
       ]
-      | inr q ↦ rw (eqb-true k 5 q) (omega arith)
+      | inr q ↦ rw (eqb-true k 5 q) timeOut
     ]
+
+-- they have room for both
+pub verdict-room : (k : ℕ) → isProved k ≡ true →
+    bodyFrom + packetSize + pick (eqb k 4) digestSize 0 + verdictSize ≤ sizeOfKind k
+unfolding sizeOfKind
+verdict-room k h =
+    by-proved (λ n. bodyFrom + packetSize + pick (eqb n 4) digestSize 0 + verdictSize ≤ sizeOfKind n) k h
+    (omega arith) (omega arith) (omega arith)
 
 packet-in : (i : ℕ) (d : List ℕ) → Bytes d → i + packetSize ≤ length d → PacketFields (packetIn i d)
 unfolding packetIn
@@ -79,7 +88,7 @@ packet-in i d b l =
 
 pub packet-fields : (d : List ℕ) → Bytes d → Sound d → isProved (kindIn d) ≡ true → PacketFields (packetFrom d)
 unfolding packetFrom
-packet-fields d b s p = packet-in bodyFrom d b (omega (arith, s .size, packet-room (kindIn d) p))
+packet-fields d b s p = packet-in bodyFrom d b (omega (arith, s .size, verdict-room (kindIn d) p))
 
 pub timeout-fields : (d : List ℕ) → Bytes d → TimeoutFields (timeoutFrom d)
 unfolding timeoutFrom

@@ -1,4 +1,8 @@
 // Datagrams and the records that are handed out, in lent bytes. Their types; specs/ says what they mean.
+pub mod emit;
+pub mod read;
+pub mod sound;
+
 use store::End;
 use store::OtherHeight;
 use store::OwnHeight;

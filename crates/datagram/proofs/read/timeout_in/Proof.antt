@@ -1,0 +1,13 @@
+-- Each field is read. Assumes nothing.
+use borrow.Author.Needs.{needs}
+use Rattle.datagram.specs.Datagram.{timeoutFrom}
+use Rattle.datagram.proofs.read.timeout_in.Statement.{statement}
+use Rattle.datagram.proofs.read.timeout_in.Tie as tie
+
+returns : tie.Need-returns
+unfolding timeoutFrom
+returns c = cc
+
+pub timeout-in-spec : {M : Type 1} → statement M
+timeout-in-spec =
+    tie.close (tie.spec (λ c. search needs) (λ c κs. search needs) (λ c. search needs) (λ c κs. search needs) returns)

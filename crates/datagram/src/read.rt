@@ -1,0 +1,157 @@
+// What a datagram holds, read into structs by value. The places stand here once: behind the frame lies the
+// context, and behind it the body. A longer context is another CONTEXT and what `context_in` reads of it.
+use super::Context;
+use super::Packet;
+use super::Verdict;
+use store::End;
+use store::OtherHeight;
+use store::OwnHeight;
+use store::Timeout;
+use wire::digest_at;
+use wire::u16_at;
+use wire::u32_at;
+use wire::u64_at;
+ghost use mathlib.Core.Path.{_≡_};
+ghost use mathlib.Core.Bool.{true};
+ghost use Prim.Native.Nat.{_+_, _≤_};
+ghost use lib.ListN.{length};
+ghost use Rattle.datagram.specs.Datagram.{frameSize, bodyFrom, packetSize, verdictSize, sizeOfKind, isProved};
+ghost use Rattle.datagram.specs.Datagram.{kindIn, contextIn, packetIn, verdictIn};
+ghost use Rattle.datagram.specs.Datagram.{timeoutFrom, sequenceFrom, packetFrom};
+ghost use Rattle.datagram.specs.Datagram.{digestFrom, verdictFrom, channelFrom};
+
+pub(crate) const FRAME: usize = 6;
+
+const CONTEXT: usize = 32;
+
+pub(crate) const BODY: usize = FRAME + CONTEXT;
+
+pub(crate) const PACKET: usize = 68;
+
+pub(crate) const VERDICT: usize = 80;
+
+pub(crate) const DIGEST: usize = 32;
+
+pub fn context_in(d: &[u8]) -> Context
+    requires { ⌜ bodyFrom ≤ length (now d) ⌝ }
+    ensures { λ r. ⌜ r ≡ contextIn (now (d .entry)) ⌝ }
+{
+    Context {
+        height: OwnHeight(u64_at(d, FRAME)),
+        time: u64_at(d, FRAME + 8),
+        client: OtherHeight(u64_at(d, FRAME + 16)),
+        port: u16_at(d, FRAME + 24),
+        connected: d[FRAME + 26] == 1,
+    }
+}
+
+pub fn packet_at(d: &[u8], at: usize) -> Packet
+    requires { ⌜ at + packetSize ≤ length (now d) ⌝ }
+    ensures { λ r. ⌜ r ≡ packetIn at (now (d .entry)) ⌝ }
+{
+    Packet {
+        sequence: u64_at(d, at),
+        timeout: Timeout {
+            height: u64_at(d, at + 8),
+            time: u64_at(d, at + 16),
+        },
+        source: End {
+            port: u16_at(d, at + 24),
+            channel: u32_at(d, at + 26),
+        },
+        destination: End {
+            port: u16_at(d, at + 30),
+            channel: u32_at(d, at + 32),
+        },
+        digest: digest_at(d, at + 36),
+    }
+}
+
+pub fn verdict_at(d: &[u8], at: usize) -> Verdict
+    requires { ⌜ at + verdictSize ≤ length (now d) ⌝ }
+    ensures { λ r. ⌜ r ≡ verdictIn at (now (d .entry)) ⌝ }
+{
+    Verdict {
+        claim: u16_at(d, at),
+        height: OtherHeight(u64_at(d, at + 2)),
+        time: u64_at(d, at + 10),
+        end: End {
+            port: u16_at(d, at + 18),
+            channel: u32_at(d, at + 20),
+        },
+        sequence: u64_at(d, at + 24),
+        timeout: Timeout {
+            height: u64_at(d, at + 32),
+            time: u64_at(d, at + 40),
+        },
+        digest: digest_at(d, at + 48),
+    }
+}
+
+pub fn kind_in(d: &[u8]) -> u16
+    requires { ⌜ frameSize ≤ length (now d) ⌝ }
+    ensures { λ r. ⌜ r ≡ kindIn (now (d .entry)) ⌝ }
+{
+    u16_at(d, 4)
+}
+
+// THE BODY by kind. 1: channel, timeouts, digest. 2 and 5: packet, verdict. 3: channel, sequence, digest.
+// 4: packet, digest, verdict.
+pub fn timeout_in(d: &[u8]) -> Timeout
+    requires { ⌜ bodyFrom + 20 ≤ length (now d) ⌝ }
+    ensures { λ r. ⌜ r ≡ timeoutFrom (now (d .entry)) ⌝ }
+{
+    Timeout {
+        height: u64_at(d, BODY + 4),
+        time: u64_at(d, BODY + 12),
+    }
+}
+
+pub fn sequence_in(d: &[u8]) -> u64
+    requires { ⌜ bodyFrom + 12 ≤ length (now d) ⌝ }
+    ensures { λ r. ⌜ r ≡ sequenceFrom (now (d .entry)) ⌝ }
+{
+    u64_at(d, BODY + 4)
+}
+
+pub fn packet_in(d: &[u8]) -> Packet
+    requires { ⌜ bodyFrom + packetSize ≤ length (now d) ⌝ }
+    ensures { λ r. ⌜ r ≡ packetFrom (now (d .entry)) ⌝ }
+{
+    packet_at(d, BODY)
+}
+
+// The digest of the kinds 1, 3 and 4; the others have none.
+pub fn digest_in(d: &[u8], kind: u16) -> [u8; 32]
+    requires { ⌜ sizeOfKind kind ≤ length (now d) ⌝ }
+    ensures { λ r. ⌜ r ≡ digestFrom kind (now (d .entry)) ⌝ }
+{
+    match kind {
+        1 => digest_at(d, BODY + 20),
+        3 => digest_at(d, BODY + 12),
+        _ => digest_at(d, BODY + PACKET),
+    }
+}
+
+// The verdict of the kinds 2, 4 and 5; the others have none.
+pub fn verdict_in(d: &[u8], kind: u16) -> Verdict
+    requires { ⌜ (isProved kind ≡ true) × (sizeOfKind kind ≤ length (now d)) ⌝ }
+    ensures { λ r. ⌜ r ≡ verdictFrom kind (now (d .entry)) ⌝ }
+{
+    match kind {
+        4 => verdict_at(d, BODY + PACKET + DIGEST),
+        _ => verdict_at(d, BODY + PACKET),
+    }
+}
+
+// The channel that it is about: its own for 1 and 3, the destination for 2, the source for 4 and 5.
+pub fn channel_in(d: &[u8], kind: u16) -> u32
+    requires { ⌜ sizeOfKind kind ≤ length (now d) ⌝ }
+    ensures { λ r. ⌜ r ≡ channelFrom kind (now (d .entry)) ⌝ }
+{
+    match kind {
+        1 | 3 => u32_at(d, BODY),
+        2 => u32_at(d, BODY + 32),
+        _ => u32_at(d, BODY + 26),
+    }
+}

@@ -1,0 +1,89 @@
+// Whether a datagram is well formed: its frame, its length by kind, its context, and its body by kind.
+use super::read::BODY;
+use super::read::DIGEST;
+use super::read::FRAME;
+use super::read::PACKET;
+use super::read::VERDICT;
+use super::read::packet_in;
+use super::read::sequence_in;
+use super::read::verdict_in;
+use wire::Frame;
+use wire::are_zero;
+use wire::frame_in;
+use wire::u64_at;
+ghost use mathlib.Core.Path.{_≡_};
+ghost use mathlib.Core.Bool.{true};
+ghost use Prim.Native.Nat.{_≤_};
+ghost use lib.ListN.{length};
+ghost use Rattle.datagram.specs.Datagram.{bodyFrom, sizeOfKind, isProved, isSound};
+ghost use Rattle.datagram.specs.Sound.{isContextSound, isPacketSound, isBodySound};
+
+// Kinds 2 and 5 have a packet and a verdict, 4 a digest besides.
+fn size_of(kind: u16) -> usize
+    ensures { λ r. ⌜ r ≡ sizeOfKind kind ⌝ }
+{
+    match kind {
+        1 => BODY + 20 + DIGEST,
+        3 => BODY + 12 + DIGEST,
+        4 => BODY + PACKET + DIGEST + VERDICT,
+        _ => BODY + PACKET + VERDICT,
+    }
+}
+
+// The context ends in five zero bytes, behind the connection's state, 0 or 1.
+fn is_context_sound(d: &[u8]) -> bool
+    requires { ⌜ bodyFrom ≤ length (now d) ⌝ }
+    ensures { λ r. ⌜ r ≡ isContextSound (now (d .entry)) ⌝ }
+{
+    if !are_zero(d, FRAME + 27, 5) {
+        return false;
+    }
+    if 1 < d[FRAME + 26] {
+        return false;
+    }
+    0 < u64_at(d, FRAME)
+}
+
+// A packet's sequence is not 0, and its verdict makes one of the four claims.
+fn is_packet_sound(d: &[u8], kind: u16) -> bool
+    requires { ⌜ (isProved kind ≡ true) × (sizeOfKind kind ≤ length (now d)) ⌝ }
+    ensures { λ r. ⌜ r ≡ isPacketSound kind (now (d .entry)) ⌝ }
+{
+    let packet = packet_in(d);
+    if packet.sequence == 0 {
+        return false;
+    }
+    let verdict = verdict_in(d, kind);
+    if verdict.claim < 1 {
+        return false;
+    }
+    verdict.claim <= 4
+}
+
+// Unknown kinds have no body that is sound.
+fn is_body_sound(d: &[u8], kind: u16) -> bool
+    requires { ⌜ sizeOfKind kind ≤ length (now d) ⌝ }
+    ensures { λ r. ⌜ r ≡ isBodySound kind (now (d .entry)) ⌝ }
+{
+    match kind {
+        0 | 6..=65535 => false,
+        1 => true,
+        3 => 0 < sequence_in(d),
+        2 | 4 | 5 => is_packet_sound(d, kind),
+    }
+}
+
+pub fn is_sound(d: &[u8]) -> bool
+    ensures { λ r. ⌜ r ≡ isSound (now (d .entry)) ⌝ }
+{
+    let Frame::Whole { kind, length } = frame_in(d) else {
+        return false;
+    };
+    if length as usize != size_of(kind) {
+        return false;
+    }
+    if !is_context_sound(d) {
+        return false;
+    }
+    is_body_sound(d, kind)
+}
