@@ -29,7 +29,7 @@ fits-size n h =
     let r = eqb-true ((n - recordsFrom) % slotSize) 0 (and-both h .1) in
     record { low = omega arith; high = omega arith; whole = omega arith }
 
-size-fits : (n : ℕ) → 1 ≤ n → n ≤ recordLimit → sizeFits (sizeFor n) ≡ true
+pub size-fits : (n : ℕ) → 1 ≤ n → n ≤ recordLimit → sizeFits (sizeFor n) ≡ true
 unfolding sizeFits
 size-fits n l u =
     let a = le-leb (sizeFor 1) (sizeFor n) (omega arith) in
@@ -38,7 +38,7 @@ size-fits n l u =
 
 -- TABLES that are read, whatever the entries are
 module _ {A : Type 0} where
-  length-read : (g : List ℕ → A) (n : ℕ) (bs : List ℕ) → length (tableIn g n bs) ≡ n
+  pub length-read : (g : List ℕ → A) (n : ℕ) (bs : List ℕ) → length (tableIn g n bs) ≡ n
   length-read g n bs = length-map (pieces slotSize n bs) (slotIn g) ∙ length-pieces slotSize n bs
 
   module _ (P : A → Type 0) (g : List ℕ → A) (f : (p : List ℕ) → length p ≡ slotSize → Bytes p → P (g p)) where
@@ -49,7 +49,7 @@ module _ {A : Type 0} where
         of-pick (λ (x : Option A). Each P (x ∷ map (slotIn g) ps)) (areZero p) none (some (g p))
         (λ e. each-slots ps (h .1)) (λ e. (f p (h .0 .0) (h .0 .1), each-slots ps (h .1)))
 
-    each-read : (i n : ℕ) (bs : List ℕ) → i + slotSize * n ≤ length bs → Bytes bs → Each P (tableIn g n (drop i bs))
+    pub each-read : (i n : ℕ) (bs : List ℕ) → i + slotSize * n ≤ length bs → Bytes bs → Each P (tableIn g n (drop i bs))
     each-read i n bs l b =
         each-slots (pieces slotSize n (drop i bs))
         (every-pieces slotSize n (drop i bs) (omega (arith, length-drop i bs)) (every-drop Byte i bs b))

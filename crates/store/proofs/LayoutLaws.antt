@@ -71,14 +71,15 @@ record Kept {A : Type 0} (f : A → List ℕ) (g : List ℕ → A) (x : A) : Typ
   taken : areZero (f x) ≡ false
   back : g (f x) ≡ x
 
-module _ {A : Type 0} (f : A → List ℕ) (g : List ℕ → A) where
-  length-table : (xs : List (Option A)) → Each (Kept f g) xs → length (tableBytes f xs) ≡ slotSize * length xs
-  unfolding tableBytes slotBytes
-  length-table [] h = refl
-  length-table (none ∷ xs) h = omega (arith, length-table xs h)
-  length-table (some x ∷ xs) h =
-      length-append (f x) (tableBytes f xs) ∙ omega (arith, h .0 .size, length-table xs (h .1))
+pub length-table : {A : Type 0} (f : A → List ℕ) (xs : List (Option A)) → Each (λ x. length (f x) ≡ slotSize) xs →
+    length (tableBytes f xs) ≡ slotSize * length xs
+unfolding tableBytes slotBytes
+length-table f [] h = refl
+length-table f (none ∷ xs) h = omega (arith, length-table f xs h)
+length-table f (some x ∷ xs) h =
+    length-append (f x) (tableBytes f xs) ∙ omega (arith, h .0, length-table f xs (h .1))
 
+module _ {A : Type 0} (f : A → List ℕ) (g : List ℕ → A) where
   bytes-table : (xs : List (Option A)) → Each (Kept f g) xs → Bytes (tableBytes f xs)
   unfolding tableBytes slotBytes
   bytes-table [] h = tt
@@ -164,7 +165,9 @@ module _ (s : Store) (ok : StoreFields s) where
   records-kept = each-map record-kept (s .records) (ok .records)
 
   channels-size : length (tableBytes channelBytes (s .channels)) ≡ slotSize * channelLimit
-  channels-size = length-table channelBytes channelIn (s .channels) channels-kept ∙ omega (arith, ok .slots)
+  channels-size =
+      length-table channelBytes (s .channels) (each-map (λ c k. k .size) (s .channels) channels-kept) ∙
+      omega (arith, ok .slots)
 
   pub size-of : length (bytesOf s) ≡ sizeFor (length (s .records))
   unfolding bytesOf headerBytes little
@@ -173,7 +176,7 @@ module _ (s : Store) (ok : StoreFields s) where
         arith,
         length-append (tableBytes channelBytes (s .channels)) (tableBytes recordBytes (s .records)),
         channels-size,
-        length-table recordBytes recordIn (s .records) records-kept,
+        length-table recordBytes (s .records) (each-map (λ r k. k .size) (s .records) records-kept),
       )
 
   pub bytes-of : Bytes (bytesOf s)

@@ -6,3 +6,7 @@ pub mod Ordering
 pub mod Fit
 pub mod Maker
 pub mod Names
+pub mod Slot
+pub mod Scan
+pub mod SlotTest
+pub mod Effect

@@ -1,5 +1,11 @@
 // The store: one ledger's channel ends and packet records, in bytes that the host lends. Its types; specs/ says what
 // they mean.
+pub mod effect; // what acceptance does to the lent store
+pub mod slot; // a channel end or a packet record in 64 bytes
+pub mod exact; // bytes laid out exactly as a store's
+pub mod scan; // the first slot that passes a test
+pub mod ordering; // what an ordering means for what is stored
+pub mod fit; // a fit store
 
 // A height of this ledger, and a height of the other one. Neither can stand where the other is meant.
 pub struct OwnHeight(pub u64);
@@ -52,4 +58,17 @@ impl Store {
     pub const RECORDS: usize = 512;
 
     pub const OUTPUT: usize = 106;
+
+    // Where the tables start, and the size of their records.
+    pub const HEADER: usize = 64;
+
+    pub const SLOT: usize = 64;
+
+    pub const RECORDS_FROM: usize = Store::HEADER + Store::SLOT * Store::CHANNELS;
+}
+
+// Where a scan of a table's slots ends: at an index, or behind them all.
+pub enum Found {
+    At(usize),
+    Nothing,
 }

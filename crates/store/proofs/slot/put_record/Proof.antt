@@ -1,0 +1,33 @@
+-- Each field is stored: `record-stored`. Assumes nothing.
+use borrow.Author.Needs.{needs}
+use Rattle.store.proofs.SlotLaws.{record-stored}
+use Rattle.store.proofs.slot.put_record.Statement.{statement}
+use Rattle.store.proofs.slot.put_record.Tie as tie
+
+returns : tie.Need-returns
+returns c =
+    let digest = c .before .before in
+    let time = digest .before .before .before .before .before in
+    let height = time .before .before .before .before in
+    let sequence = height .before .before .before .before in
+    let channel = sequence .before .before .before .before in
+    let zeros = channel .before .before .before .before in
+    let kind = zeros .before .before .before .before in
+    rw (
+      digest .put-digest .ensures,
+      time .put-u643 .ensures,
+      height .put-u642 .ensures,
+      sequence .put-u64 .ensures,
+      channel .put-u32 .ensures,
+      zeros .put-u162 .ensures,
+      kind .put-u16 .ensures,
+      record-stored,
+    )
+
+pub put-record-spec : {M : Type 1} → statement M
+put-record-spec =
+    tie.close
+    (tie.spec
+    (λ c κs. search needs) (λ c. search needs) (λ c κs. search needs) (λ c. search needs) (λ c κs. search needs)
+    (λ c. search needs) (λ c κs. search needs) (λ c. search needs) (λ c κs. search needs) (λ c. search needs)
+    (λ c κs. search needs) (λ c. search needs) (λ c κs. search needs) (λ c. search needs) returns)
