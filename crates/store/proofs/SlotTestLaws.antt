@@ -7,22 +7,26 @@ use Prim.Native.Nat.{ℕ, suc, _+_, _*_, _-_, _<_}
 use native.Mathlib.Nat.{add-zero}
 use native.Mathlib.Omega.{arith}
 use lib.Dec.{eqb}
-use lib.ListN.{drop}
+use lib.ListN.{length, drop}
 use lib.Seq.{drop-drop}
 use Rattle.wire.specs.Choice.{_and_, isSome}
 use Rattle.wire.specs.Bytes.{areZero, part, field}
 use Rattle.wire.proofs.ChoiceLaws.{cases, clash}
 use Rattle.wire.proofs.PartLaws.{and-assoc}
+use Rattle.store.specs.declared.Channel.{Channel}
+use Rattle.store.specs.declared.Record.{Record}
 use Rattle.store.specs.declared.Found.the-variants.{At}
 use Rattle.store.specs.Table.{find, all, distinct, isNumbered, Key, hasKey}
-use Rattle.store.specs.Layout.{slotSize, channelIn, recordIn, slotIn}
+use Rattle.store.specs.Limits.{channelLimit}
+use Rattle.store.specs.Layout.{headerSize, slotSize, recordsFrom, sizeFor}
+use Rattle.store.specs.Layout.{channelIn, recordIn, slotIn, storeIn}
 use Rattle.store.specs.Scan.{indexWhere, isFree, holds, firstThat}
-use Rattle.store.specs.SlotTest.{everySlot, fitsBefore, isAt}
-use Rattle.store.proofs.TestLaws.{and-true, and-false, and-comm, and-swap}
+use Rattle.store.specs.SlotTest.{slotAt, tableFrom, everySlot, fitsBefore, isAt}
+use Rattle.store.proofs.TestLaws.{and-true, and-false, and-comm, and-swap, holds-then, fails-then}
 use Rattle.store.proofs.FitLaws.{length-read}
 use Rattle.store.proofs.SlotLaws.{field-part}
 use Rattle.store.proofs.ScanLaws.{find-found, some-found, found-below, table-at}
-use Rattle.store.proofs.TurnLaws.{slotAt, slotsFrom}
+use Rattle.store.proofs.TurnLaws.{records-from}
 
 module _ {A : Type 0} (g : List ℕ → A) (p : List ℕ) where
   -- it is free where its bytes are zero
@@ -76,18 +80,18 @@ module _ {A : Type 0} where
   slot-some g p h = cases (areZero p) (λ e. clash h (rw (slotIn, e))) (λ e. rw (slotIn, e))
 
   -- it is the one that stands in the slot at that index
-  module _ (g : List ℕ → A) (t : A → Bool) (start n : ℕ) (bs : List ℕ) (j : ℕ)
-      (h : firstThat t (map (slotIn g) (slotsFrom start n bs 0)) ≡ At j) where
-    pub found-index : j < n
-    found-index =
+  module _ (g : List ℕ → A) (start n : ℕ) (bs : List ℕ) (j : ℕ) where
+    found-index : (t : Option A → Bool) → indexWhere t 0 (tableFrom g start n bs 0) ≡ At j → j < n
+    found-index t h =
         let l = length-read g (n - 0) (drop (start + slotSize * 0) bs) in
-        omega (arith, found-below (holds t) j (map (slotIn g) (slotsFrom start n bs 0)) h)
+        omega (arith, found-below t j (tableFrom g start n bs 0) h)
 
-    pub found-entry : find t (map (slotIn g) (slotsFrom start n bs 0)) ≡ some (g (slotAt start bs j))
-    found-entry =
-        let xs = map (slotIn g) (slotsFrom start n bs 0) in
+    found-entry : (t : A → Bool) → firstThat t (tableFrom g start n bs 0) ≡ At j →
+        find t (tableFrom g start n bs 0) ≡ some (g (slotAt start bs j))
+    found-entry t h =
+        let xs = tableFrom g start n bs 0 in
         let k : start + slotSize * 0 + slotSize * j ≡ start + slotSize * j = omega arith in
-        let slot = table-at g (n - 0) j (drop (start + slotSize * 0) bs) (omega (arith, found-index)) in
+        let slot = table-at g (n - 0) j (drop (start + slotSize * 0) bs) (omega (arith, found-index (holds t) h)) in
         let place : part (slotSize * j) slotSize (drop (start + slotSize * 0) bs) ≡ slotAt start bs j =
         rw (part-drop (slotSize * j) slotSize (start + slotSize * 0) bs, k) in
         let e = find-found t j xs h ∙ slot ∙ ap (slotIn g) place in
@@ -110,12 +114,41 @@ module _ {A : Type 0} where
     fits-table [] = refl
     fits-table (p ∷ ps) = fits-cons (slotIn g p) (map (slotIn g) ps) ∙ rw (fits-table ps)
 
-    -- the test of a slot: free; or its entry's own test, and no other of its name behind it
-    pub fits-free : (p : List ℕ) (xs : List (Option A)) → areZero p ≡ true → fitsBefore t u (slotIn g p) xs ≡ true
-    unfolding fitsBefore slotIn
-    fits-free p xs e = rw (slotIn, e)
+    -- A SLOT, tested: its bytes are zero; or x is read there and fails; or x passes, and f tells of another of its name
+    module _ (p : List ℕ) (xs : List (Option A)) {zero : Bool} (bytes : zero ≡ areZero p) where
+      pub slot-free : zero ≡ true → true ≡ fitsBefore t u (slotIn g p) xs
+      unfolding fitsBefore slotIn
+      slot-free h = let e = sym bytes ∙ h in rw (slotIn, e)
 
-    pub fits-held : (p : List ℕ) (xs : List (Option A)) → areZero p ≡ false →
-        fitsBefore t u (slotIn g p) xs ≡ (t (g p) and not (isSome (find (u (g p)) xs)))
-    unfolding fitsBefore slotIn
-    fits-held p xs e = rw (slotIn, e)
+      module _ (held : zero ≡ false) {x : A} {r : Bool} (read : x ≡ g p) (tested : r ≡ t x) where
+        slot-held : fitsBefore t u (slotIn g p) xs ≡ (t x and not (isSome (find (u x) xs)))
+        unfolding fitsBefore slotIn
+        slot-held = let e = sym bytes ∙ held in rw (slotIn, e, read)
+
+        pub slot-unfit : not r ≡ true → false ≡ fitsBefore t u (slotIn g p) xs
+        slot-unfit h = rw (slot-held, fails-then (not (isSome (find (u x) xs))) tested h)
+
+        pub slot-fit : not r ≡ false → (n : ℕ) {f : Bool} → f ≡ isAt (indexWhere (holds (u x)) n xs) →
+            not f ≡ fitsBefore t u (slotIn g p) xs
+        slot-fit h n found =
+            rw (slot-held, holds-then (not (isSome (find (u x) xs))) tested h, find-at (u x) n xs, found)
+
+-- THE TWO TABLES of a store: what a scan found is at its place
+module _ (bs : List ℕ) (i : ℕ) where
+  pub channel-index : (t : Option Channel → Bool) → indexWhere t 0 (storeIn bs .channels) ≡ At i → i < channelLimit
+  unfolding storeIn
+  channel-index t h = found-index channelIn headerSize channelLimit bs i t h
+
+  pub channel-found : (t : Channel → Bool) → firstThat t (storeIn bs .channels) ≡ At i →
+      find t (storeIn bs .channels) ≡ some (channelIn (slotAt headerSize bs i))
+  unfolding storeIn
+  channel-found t h = found-entry channelIn headerSize channelLimit bs i t h
+
+  module _ (n : ℕ) (size : length bs ≡ sizeFor n) where
+    pub record-index : (t : Option Record → Bool) → indexWhere t 0 (storeIn bs .records) ≡ At i → i < n
+    record-index t h = found-index recordIn recordsFrom n bs i t (rw (records-from n bs size) at h)
+
+    pub record-found : (t : Record → Bool) → firstThat t (storeIn bs .records) ≡ At i →
+        find t (storeIn bs .records) ≡ some (recordIn (slotAt recordsFrom bs i))
+    record-found t h =
+        rw (records-from n bs size) (found-entry recordIn recordsFrom n bs i t (rw (records-from n bs size) at h))

@@ -2,7 +2,7 @@
 -- those that are left. Assumes nothing.
 use mathlib.Core.Path.{_≡_, refl, sym, _∙_}
 use mathlib.Core.Bool.{Bool, true, false, not}
-use mathlib.Core.List.{List, [], _∷_, map}
+use mathlib.Core.List.{List, [], _∷_}
 use mathlib.Core.Option.{Option}
 use Prim.Native.Nat.{ℕ, suc, _+_, _*_, _-_, _≤_, _<_}
 use native.Mathlib.Numerals.{add-one}
@@ -17,15 +17,8 @@ use Rattle.store.specs.declared.Found.the-variants.{At, Nothing}
 use Rattle.store.specs.Limits.{channelLimit}
 use Rattle.store.specs.Layout.{headerSize, slotSize, recordsFrom, sizeFor, roomIn}
 use Rattle.store.specs.Layout.{channelIn, recordIn, slotIn, storeIn}
-use Rattle.store.specs.SlotTest.{everySlot}
+use Rattle.store.specs.SlotTest.{slotAt, slotsFrom, tableFrom, everySlot}
 use Rattle.store.specs.Scan.{indexWhere}
-
--- the i-th slot of a table of n that starts at a place, and the slots from it on
-abbrev pub slotAt : (start : ℕ) → List ℕ → (i : ℕ) → List ℕ
-slotAt start bs i = part (start + slotSize * i) slotSize bs
-
-abbrev pub slotsFrom : (start n : ℕ) → List ℕ → (i : ℕ) → List (List ℕ)
-slotsFrom start n bs i = pieces slotSize (n - i) (drop (start + slotSize * i) bs)
 
 module _ (start n : ℕ) (bs : List ℕ) (i : ℕ) where
   slots-turn : i < n → slotsFrom start n bs i ≡ slotAt start bs i ∷ slotsFrom start n bs (i + 1)
@@ -41,12 +34,12 @@ module _ (start n : ℕ) (bs : List ℕ) (i : ℕ) where
 
 -- the tables of a store are all their slots
 pub channels-from : (bs : List ℕ) →
-    storeIn bs .channels ≡ map (slotIn channelIn) (slotsFrom headerSize channelLimit bs 0)
+    storeIn bs .channels ≡ tableFrom channelIn headerSize channelLimit bs 0
 unfolding storeIn
 channels-from bs = refl
 
 pub records-from : (n : ℕ) (bs : List ℕ) → length bs ≡ sizeFor n →
-    storeIn bs .records ≡ map (slotIn recordIn) (slotsFrom recordsFrom n bs 0)
+    storeIn bs .records ≡ tableFrom recordIn recordsFrom n bs 0
 unfolding storeIn roomIn
 records-from n bs l = let r : roomIn (length bs) ≡ n - 0 = omega arith in rw r
 
@@ -72,7 +65,7 @@ module _ (t : List ℕ → List (List ℕ) → Bool) (start n : ℕ) (bs : List 
 -- THE FIRST SLOT that passes a test, which came to r
 module _ {A : Type 0} (g : List ℕ → A) (t : Option A → Bool) (start n : ℕ) (bs : List ℕ) where
   abbrev pub firstFrom : (i : ℕ) → Found
-  firstFrom i = indexWhere t i (map (slotIn g) (slotsFrom start n bs i))
+  firstFrom i = indexWhere t i (tableFrom g start n bs i)
 
   module _ {i : ℕ} {all : Found} (left : all ≡ firstFrom i) where
     module _ {r : Bool} (more : i < n) (tested : r ≡ t (slotIn g (slotAt start bs i))) where

@@ -2,13 +2,24 @@
 use mathlib.Core.Bool.{Bool, true, false, not}
 use mathlib.Core.List.{List, [], _∷_, map}
 use mathlib.Core.Option.{Option, none, some}
-use Prim.Native.Nat.{ℕ}
+use Prim.Native.Nat.{ℕ, _+_, _*_, _-_}
+use lib.ListN.{drop}
 use Rattle.wire.specs.Choice.{_and_, isSome}
-use Rattle.wire.specs.Bytes.{same}
+use Rattle.wire.specs.Bytes.{same, part, pieces}
 use Rattle.store.specs.declared.Found.{Found}
 use Rattle.store.specs.declared.Found.the-variants.{At, Nothing}
 use Rattle.store.specs.Table.{find}
-use Rattle.store.specs.Layout.{slotBytes, slotIn}
+use Rattle.store.specs.Layout.{slotSize, slotBytes, slotIn}
+
+-- THE SLOTS of a table of n that starts at a place: the i-th, and those from it on, as bytes and as they are read
+abbrev pub slotAt : (start : ℕ) → List ℕ → (i : ℕ) → List ℕ
+slotAt start bs i = part (start + slotSize * i) slotSize bs
+
+abbrev pub slotsFrom : (start n : ℕ) → List ℕ → (i : ℕ) → List (List ℕ)
+slotsFrom start n bs i = pieces slotSize (n - i) (drop (start + slotSize * i) bs)
+
+abbrev pub tableFrom : {A : Type 0} → (List ℕ → A) → (start n : ℕ) → List ℕ → (i : ℕ) → List (Option A)
+tableFrom g start n bs i = map (slotIn g) (slotsFrom start n bs i)
 
 -- each slot passes a test, which is given the slots behind it too
 unfoldable pub everySlot : (List ℕ → List (List ℕ) → Bool) → List (List ℕ) → Bool

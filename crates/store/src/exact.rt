@@ -4,7 +4,7 @@ use wire::are_zero;
 use wire::u16_at;
 use wire::u32_at;
 ghost use mathlib.Core.Path.{_≡_};
-ghost use Prim.Native.Nat.{_+_, _*_, _≤_};
+ghost use Prim.Native.Nat.{_+_, _≤_};
 ghost use lib.ListN.{length, drop};
 ghost use Rattle.wire.specs.Choice.{_and_};
 ghost use Rattle.wire.specs.Bytes.{part, field, same, pieces};

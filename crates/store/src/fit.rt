@@ -1,5 +1,5 @@
-// Whether a store is fit: laid out exactly, and what its tables hold fits together. Each table is scanned once; for each
-// entry the slots behind it are searched for its name.
+// Whether a store is fit: laid out exactly, and what its tables hold fits together. Each table is scanned
+// once; for each entry the slots behind it are searched for its name.
 use super::Channel;
 use super::Counters;
 use super::Found;
@@ -7,26 +7,32 @@ use super::Record;
 use super::Store;
 use super::Timeout;
 use super::exact::is_exact;
-use super::ordering::{is_ordered, is_received};
-use super::scan::{find_channel, first_channel, first_record, is_found};
-use super::slot::{channel_at, record_at};
-use wire::{are_zero, is_zero_digest};
+use super::ordering::is_ordered;
+use super::ordering::is_received;
+use super::scan::find_channel;
+use super::scan::first_channel;
+use super::scan::first_record;
+use super::scan::is_found;
+use super::slot::channel_at;
+use super::slot::record_at;
+use wire::are_zero;
+use wire::is_zero_digest;
 ghost use mathlib.Core.Path.{_≡_};
 ghost use mathlib.Core.Bool.{not};
 ghost use mathlib.Core.Option.{some};
-ghost use Prim.Native.Nat.{_+_, _*_, _-_, _≤_, _<_};
+ghost use Prim.Native.Nat.{_+_, _≤_, _<_};
 ghost use lib.Dec.{leb};
-ghost use lib.ListN.{length, drop};
+ghost use lib.ListN.{length};
 ghost use Rattle.wire.specs.Choice.{_and_, isIn};
-ghost use Rattle.wire.specs.Bytes.{part, areZero};
+ghost use Rattle.wire.specs.Bytes.{areZero};
 ghost use Rattle.store.specs.Limits.{channelLimit};
 ghost use Rattle.store.specs.Height.{noTimeout, sameTimeout};
 ghost use Rattle.store.specs.Table.{sameNumber, sameKey};
-ghost use Rattle.store.specs.Layout.{headerSize, slotSize, recordsFrom, sizeFor};
-ghost use Rattle.store.specs.Layout.{channelIn, recordIn, slotIn, tableIn, storeIn};
+ghost use Rattle.store.specs.Layout.{headerSize, recordsFrom, sizeFor};
+ghost use Rattle.store.specs.Layout.{channelIn, recordIn, slotIn, storeIn};
 ghost use Rattle.store.specs.Ordering.{isOrdered, isReceived};
 ghost use Rattle.store.specs.Fit.{channelFits, channelsFit, fitsEnd, recordFits, recordsFit, isFit};
-ghost use Rattle.store.specs.SlotTest.{fitsBefore};
+ghost use Rattle.store.specs.SlotTest.{slotAt, tableFrom, fitsBefore};
 
 fn is_in(low: u8, high: u8, x: u8) -> bool
     ensures { λ r. ⌜ r ≡ isIn low high x ⌝ }
@@ -65,13 +71,11 @@ fn channel_fits(c: Channel) -> bool
 // Slot i of the channel records, before the slots behind it.
 fn channel_slot_fits(s: &[u8], i: usize) -> bool
     requires { ⌜ (recordsFrom ≤ length (now s)) × (i < channelLimit) ⌝ }
-    ensures {
-        λ r. ⌜
-            r ≡
-            fitsBefore channelFits sameNumber (slotIn channelIn (part (headerSize + slotSize * i) slotSize (now (s .entry))))
-            (tableIn channelIn (channelLimit - (i + 1)) (drop (headerSize + slotSize * (i + 1)) (now (s .entry))))
-        ⌝
-    }
+    ensures { λ r. ⌜
+        r ≡
+        fitsBefore channelFits sameNumber (slotIn channelIn (slotAt headerSize (now (s .entry)) i))
+        (tableFrom channelIn headerSize channelLimit (now (s .entry)) (i + 1))
+        ⌝ }
 {
     let at = Store::HEADER + Store::SLOT * i;
     if are_zero(s, at, Store::SLOT) {
@@ -108,9 +112,7 @@ fn is_no_timeout(t: Timeout) -> bool
 }
 
 fn receipt_fits(r: Record, c: Channel) -> bool
-    ensures {
-        λ b. ⌜ b ≡ (not (isOrdered c) and sameTimeout (r .timeout) noTimeout and areZero (r .digest)) ⌝
-    }
+    ensures { λ b. ⌜ b ≡ (not (isOrdered c) and sameTimeout (r .timeout) noTimeout and areZero (r .digest)) ⌝ }
 {
     if is_ordered(c) {
         return false;
@@ -125,11 +127,9 @@ fn receipt_fits(r: Record, c: Channel) -> bool
 
 fn acknowledgement_fits(s: &[u8], count: usize, r: Record, c: Channel) -> bool
     requires { ⌜ length (now s) ≡ sizeFor count ⌝ }
-    ensures {
-        λ b. ⌜
-            b ≡ (sameTimeout (r .timeout) noTimeout and isReceived (storeIn (now (s .entry)) .records) c (r .sequence))
-        ⌝
-    }
+    ensures { λ b. ⌜
+        b ≡ (sameTimeout (r .timeout) noTimeout and isReceived (storeIn (now (s .entry)) .records) c (r .sequence))
+        ⌝ }
 {
     let t = r.timeout;
     if !is_no_timeout(t) {
@@ -172,14 +172,12 @@ fn record_fits(s: &[u8], count: usize, r: Record) -> bool
 // Slot i of the packet records, before the slots behind it.
 fn record_slot_fits(s: &[u8], count: usize, i: usize) -> bool
     requires { ⌜ (length (now s) ≡ sizeFor count) × (i < count) ⌝ }
-    ensures {
-        λ r. ⌜
-            r ≡
-            fitsBefore (recordFits (storeIn (now (s .entry)))) sameKey
-            (slotIn recordIn (part (recordsFrom + slotSize * i) slotSize (now (s .entry))))
-            (tableIn recordIn (count - (i + 1)) (drop (recordsFrom + slotSize * (i + 1)) (now (s .entry))))
-        ⌝
-    }
+    ensures { λ r. ⌜
+        r ≡
+        fitsBefore (recordFits (storeIn (now (s .entry)))) sameKey
+        (slotIn recordIn (slotAt recordsFrom (now (s .entry)) i))
+        (tableFrom recordIn recordsFrom count (now (s .entry)) (i + 1))
+        ⌝ }
 {
     let at = Store::RECORDS_FROM + Store::SLOT * i;
     if are_zero(s, at, Store::SLOT) {

@@ -6,16 +6,16 @@ use wire::u16_at;
 use wire::u32_at;
 use wire::u64_at;
 ghost use mathlib.Core.Path.{_≡_};
-ghost use Prim.Native.Nat.{_+_, _*_, _-_, _≤_};
-ghost use lib.ListN.{length, drop};
+ghost use Prim.Native.Nat.{_+_, _≤_};
+ghost use lib.ListN.{length};
 ghost use Rattle.wire.specs.Choice.{isSome};
 ghost use Rattle.wire.specs.Bytes.{part};
 ghost use Rattle.store.specs.Limits.{channelLimit};
 ghost use Rattle.store.specs.Table.{isNumbered, hasKey, lookup};
 ghost use Rattle.store.specs.Layout.{headerSize, slotSize, recordsFrom, sizeFor};
-ghost use Rattle.store.specs.Layout.{channelIn, recordIn, slotIn, tableIn, storeIn};
+ghost use Rattle.store.specs.Layout.{channelIn, recordIn, slotIn, storeIn};
 ghost use Rattle.store.specs.Scan.{indexWhere, holds, firstThat, firstFree};
-ghost use Rattle.store.specs.SlotTest.{isAt};
+ghost use Rattle.store.specs.SlotTest.{tableFrom, isAt};
 
 // A free slot has no number, though its bytes read as 0.
 fn is_numbered(s: &[u8], at: usize, number: u32) -> bool
@@ -55,7 +55,7 @@ pub fn first_channel(s: &[u8], from: usize, number: u32) -> Found
     ensures { λ r. ⌜
         r ≡
         indexWhere (holds (isNumbered number)) from
-        (tableIn channelIn (channelLimit - from) (drop (headerSize + slotSize * from) (now (s .entry))))
+        (tableFrom channelIn headerSize channelLimit (now (s .entry)) from)
         ⌝ }
 {
     let mut i = from;
@@ -81,7 +81,7 @@ pub fn first_record(
     ensures { λ r. ⌜
         r ≡
         indexWhere (holds (hasKey (record { kind = kind; channel = channel; sequence = sequence }))) from
-        (tableIn recordIn (count - from) (drop (recordsFrom + slotSize * from) (now (s .entry))))
+        (tableFrom recordIn recordsFrom count (now (s .entry)) from)
         ⌝ }
 {
     let mut i = from;
@@ -144,13 +144,11 @@ pub fn is_found(f: Found) -> bool
 
 pub fn has_record(s: &[u8], count: usize, kind: u16, channel: u32, sequence: u64) -> bool
     requires { ⌜ length (now s) ≡ sizeFor count ⌝ }
-    ensures {
-        λ r. ⌜
-            r ≡
-            isSome
-            (lookup (record { kind = kind; channel = channel; sequence = sequence }) (storeIn (now (s .entry)) .records))
-        ⌝
-    }
+    ensures { λ r. ⌜
+        r ≡
+        isSome
+        (lookup (record { kind = kind; channel = channel; sequence = sequence }) (storeIn (now (s .entry)) .records))
+        ⌝ }
 {
     is_found(find_record(s, count, kind, channel, sequence))
 }

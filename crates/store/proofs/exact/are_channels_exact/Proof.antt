@@ -18,7 +18,9 @@ abbrev test : List ℕ → List (List ℕ) → Bool
 test p behind = isExact channelBytes channelIn p
 
 abbrev Inv-loop : tie.InvT-loop
-Inv-loop s i₀ i = areExact channelBytes channelIn (pieces slotSize channelLimit (drop headerSize s)) ≡ everyFrom test headerSize channelLimit s i
+Inv-loop s i₀ i =
+    areExact channelBytes channelIn (pieces slotSize channelLimit (drop headerSize s)) ≡
+    everyFrom test headerSize channelLimit s i
 
 abbrev μ-loop : tie.MeasureT-loop
 μ-loop s i₀ i = channelLimit - i

@@ -18,7 +18,8 @@ abbrev test : List ℕ → List (List ℕ) → Bool
 test p behind = isExact recordBytes recordIn p
 
 abbrev Inv-loop : tie.InvT-loop
-Inv-loop s count i₀ i = areExact recordBytes recordIn (pieces slotSize count (drop recordsFrom s)) ≡ everyFrom test recordsFrom count s i
+Inv-loop s count i₀ i =
+    areExact recordBytes recordIn (pieces slotSize count (drop recordsFrom s)) ≡ everyFrom test recordsFrom count s i
 
 abbrev μ-loop : tie.MeasureT-loop
 μ-loop s count i₀ i = count - i

@@ -7,11 +7,11 @@ use native.Mathlib.Omega.{arith}
 use lib.ListN.{length}
 use denote.Ref.{now}
 use borrow.Author.Needs.{needs}
-use borrow.Author.Tests.{not-true, not-false}
-use Rattle.wire.specs.Choice.{_and_}
+use borrow.Author.Tests.{not-false}
 use Rattle.store.specs.Layout.{roomIn}
 use Rattle.store.specs.Fit.{sizeFits}
 use Rattle.store.proofs.FitLaws.{Sized, fits-size}
+use Rattle.store.proofs.TestLaws.{holds-then, fails-then}
 use Rattle.store.proofs.ExactLaws.{exact-parts}
 use Rattle.store.proofs.exact.is_exact.Statement.{statement}
 use Rattle.store.proofs.exact.is_exact.Tie as tie
@@ -27,8 +27,7 @@ sized : (k : tie.Else1) → Sized (length (bytes k))
 sized k = fits-size (length (bytes k)) (fits k)
 
 returns : tie.Need-returns
-unfolding _and_
-returns c = rw (← c .before .size-fits .ensures, not-true (c .before .size-fits .result) (c .if1 .taken))
+returns c = rw (fails-then _ (c .before .size-fits .ensures) (c .if1 .taken))
 
 sub-count : tie.Need-sub-count
 sub-count c = omega (arith, sized c .whole)
@@ -38,29 +37,26 @@ unfolding roomIn
 is-header-exact-requires c κs = (omega (arith, sized c .high), omega (arith, sized c .whole))
 
 returns-2 : tie.Need-returns-2
-unfolding _and_ roomIn
+unfolding roomIn
 returns-2 c =
     let h = c .before in
     rw (
       exact-parts (bytes (h .before)) (fits (h .before)),
-      ← h .is-header-exact .ensures,
-      not-true (h .is-header-exact .result) (c .if2 .taken),
+      fails-then _ (h .is-header-exact .ensures) (c .if2 .taken),
     )
 
 are-channels-exact-requires : tie.Need-are-channels-exact-requires
 are-channels-exact-requires c κs = omega (arith, sized (c .before .before) .whole)
 
 returns-3 : tie.Need-returns-3
-unfolding _and_ roomIn
+unfolding roomIn
 returns-3 c =
-    let t = c .before in
-    let h = t .before .before in
+    let d = c .before .before in
+    let h = d .before in
     rw (
       exact-parts (bytes (h .before)) (fits (h .before)),
-      ← h .is-header-exact .ensures,
-      not-false (h .is-header-exact .result) (t .before .if2 .left),
-      ← t .are-channels-exact .ensures,
-      not-true (t .are-channels-exact .result) (c .if3 .taken),
+      holds-then _ (h .is-header-exact .ensures) (d .if2 .left),
+      fails-then _ (c .before .are-channels-exact .ensures) (c .if3 .taken),
     )
 
 are-records-exact-requires : tie.Need-are-records-exact-requires
@@ -68,16 +64,15 @@ unfolding roomIn
 are-records-exact-requires c κs = omega (arith, sized (c .before .before .before .before) .whole)
 
 returns-4 : tie.Need-returns-4
-unfolding _and_ roomIn
+unfolding roomIn
 returns-4 c =
-    let t = c .before .before in
-    let h = t .before .before in
+    let e = c .before in
+    let d = e .before .before in
+    let h = d .before in
     rw (
       exact-parts (bytes (h .before)) (fits (h .before)),
-      ← h .is-header-exact .ensures,
-      not-false (h .is-header-exact .result) (t .before .if2 .left),
-      ← t .are-channels-exact .ensures,
-      not-false (t .are-channels-exact .result) (c .before .if3 .left),
+      holds-then _ (h .is-header-exact .ensures) (d .if2 .left),
+      holds-then _ (e .before .are-channels-exact .ensures) (e .if3 .left),
     )
     (c .are-records-exact .ensures)
 

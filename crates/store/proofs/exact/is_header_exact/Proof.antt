@@ -1,11 +1,10 @@
 -- The tests are those of `header-exact`. Assumes nothing.
-use mathlib.Core.Path.{_≡_, sym, _∙_}
+use mathlib.Core.Path.{sym, _∙_}
 use native.Mathlib.Omega.{arith}
 use denote.Ref.{now}
 use borrow.Author.Needs.{needs}
-use Rattle.wire.specs.Bytes.{Bytes, field}
+use Rattle.wire.specs.Bytes.{Bytes}
 use Rattle.wire.proofs.PartLaws.{bytes-getD}
-use Rattle.store.specs.Layout.{sizeFor}
 use Rattle.store.proofs.TestLaws.{agree, differ}
 use Rattle.store.proofs.ExactLaws.{header-exact}
 use Rattle.store.proofs.exact.is_header_exact.Statement.{statement}

@@ -4,14 +4,8 @@ use borrow.Author.Needs.{needs}
 use Rattle.store.proofs.fit.acknowledgement_fits.Statement.{statement}
 use Rattle.store.proofs.fit.acknowledgement_fits.Tie as tie
 
-is-no-timeout-requires : tie.Need-is-no-timeout-requires
-is-no-timeout-requires c κs = search needs
-
 returns : tie.Need-returns
 returns c = rw (fails-then _ (c .before .is-no-timeout .ensures) (c .if1 .taken))
-
-is-received-requires : tie.Need-is-received-requires
-is-received-requires c κs = search needs
 
 returns-2 : tie.Need-returns-2
 returns-2 c =
@@ -20,4 +14,6 @@ returns-2 c =
 
 pub acknowledgement-fits-spec : {M : Type 1} → statement M
 acknowledgement-fits-spec =
-    tie.close (tie.spec is-no-timeout-requires returns is-received-requires returns-2)
+    tie.close
+    (tie.spec
+    (λ c κs. search needs) returns (λ c κs. search needs) returns-2)

@@ -1,5 +1,4 @@
 -- The tests, one after another. Assumes nothing.
-use Rattle.wire.specs.Choice.{_and_}
 use Rattle.wire.proofs.PartLaws.{and-assoc}
 use Rattle.store.specs.Fit.{channelFits}
 use Rattle.store.proofs.TestLaws.{holds-then, fails-then}
@@ -7,34 +6,36 @@ use borrow.Author.Needs.{needs}
 use Rattle.store.proofs.fit.channel_fits.Statement.{statement}
 use Rattle.store.proofs.fit.channel_fits.Tie as tie
 
-is-in-requires : tie.Need-is-in-requires
-is-in-requires c κs = search needs
-
 returns : tie.Need-returns
 unfolding channelFits
 returns c = rw (channelFits, and-assoc, fails-then _ (c .before .is-in .ensures) (c .if1 .taken))
-
-is-in-requires-2 : tie.Need-is-in-requires-2
-is-in-requires-2 c κs = search needs
 
 returns-2 : tie.Need-returns-2
 unfolding channelFits
 returns-2 c =
     let d = c .before .before in
-    rw (channelFits, and-assoc, holds-then _ (d .before .is-in .ensures) (d .if1 .left), fails-then _ (c .before .is-in2 .ensures) (c .if2 .taken))
-
-counters-fit-requires : tie.Need-counters-fit-requires
-counters-fit-requires c κs = search needs
+    rw (
+      channelFits,
+      and-assoc,
+      holds-then _ (d .before .is-in .ensures) (d .if1 .left),
+      fails-then _ (c .before .is-in2 .ensures) (c .if2 .taken),
+    )
 
 returns-3 : tie.Need-returns-3
 unfolding channelFits
 returns-3 c =
     let e = c .before .before in
     let d = e .before .before in
-    rw (channelFits, and-assoc, holds-then _ (d .before .is-in .ensures) (d .if1 .left), holds-then _ (e .before .is-in2 .ensures) (e .if2 .left))
+    rw (
+      channelFits,
+      and-assoc,
+      holds-then _ (d .before .is-in .ensures) (d .if1 .left),
+      holds-then _ (e .before .is-in2 .ensures) (e .if2 .left),
+    )
     (c .counters-fit .ensures)
 
 pub channel-fits-spec : {M : Type 1} → statement M
 channel-fits-spec =
     tie.close
-    (tie.spec is-in-requires returns is-in-requires-2 returns-2 counters-fit-requires returns-3)
+    (tie.spec
+    (λ c κs. search needs) returns (λ c κs. search needs) returns-2 (λ c κs. search needs) returns-3)

@@ -1,17 +1,16 @@
 -- The answer for all slots is the answer for those that are left. Assumes nothing.
-use mathlib.Core.Path.{_≡_, ap, _∙_}
+use mathlib.Core.Path.{_≡_}
 use mathlib.Core.Bool.{Bool}
 use mathlib.Core.List.{List}
-use mathlib.Core.Option.{Option}
 use Prim.Native.Nat.{ℕ, _-_}
 use native.Mathlib.Omega.{arith}
 use denote.Ref.{now}
-use Rattle.wire.specs.Choice.{_and_}
 use Rattle.store.specs.Limits.{channelLimit}
 use Rattle.store.specs.Table.{sameNumber}
 use Rattle.store.specs.Layout.{headerSize, channelIn, storeIn}
 use Rattle.store.specs.Fit.{channelFits, channelsFit}
-use Rattle.store.proofs.TurnLaws.{slotsFrom, everyFrom, fails, passes, passed}
+use Rattle.store.specs.SlotTest.{slotsFrom}
+use Rattle.store.proofs.TurnLaws.{everyFrom, fails, passes, passed}
 use Rattle.store.proofs.SlotTestLaws.{slotFits, fits-table}
 use Rattle.store.proofs.fit.channels_fit.Statement.{statement}
 use Rattle.store.proofs.fit.channels_fit.Tie as tie
@@ -31,21 +30,12 @@ loop-holds c =
     let s = now (c .before .args .s) in
     fits-table channelFits sameNumber channelIn (slotsFrom headerSize channelLimit s 0)
 
-channel-slot-fits-requires : tie.Need-channel-slot-fits-requires Inv-loop μ-loop
-channel-slot-fits-requires c κs = omega arith
-
 returns : tie.Need-returns Inv-loop μ-loop
 returns c =
     let l = c .before .before .before in
     let a = l .before .before .args in
     fails test headerSize channelLimit (now (a .s)) (l .loop .inv) (c .before .before .loop-test .taken)
     (c .before .channel-slot-fits .ensures) (c .if1 .taken)
-
-add-i : tie.Need-add-i Inv-loop μ-loop
-add-i c = omega arith
-
-loop-less : tie.Need-loop-less Inv-loop μ-loop
-loop-less c = omega arith
 
 loop-again : tie.Need-loop-again Inv-loop μ-loop
 loop-again c =
@@ -63,12 +53,5 @@ pub channels-fit-spec : {M : Type 1} → statement M
 channels-fit-spec =
     tie.close
     (tie.spec
-    Inv-loop
-    μ-loop
-    loop-holds
-    channel-slot-fits-requires
-    returns
-    add-i
-    loop-less
-    loop-again
+    Inv-loop μ-loop loop-holds (λ c κs. omega arith) returns (λ c. omega arith) (λ c. omega arith) loop-again
     returns-2)

@@ -26,4 +26,7 @@ returns-3 c =
     rw (le-leb 1 (n .send) (d .if1 .left), le-leb 1 (n .receive) (e .if2 .left))
 
 pub counters-fit-spec : {M : Type 1} → statement M
-counters-fit-spec = tie.close (tie.spec returns returns-2 returns-3)
+counters-fit-spec =
+    tie.close
+    (tie.spec
+    returns returns-2 returns-3)

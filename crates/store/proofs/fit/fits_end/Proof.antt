@@ -13,9 +13,6 @@ returns c =
     let k = d .before .before .before .args .r .kind in
     rw (eq-eqb k 1 (d .if1 .taken))
 
-receipt-fits-requires : tie.Need-receipt-fits-requires
-receipt-fits-requires c κs = search needs
-
 returns-2 : tie.Need-returns-2
 unfolding fitsEnd
 returns-2 c =
@@ -24,9 +21,6 @@ returns-2 c =
     let k = d .before .before .before .args .r .kind in
     rw (ne-eqb k 1 (d .if1 .left), eq-eqb k 2 (e .if2 .taken)) (c .receipt-fits .ensures)
 
-acknowledgement-fits-requires : tie.Need-acknowledgement-fits-requires
-acknowledgement-fits-requires c κs = search needs
-
 returns-3 : tie.Need-returns-3
 unfolding fitsEnd _and_
 returns-3 c =
@@ -34,7 +28,8 @@ returns-3 c =
     let e = f .before .before in
     let d = e .before .before in
     let k = d .before .before .before .args .r .kind in
-    rw (ne-eqb k 1 (d .if1 .left), ne-eqb k 2 (e .if2 .left), eq-eqb k 3 (f .if3 .taken)) (c .acknowledgement-fits .ensures)
+    rw (ne-eqb k 1 (d .if1 .left), ne-eqb k 2 (e .if2 .left), eq-eqb k 3 (f .if3 .taken))
+    (c .acknowledgement-fits .ensures)
 
 returns-4 : tie.Need-returns-4
 unfolding fitsEnd _and_
@@ -48,9 +43,4 @@ pub fits-end-spec : {M : Type 1} → statement M
 fits-end-spec =
     tie.close
     (tie.spec
-    returns
-    receipt-fits-requires
-    returns-2
-    acknowledgement-fits-requires
-    returns-3
-    returns-4)
+    returns (λ c κs. search needs) returns-2 (λ c κs. search needs) returns-3 returns-4)

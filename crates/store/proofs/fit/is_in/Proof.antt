@@ -13,4 +13,7 @@ unfolding _and_
 returns-2 c = let a = c .before .args in rw (le-leb (a .low) (a .x) (c .if1 .left))
 
 pub is-in-spec : {M : Type 1} → statement M
-is-in-spec = tie.close (tie.spec returns returns-2)
+is-in-spec =
+    tie.close
+    (tie.spec
+    returns returns-2)

@@ -13,4 +13,7 @@ unfolding sameTimeout
 returns-2 c = rw (agree _ (c .before .if1 .left))
 
 pub is-no-timeout-spec : {M : Type 1} → statement M
-is-no-timeout-spec = tie.close (tie.spec returns returns-2)
+is-no-timeout-spec =
+    tie.close
+    (tie.spec
+    returns returns-2)

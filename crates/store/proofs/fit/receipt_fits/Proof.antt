@@ -1,15 +1,11 @@
 -- The tests, one after another. Assumes nothing.
-use mathlib.Core.Path.{sym, ap, _∙_}
+use mathlib.Core.Path.{sym, _∙_}
 use mathlib.Core.Bool.{not}
 use Rattle.wire.specs.Choice.{_and_}
-use Rattle.wire.proofs.PartLaws.{and-assoc}
 use Rattle.store.proofs.TestLaws.{holds-then, fails-then}
 use borrow.Author.Needs.{needs}
 use Rattle.store.proofs.fit.receipt_fits.Statement.{statement}
 use Rattle.store.proofs.fit.receipt_fits.Tie as tie
-
-is-ordered-requires : tie.Need-is-ordered-requires
-is-ordered-requires c κs = search needs
 
 returns : tie.Need-returns
 unfolding _and_
@@ -17,18 +13,12 @@ returns c =
     let ordered = sym (c .before .is-ordered .ensures) ∙ c .if1 .taken in
     rw ordered
 
-is-no-timeout-requires : tie.Need-is-no-timeout-requires
-is-no-timeout-requires c κs = search needs
-
 returns-2 : tie.Need-returns-2
 unfolding _and_
 returns-2 c =
     let d = c .before .before .before in
     let unordered = sym (d .before .is-ordered .ensures) ∙ d .if1 .left in
     rw (unordered, fails-then _ (c .before .is-no-timeout .ensures) (c .if2 .taken))
-
-is-zero-digest-requires : tie.Need-is-zero-digest-requires
-is-zero-digest-requires c κs = search needs
 
 returns-3 : tie.Need-returns-3
 unfolding _and_
@@ -42,9 +32,4 @@ pub receipt-fits-spec : {M : Type 1} → statement M
 receipt-fits-spec =
     tie.close
     (tie.spec
-    is-ordered-requires
-    returns
-    is-no-timeout-requires
-    returns-2
-    is-zero-digest-requires
-    returns-3)
+    (λ c κs. search needs) returns (λ c κs. search needs) returns-2 (λ c κs. search needs) returns-3)

@@ -4,49 +4,39 @@ use mathlib.Core.List.{List}
 use Prim.Native.Nat.{ℕ, _<_}
 use native.Mathlib.Omega.{arith}
 use denote.Ref.{now}
+use borrow.Author.Needs.{needs}
 use borrow.Author.Tests.{le-leb, lt-leb}
 use Rattle.wire.specs.Choice.{_and_}
 use Rattle.store.specs.declared.Found.the-variants.{At}
 use Rattle.store.specs.Limits.{channelLimit}
 use Rattle.store.specs.Table.{isNumbered}
-use Rattle.store.specs.Layout.{headerSize, channelIn, storeIn}
-use Rattle.store.specs.Scan.{firstThat}
+use Rattle.store.specs.Layout.{storeIn}
+use Rattle.store.specs.Scan.{holds, firstThat}
 use Rattle.store.specs.Fit.{fitsEnd, recordFits}
 use Rattle.store.proofs.ScanLaws.{find-nothing}
-use Rattle.store.proofs.TurnLaws.{slotsFrom}
-use Rattle.store.proofs.SlotTestLaws.{found-index, found-entry}
-use borrow.Author.Needs.{needs}
+use Rattle.store.proofs.SlotTestLaws.{channel-index, channel-found}
 use Rattle.store.proofs.fit.record_fits.Statement.{statement}
 use Rattle.store.proofs.fit.record_fits.Tie as tie
 
+-- the slot that is found, and the bytes and the number that are searched
 abbrev index : tie.After-known-told → ℕ
 index k = k .before .j .given .0 .0
 
-abbrev start : tie.After-known-told → tie.Start
-start k = k .before .before .before .before .before .before .before
+abbrev bytes : tie.After-known-told → List ℕ
+bytes k = now (k .before .before .before .before .before .before .before .args .s)
 
-found : (k : tie.After-known-told) →
-    firstThat (isNumbered (start k .args .r .channel)) (storeIn (now (start k .args .s)) .channels) ≡ At (index k)
+abbrev number : tie.After-known-told → ℕ
+number k = k .before .before .before .before .before .before .before .args .r .channel
+
+found : (k : tie.After-known-told) → firstThat (isNumbered (number k)) (storeIn (bytes k) .channels) ≡ At (index k)
 found k = sym (k .before .before .before .find-channel .ensures) ∙ k .before .j .given .1
 
 below : (k : tie.After-known-told) → index k < channelLimit
-unfolding storeIn
-below k =
-    found-index channelIn (isNumbered (start k .args .r .channel)) headerSize channelLimit (now (start k .args .s)) (index k)
-    (found k)
+below k = channel-index (bytes k) (index k) (holds (isNumbered (number k))) (found k)
 
 returns : tie.Need-returns
 unfolding recordFits _and_
 returns c = rw (recordFits, lt-leb 1 (c .before .before .before .args .r .sequence) (c .if1 .taken))
-
-find-channel-requires : tie.Need-find-channel-requires
-find-channel-requires c κs = search needs
-
-enum-known-j : tie.Need-enum-known-j
-enum-known-j c = search needs
-
-enum-told : tie.Need-enum-told
-enum-told c = search needs
 
 returns-2 : tie.Need-returns-2
 unfolding recordFits fitsEnd _and_
@@ -54,7 +44,8 @@ returns-2 c =
     let f = c .before .before in
     let d = f .before in
     let a = d .before .before .before .args in
-    let none = find-nothing (isNumbered (a .r .channel)) 0 (storeIn (now (a .s)) .channels) (sym (f .find-channel .ensures) ∙ c .enum-told .given .1) in
+    let nothing = sym (f .find-channel .ensures) ∙ c .enum-told .given .1 in
+    let none = find-nothing (isNumbered (a .r .channel)) 0 (storeIn (now (a .s)) .channels) nothing in
     rw (recordFits, le-leb 1 (a .r .sequence) (d .if1 .left), none)
 
 mul-channel-at : tie.Need-mul-channel-at
@@ -66,29 +57,22 @@ add-channel-at c = omega (arith, below c)
 channel-at-requires : tie.Need-channel-at-requires
 channel-at-requires c κs = omega (arith, below c)
 
-fits-end-requires : tie.Need-fits-end-requires
-fits-end-requires c κs = search needs
-
 returns-3 : tie.Need-returns-3
-unfolding recordFits storeIn _and_
+unfolding recordFits _and_
 returns-3 c =
     let k = c .before .before in
     let d = k .before .before .before .before in
-    let a = d .before .before .before .args in
-    let entry = found-entry channelIn (isNumbered (a .r .channel)) headerSize channelLimit (now (a .s)) (index k) (found k) in
-    rw (recordFits, le-leb 1 (a .r .sequence) (d .if1 .left), entry, ← c .before .channel-at .ensures) (c .fits-end .ensures)
+    rw (
+      recordFits,
+      le-leb 1 (d .before .before .before .args .r .sequence) (d .if1 .left),
+      channel-found (bytes k) (index k) (isNumbered (number k)) (found k),
+      ← c .before .channel-at .ensures,
+    )
+    (c .fits-end .ensures)
 
 pub record-fits-spec : {M : Type 1} → statement M
 record-fits-spec =
     tie.close
     (tie.spec
-    returns
-    find-channel-requires
-    enum-known-j
-    enum-told
-    returns-2
-    mul-channel-at
-    add-channel-at
-    channel-at-requires
-    fits-end-requires
-    returns-3)
+    returns (λ c κs. search needs) (λ c. search needs) (λ c. search needs) returns-2 mul-channel-at add-channel-at
+    channel-at-requires (λ c κs. search needs) returns-3)

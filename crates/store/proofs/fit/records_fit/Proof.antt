@@ -11,7 +11,8 @@ use Rattle.store.specs.declared.Record.{Record}
 use Rattle.store.specs.Table.{all, distinct, sameKey}
 use Rattle.store.specs.Layout.{recordsFrom, recordIn, storeIn}
 use Rattle.store.specs.Fit.{recordFits, recordsFit}
-use Rattle.store.proofs.TurnLaws.{slotsFrom, records-from, everyFrom, fails, passes, passed}
+use Rattle.store.specs.SlotTest.{slotsFrom}
+use Rattle.store.proofs.TurnLaws.{records-from, everyFrom, fails, passes, passed}
 use Rattle.store.proofs.SlotTestLaws.{slotFits, fits-table}
 use Rattle.store.proofs.fit.records_fit.Statement.{statement}
 use Rattle.store.proofs.fit.records_fit.Tie as tie
@@ -31,11 +32,9 @@ loop-holds c =
     let a = c .before .args in
     let s = now (a .s) in
     let fits = recordFits (storeIn s) in
-    ap (λ (rs : List (Option Record)). all fits rs and distinct sameKey rs) (records-from (a .count) s (c .before .pre)) ∙
+    let table = records-from (a .count) s (c .before .pre) in
+    ap (λ (rs : List (Option Record)). all fits rs and distinct sameKey rs) table ∙
     fits-table fits sameKey recordIn (slotsFrom recordsFrom (a .count) s 0)
-
-record-slot-fits-requires : tie.Need-record-slot-fits-requires Inv-loop μ-loop
-record-slot-fits-requires c κs = omega arith
 
 returns : tie.Need-returns Inv-loop μ-loop
 returns c =
@@ -43,12 +42,6 @@ returns c =
     let a = l .before .before .args in
     fails (test (now (a .s))) recordsFrom (a .count) (now (a .s)) (l .loop .inv) (c .before .before .loop-test .taken)
     (c .before .record-slot-fits .ensures) (c .if1 .taken)
-
-add-i : tie.Need-add-i Inv-loop μ-loop
-add-i c = omega arith
-
-loop-less : tie.Need-loop-less Inv-loop μ-loop
-loop-less c = omega arith
 
 loop-again : tie.Need-loop-again Inv-loop μ-loop
 loop-again c =
@@ -66,12 +59,5 @@ pub records-fit-spec : {M : Type 1} → statement M
 records-fit-spec =
     tie.close
     (tie.spec
-    Inv-loop
-    μ-loop
-    loop-holds
-    record-slot-fits-requires
-    returns
-    add-i
-    loop-less
-    loop-again
+    Inv-loop μ-loop loop-holds (λ c κs. omega arith) returns (λ c. omega arith) (λ c. omega arith) loop-again
     returns-2)

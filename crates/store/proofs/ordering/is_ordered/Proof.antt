@@ -9,4 +9,7 @@ unfolding isOrdered
 returns c = refl
 
 pub is-ordered-spec : {M : Type 1} → statement M
-is-ordered-spec = tie.close (tie.spec returns)
+is-ordered-spec =
+    tie.close
+    (tie.spec
+    returns)

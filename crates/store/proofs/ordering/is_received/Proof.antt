@@ -5,18 +5,12 @@ use borrow.Author.Needs.{needs}
 use Rattle.store.proofs.ordering.is_received.Statement.{statement}
 use Rattle.store.proofs.ordering.is_received.Tie as tie
 
-is-ordered-requires : tie.Need-is-ordered-requires
-is-ordered-requires c κs = search needs
-
 returns : tie.Need-returns
 unfolding isReceived
 returns c =
     let d = c .before in
     let ordered = sym (d .before .is-ordered .ensures) ∙ d .if1 .taken in
     rw (isReceived, ordered)
-
-has-record-requires : tie.Need-has-record-requires
-has-record-requires c κs = search needs
 
 returns-2 : tie.Need-returns-2
 unfolding isReceived
@@ -26,4 +20,7 @@ returns-2 c =
     rw (isReceived, unordered) (c .has-record .ensures)
 
 pub is-received-spec : {M : Type 1} → statement M
-is-received-spec = tie.close (tie.spec is-ordered-requires returns has-record-requires returns-2)
+is-received-spec =
+    tie.close
+    (tie.spec
+    (λ c κs. search needs) returns (λ c κs. search needs) returns-2)

@@ -9,4 +9,7 @@ returns : tie.Need-returns
 returns c = rw (channels-from (now (c .before .before .args .s))) (c .first-channel .ensures)
 
 pub find-channel-spec : {M : Type 1} → statement M
-find-channel-spec = tie.close (tie.spec (λ c κs. search needs) returns)
+find-channel-spec =
+    tie.close
+    (tie.spec
+    (λ c κs. search needs) returns)

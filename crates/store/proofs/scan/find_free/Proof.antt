@@ -1,11 +1,12 @@
 -- The answer for all slots is the answer for those that are left. Assumes nothing.
-use mathlib.Core.Path.{_≡_, sym, ap, _∙_}
+use mathlib.Core.Path.{_≡_, sym, _∙_}
 use Prim.Native.Nat.{_-_}
 use native.Mathlib.Omega.{arith}
 use denote.Ref.{now}
 use Rattle.store.specs.Layout.{recordsFrom, recordIn, storeIn}
 use Rattle.store.specs.Scan.{isFree, firstFree}
-use Rattle.store.proofs.TurnLaws.{slotAt, records-from, firstFrom, found, missed, nothing}
+use Rattle.store.specs.SlotTest.{slotAt}
+use Rattle.store.proofs.TurnLaws.{records-from, firstFrom, found, missed, nothing}
 use Rattle.store.proofs.SlotTestLaws.{free-slot}
 use Rattle.store.proofs.scan.find_free.Statement.{statement}
 use Rattle.store.proofs.scan.find_free.Tie as tie

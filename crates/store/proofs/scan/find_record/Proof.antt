@@ -11,4 +11,7 @@ returns c =
     rw (records-from (o .args .count) (now (o .args .s)) (o .pre)) (c .first-record .ensures)
 
 pub find-record-spec : {M : Type 1} → statement M
-find-record-spec = tie.close (tie.spec (λ c κs. search needs) returns)
+find-record-spec =
+    tie.close
+    (tie.spec
+    (λ c κs. search needs) returns)

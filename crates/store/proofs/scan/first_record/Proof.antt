@@ -44,8 +44,8 @@ loop-again c =
 returns-2 : tie.Need-returns-2 Inv-loop μ-loop
 returns-2 c =
     let a = c .before .before .before .args in
-    nothing recordIn (test (a .kind) (a .channel) (a .sequence)) recordsFrom (a .count) (now (a .s)) (c .before .loop .inv)
-    (omega arith)
+    nothing recordIn (test (a .kind) (a .channel) (a .sequence)) recordsFrom (a .count) (now (a .s))
+    (c .before .loop .inv) (omega arith)
 
 pub first-record-spec : {M : Type 1} → statement M
 first-record-spec =

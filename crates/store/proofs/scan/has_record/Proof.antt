@@ -9,12 +9,6 @@ use borrow.Author.Needs.{needs}
 use Rattle.store.proofs.scan.has_record.Statement.{statement}
 use Rattle.store.proofs.scan.has_record.Tie as tie
 
-find-record-requires : tie.Need-find-record-requires
-find-record-requires c κs = search needs
-
-is-found-requires : tie.Need-is-found-requires
-is-found-requires c κs = search needs
-
 returns : tie.Need-returns
 returns c =
     let a = c .before .before .before .args in
@@ -23,4 +17,7 @@ returns c =
     sym (find-at (hasKey key) 0 (storeIn (now (a .s)) .records))
 
 pub has-record-spec : {M : Type 1} → statement M
-has-record-spec = tie.close (tie.spec find-record-requires is-found-requires returns)
+has-record-spec =
+    tie.close
+    (tie.spec
+    (λ c κs. search needs) (λ c κs. search needs) returns)

@@ -29,4 +29,5 @@ returns-2 c =
 pub is-numbered-spec : {M : Type 1} → statement M
 is-numbered-spec =
     tie.close
-    (tie.spec (λ c. search needs) (λ c κs. search needs) returns (λ c κs. search needs) returns-2)
+    (tie.spec
+    (λ c. search needs) (λ c κs. search needs) returns (λ c κs. search needs) returns-2)
