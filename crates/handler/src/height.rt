@@ -8,7 +8,8 @@ use store::Timeout;
 ghost use mathlib.Core.Path.{_≡_};
 ghost use Rattle.store.specs.declared.Timeout.{Timeout};
 ghost use Rattle.store.specs.Layout.{Store};
-ghost use Rattle.store.specs.Height.{heightAtSender, heightAtReceiver, isPast, isPastOwn, isPastOther, sameTimeout};
+ghost use Rattle.store.specs.Height.{heightAtSender, heightAtReceiver, isPast, isPastOwn, isPastOther};
+ghost use Rattle.store.specs.Height.{noTimeout, sameTimeout};
 ghost use Rattle.rules.specs.Refusals.{goesBack, isLate, isProvedLate};
 
 pub fn height_at_sender(t: Timeout) -> OtherHeight
@@ -21,6 +22,12 @@ pub fn height_at_receiver(t: Timeout) -> OwnHeight
     ensures { λ r. ⌜ r ≡ heightAtReceiver t ⌝ }
 {
     OwnHeight(t.height)
+}
+
+pub fn no_timeout() -> Timeout
+    ensures { λ r. ⌜ r ≡ noTimeout ⌝ }
+{
+    Timeout { height: 0, time: 0 }
 }
 
 pub fn same_timeout(t: Timeout, u: Timeout) -> bool

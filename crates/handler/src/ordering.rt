@@ -1,19 +1,14 @@
-// What depends on a channel's ordering: this module and no other.
+// What depends on a channel's ordering: this module, with the store's, and no other.
 use store::Channel;
+use store::ordering::is_ordered;
+use store::scan::has_record;
 ghost use mathlib.Core.Path.{_≡_};
-ghost use Rattle.store.specs.Ordering.{isOrdered};
+ghost use lib.ListN.{length};
+ghost use Rattle.store.specs.Layout.{sizeFor, storeIn};
 ghost use Rattle.rules.specs.Ordering.{receivesInOrder, acknowledgesInOrder, timesOutInOrder, absenceClaim};
-ghost use Rattle.rules.specs.Ordering.{absenceSequence, isAtTop, needsRecord};
-
-const ORDERED: u8 = 1;
+ghost use Rattle.rules.specs.Ordering.{absenceSequence, isReceiptThere, isAtTop, needsRecord};
 
 const TOP: u64 = 18446744073709551615;
-
-pub fn is_ordered(c: Channel) -> bool
-    ensures { λ r. ⌜ r ≡ isOrdered c ⌝ }
-{
-    c.order == ORDERED
-}
 
 // Each counter is what comes next on an ordered channel; an unordered one takes any sequence.
 pub fn receives_in_order(c: Channel, sequence: u64) -> bool
@@ -41,6 +36,17 @@ pub fn times_out_in_order(c: Channel, sequence: u64, claimed: u64) -> bool
         return sequence == claimed;
     }
     true
+}
+
+// A receipt is there: only an unordered channel has any.
+pub fn is_receipt_there(store: &[u8], count: usize, c: Channel, sequence: u64) -> bool
+    requires { ⌜ length (now store) ≡ sizeFor count ⌝ }
+    ensures { λ r. ⌜ r ≡ isReceiptThere (storeIn (now (store .entry)) .records) c sequence ⌝ }
+{
+    if is_ordered(c) {
+        return false;
+    }
+    has_record(store, count, 2, c.own.channel, sequence)
 }
 
 // What a verdict has to claim of a packet that was not received: next receive, or that there is no receipt.
