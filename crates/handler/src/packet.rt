@@ -29,7 +29,7 @@ pub fn fits_destination(c: Channel, p: Packet) -> bool
 
 // 9, for 4 and 5: the end is the packet's source.
 pub fn fits_source(c: Channel, p: Packet) -> bool
-    ensures { λ r. ⌜ r ≡ fitsPacket 4 c p ⌝ }
+    ensures { λ r. ⌜ (r ≡ fitsPacket 4 c p) × (r ≡ fitsPacket 5 c p) ⌝ }
 {
     if p.source.port != c.own.port {
         return false;

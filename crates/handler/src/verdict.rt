@@ -10,11 +10,10 @@ use store::End;
 use store::Timeout;
 use wire::same_digest;
 ghost use mathlib.Core.Path.{_≡_};
-ghost use mathlib.Core.List.{List};
-ghost use Prim.Native.Nat.{ℕ};
-ghost use Rattle.store.specs.declared.Channel.{Channel};
+ghost use Rattle.wire.specs.Bytes.{noDigest};
+ghost use Rattle.store.specs.Height.{noTimeout};
 ghost use Rattle.rules.specs.Verdict.{firstDifference};
-ghost use Rattle.rules.specs.Refusals.{verdictDifference};
+ghost use Rattle.rules.specs.Ordering.{absenceClaim, absenceSequence};
 
 pub fn first_difference(v: Verdict, claim: u16, end: End, sequence: u64, timeout: Timeout, digest: [u8; 32]) -> u8
     ensures { λ r. ⌜ r ≡ firstDifference v claim end sequence timeout digest ⌝ }
@@ -44,7 +43,7 @@ pub fn first_difference(v: Verdict, claim: u16, end: End, sequence: u64, timeout
 
 // 14, for 2: the commitment at the packet's source.
 pub fn commitment_difference(p: Packet, v: Verdict) -> u8
-    ensures { λ r. ⌜ ((c : Channel) (a : List ℕ) → r ≡ verdictDifference 2 c p a v) ⌝ }
+    ensures { λ r. ⌜ r ≡ firstDifference v 1 (p .source) (p .sequence) (p .timeout) (p .digest) ⌝ }
 {
     let source = p.source;
     let timeout = p.timeout;
@@ -54,7 +53,7 @@ pub fn commitment_difference(p: Packet, v: Verdict) -> u8
 
 // 14, for 4: the acknowledgement at the packet's destination.
 pub fn acknowledgement_difference(p: Packet, digest: [u8; 32], v: Verdict) -> u8
-    ensures { λ r. ⌜ ((c : Channel) → r ≡ verdictDifference 4 c p digest v) ⌝ }
+    ensures { λ r. ⌜ r ≡ firstDifference v 2 (p .destination) (p .sequence) noTimeout digest ⌝ }
 {
     let destination = p.destination;
     first_difference(v, 2, destination, p.sequence, no_timeout(), digest)
@@ -62,7 +61,11 @@ pub fn acknowledgement_difference(p: Packet, digest: [u8; 32], v: Verdict) -> u8
 
 // 14, for 5: at the packet's destination, that it was not received.
 pub fn absence_difference(c: Channel, p: Packet, v: Verdict) -> u8
-    ensures { λ r. ⌜ ((a : List ℕ) → r ≡ verdictDifference 5 c p a v) ⌝ }
+    ensures { λ r. ⌜
+        r ≡
+        firstDifference v (absenceClaim c) (p .destination) (absenceSequence c (p .sequence) (v .sequence)) noTimeout
+        noDigest
+        ⌝ }
 {
     let claim = absence_claim(c);
     let destination = p.destination;

@@ -1,5 +1,4 @@
 -- The case of a timeout. Assumes nothing.
-use Rattle.rules.specs.Refusals.{verdictDifference}
 use borrow.Author.Needs.{needs}
 use Rattle.handler.proofs.verdict.absence_difference.Statement.{statement}
 use Rattle.handler.proofs.verdict.absence_difference.Tie as tie
@@ -17,10 +16,9 @@ first-difference-requires : tie.Need-first-difference-requires
 first-difference-requires c κs = search needs
 
 returns : tie.Need-returns
-unfolding verdictDifference
 returns c = 
     let d = c .before .before in
-    λ a. rw (
+    rw (
       c .first-difference .ensures,
       c .before .no-timeout .ensures,
       d .absence-sequence .ensures,

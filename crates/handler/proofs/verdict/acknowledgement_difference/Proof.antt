@@ -1,5 +1,4 @@
 -- The case of an acknowledgement. Assumes nothing.
-use Rattle.rules.specs.Refusals.{verdictDifference}
 use borrow.Author.Needs.{needs}
 use Rattle.handler.proofs.verdict.acknowledgement_difference.Statement.{statement}
 use Rattle.handler.proofs.verdict.acknowledgement_difference.Tie as tie
@@ -11,8 +10,7 @@ first-difference-requires : tie.Need-first-difference-requires
 first-difference-requires c κs = search needs
 
 returns : tie.Need-returns
-unfolding verdictDifference
-returns c = λ e. rw (c .first-difference .ensures, c .before .no-timeout .ensures)
+returns c = rw (c .first-difference .ensures, c .before .no-timeout .ensures)
 
 pub acknowledgement-difference-spec : {M : Type 1} → statement M
 acknowledgement-difference-spec =
