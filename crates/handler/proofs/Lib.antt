@@ -1,1 +1,3 @@
 pub mod AcceptLaws
+pub mod FreeLaws
+pub mod TestedLaws

@@ -1,0 +1,19 @@
+-- By the client's height. Assumes nothing.
+use Rattle.rules.specs.Refusals.{isLate}
+use borrow.Author.Needs.{needs}
+use Rattle.handler.proofs.height.is_late_at_sender.Statement.{statement}
+use Rattle.handler.proofs.height.is_late_at_sender.Tie as tie
+
+height-at-sender-requires : tie.Need-height-at-sender-requires
+height-at-sender-requires c κs = search needs
+
+is-past-other-requires : tie.Need-is-past-other-requires
+is-past-other-requires c κs = search needs
+
+returns : tie.Need-returns
+unfolding isLate
+returns c = λ u. rw (c .is-past-other .ensures, c .before .height-at-sender .ensures)
+
+pub is-late-at-sender-spec : {M : Type 1} → statement M
+is-late-at-sender-spec =
+    tie.close (tie.spec height-at-sender-requires is-past-other-requires returns)

@@ -1,0 +1,24 @@
+-- By the need, then the room. Assumes nothing.
+use Rattle.wire.specs.Choice.{_and_}
+use Rattle.handler.proofs.TestedLaws.{holds, fails}
+use borrow.Author.Needs.{needs}
+use Rattle.handler.proofs.rows.lacks_record.Statement.{statement}
+use Rattle.handler.proofs.rows.lacks_record.Tie as tie
+
+receive-needs-record-requires : tie.Need-receive-needs-record-requires
+receive-needs-record-requires c κs = search needs
+
+returns : tie.Need-returns
+unfolding _and_
+returns c = rw (fails (c .before .receive-needs-record .ensures) (c .if1 .taken))
+
+has-free-requires : tie.Need-has-free-requires
+has-free-requires c κs = search needs
+
+returns-2 : tie.Need-returns-2
+unfolding _and_
+returns-2 c = rw (holds (c .before .before .receive-needs-record .ensures) (c .before .if1 .left), c .has-free .ensures)
+
+pub lacks-record-spec : {M : Type 1} → statement M
+lacks-record-spec =
+    tie.close (tie.spec receive-needs-record-requires returns has-free-requires returns-2)
