@@ -1,19 +1,13 @@
 // The channel end that acceptance leaves, by the kind of datagram and the channel's ordering.
 use store::Channel;
 use store::Counters;
+use store::ordering::is_ordered;
 ghost use mathlib.Core.Path.{_≡_};
 ghost use mathlib.Core.Bool.{true, false};
 ghost use Prim.Native.Nat.{_<_};
 ghost use Rattle.store.specs.Limits.{top};
-ghost use Rattle.store.specs.Ordering.{isOrdered};
 ghost use Rattle.rules.specs.Ordering.{counted, closed, raisedSend, raisesReceive, raisesAcknowledge};
 ghost use Rattle.rules.specs.Ordering.{receivedEnd, acknowledgedEnd, timedOutEnd, isAtTop};
-
-fn is_ordered(c: Channel) -> bool
-    ensures { λ r. ⌜ r ≡ isOrdered c ⌝ }
-{
-    c.order == 1
-}
 
 pub(crate) fn raises_receive(c: Channel) -> bool
     ensures { λ r. ⌜ r ≡ raisesReceive c ⌝ }
