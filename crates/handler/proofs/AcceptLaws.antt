@@ -1,21 +1,19 @@
 -- What carrying out an accepted datagram may lean on, and why its steps one after another leave the next store.
 -- Assumes nothing.
-use Rattle.wire.proofs.Prelude.{_≡_, refl, sym, ap, subst₂, _∙_, true, false, List, _⊎_, inl, inr, Option, none, some}
-use Rattle.wire.proofs.Prelude.{ℕ, _+_, _*_, _≤_, _<_, arith, length, drop, ltb-false, not-false}
-use lib.Seq.{drop-drop}
-use Rattle.wire.specs.Names.{_or_, isSome, part, areZero, Bytes}
-use Rattle.wire.proofs.Laws.{cases, clash, some-if}
+use Rattle.wire.proofs.Prelude.{_≡_, refl, sym, ap, subst₂, _∙_, true, List, _⊎_, inl, inr, Option, none, some}
+use Rattle.wire.proofs.Prelude.{ℕ, _≤_, arith, length, ltb-false, not-false}
+use Rattle.wire.specs.Names.{_or_, isSome, Bytes}
+use Rattle.wire.proofs.Laws.{some-if}
 use Rattle.store.specs.declared.End.{End}
 use Rattle.store.specs.declared.Channel.{Channel}
 use Rattle.store.specs.declared.Record.{Record}
 use Rattle.store.specs.declared.Found.the-variants.{At}
-use Rattle.store.specs.Names.{channelLimit, outputLimit, Key, hasKey, isNumbered, commitmentKey, lookup, channelAt}
-use Rattle.store.specs.Names.{Store, headerSize, slotSize, bytesOf, channelIn, slotIn, storeIn, isFit}
+use Rattle.store.specs.Names.{outputLimit, Key, hasKey, isNumbered, commitmentKey, lookup}
+use Rattle.store.specs.Names.{Store, bytesOf, storeIn, isFit}
 use Rattle.store.specs.Effect.{Exact, withTimes, withChannelSlot, withRecordSlot}
-use Rattle.store.specs.Scan.{holds, firstThat, firstFree}
-use Rattle.store.proofs.Laws.{StoreFields, channel-number, fit-fields}
-use Rattle.store.proofs.FitLaws.{length-read}
-use Rattle.store.proofs.ScanLaws.{find-found, found-below, set-insert, set-replace, table-at}
+use Rattle.store.specs.Scan.{firstThat, firstFree}
+use Rattle.store.proofs.Laws.{channel-number, fit-fields}
+use Rattle.store.proofs.ScanLaws.{set-insert, set-replace}
 use Rattle.store.proofs.HeldLaws.{Held, fit-exact, held-store}
 use Rattle.datagram.specs.declared.Context.{Context}
 use Rattle.datagram.specs.Names.{datagramIn, kindIn, sizeOfKind, channelFrom, isSound}
@@ -104,30 +102,6 @@ module _ {s o d : List ℕ} {c : Channel} where
 
   pub timing : Accepts s o d 5 c → TimeoutOk (storeIn s) (datagramIn d) c
   timing a = timeout-ok s (length o) d (storeIn s) (datagramIn d) c (lines a)
-
--- THE END at the index found
-some-read : {A : Type 0} (f : List ℕ → A) (p : List ℕ) → isSome (slotIn f p) ≡ true → slotIn f p ≡ some (f p)
-unfolding slotIn
-some-read f p h =
-    cases (areZero p) (λ e. clash {b = false} (rw e at h) refl) (λ e. rw e)
-
-pub index-below : (n j : ℕ) (s : List ℕ) → firstThat (isNumbered n) (storeIn s .channels) ≡ At j → j < channelLimit
-unfolding storeIn
-index-below n j s h =
-    let b = found-below (holds (isNumbered n)) j (storeIn s .channels) h in
-    omega (arith, length-read channelIn channelLimit (drop headerSize s))
-
-pub channel-found : (n j : ℕ) (s : List ℕ) → firstThat (isNumbered n) (storeIn s .channels) ≡ At j →
-    isSome (channelAt n (storeIn s .channels)) ≡ true →
-    channelAt n (storeIn s .channels) ≡ some (channelIn (part (headerSize + slotSize * j) slotSize s))
-unfolding storeIn part
-channel-found n j s h e =
-    let slot = find-found (isNumbered n) j (storeIn s .channels) h ∙
-    table-at channelIn channelLimit j (drop headerSize s) (index-below n j s h) in
-    let place : part (slotSize * j) slotSize (drop headerSize s) ≡ part (headerSize + slotSize * j) slotSize s =
-    rw (drop-drop (slotSize * j) headerSize s) in
-    let read = slot ∙ ap (slotIn channelIn) place in
-    read ∙ some-read channelIn (part (headerSize + slotSize * j) slotSize s) (sym (ap isSome read) ∙ e)
 
 -- THE RECORDS: the slot at the index found is the one that the edit is on
 abbrev withRecords : Store → List (Option Record) → Store

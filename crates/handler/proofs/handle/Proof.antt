@@ -2,42 +2,71 @@
 use mathlib.Core.Path.{_≡_, sym, ap, _∙_}
 use mathlib.Core.List.{List}
 use Prim.Native.Nat.{ℕ}
-use lib.Dec.{eqb}
+use lib.ListN.{length}
 use borrow.Author.Tests.{eq-eqb, ne-eqb}
 use denote.Ref.{now}
 use borrow.Author.Needs.{needs}
-use Rattle.store.specs.Layout.{storeIn}
+use Rattle.store.specs.Layout.{storeIn, bytesOf}
 use Rattle.datagram.specs.Datagram.{datagramIn}
-use Rattle.rules.specs.Call.{Answer, answerTo, effectIn, nextStore, accepted, refused, called}
+use Rattle.datagram.specs.Output.{atFront}
+use Rattle.rules.specs.declared.Told.{Told}
+use Rattle.rules.specs.Call.{answerTo, effectIn, nextStore, Answer, accepted, refused, called}
+use Rattle.rules.specs.Call.{callTold, callStore, callOutput}
 use Rattle.handler.proofs.handle.Statement.{statement}
 use Rattle.handler.proofs.handle.Tie as tie
 
-called-refused : (bs o b : List ℕ) → (answerTo bs o b ≡ 0 → ⊥) → called bs o b ≡ refused (answerTo bs o b) bs o
-unfolding called
-called-refused bs o b h = rw (called, ne-eqb (answerTo bs o b) 0 h)
+-- what is told and left, by the three equations of a call
+abbrev Leaves : (bs o b : List ℕ) → Told → (store output : List ℕ) → Type 0
+Leaves bs o b t s e = (t ≡ callTold bs o b) × ((s ≡ callStore bs o b) × (e ≡ callOutput bs o b))
 
-called-accepted : (bs o b : List ℕ) → answerTo bs o b ≡ 0 → called bs o b
-    ≡ accepted (nextStore (storeIn bs) (datagramIn b)) (effectIn (storeIn bs) (datagramIn b) .emitted) o
-unfolding called
-called-accepted bs o b h = rw (called, eq-eqb (answerTo bs o b) 0 h)
+leaves : (bs o b : List ℕ) (x : Answer) → called bs o b ≡ x → Leaves bs o b (x .told) (x .store) (x .output)
+leaves bs o b x h =
+    let k = sym h in
+    (ap (λ (y : Answer). y .told) k, (ap (λ (y : Answer). y .store) k, ap (λ (y : Answer). y .output) k))
+
+module _ (bs o b : List ℕ) where
+  refuses : (n : ℕ) → n ≡ answerTo bs o b → (n ≡ 0 → ⊥) → Leaves bs o b (record { number = n; size = 0 }) bs o
+  unfolding called
+  refuses n e h =
+      let r : called bs o b ≡ refused (answerTo bs o b) bs o =
+      rw (called, ne-eqb (answerTo bs o b) 0 (λ a. h (e ∙ a))) in
+      rw e (leaves bs o b (refused (answerTo bs o b) bs o) r)
+
+  carries-out : answerTo bs o b ≡ 0 → (n : ℕ) (s e : List ℕ) →
+      n ≡ length (effectIn (storeIn bs) (datagramIn b) .emitted) →
+      s ≡ bytesOf (nextStore (storeIn bs) (datagramIn b)) →
+      e ≡ atFront (effectIn (storeIn bs) (datagramIn b) .emitted) o →
+      Leaves bs o b (record { number = 0; size = n }) s e
+  unfolding called
+  carries-out a n s e size store output =
+      let x : Answer =
+      accepted (nextStore (storeIn bs) (datagramIn b)) (effectIn (storeIn bs) (datagramIn b) .emitted) o in
+      let r : called bs o b ≡ x = rw (called, eq-eqb (answerTo bs o b) 0 a) in
+      rw (size, store, output) (leaves bs o b x r)
+
+zero : (c : tie.Else1) → let a = c .before .before .before .before .before .before .args in
+    answerTo (now (a .store)) (now (a .output)) (now (a .datagram)) ≡ 0
+unfolding answerTo
+zero c = sym (c .before .answer .ensures) ∙ c .if1 .left
 
 returns : tie.Need-returns
 unfolding answerTo
 returns c =
-    let number = c .before .answer .ensures in
     let a = c .before .before .before .before .before .before .args in
-    let r = called-refused (now (a .store)) (now (a .output)) (now (a .datagram)) (λ e. c .if1 .taken (number ∙ e)) in
-    (ap (λ n. record { number = n; size = 0 }) number ∙ sym (ap (λ x. x .told) r),
-    sym (ap (λ x. x .store) r), sym (ap (λ x. x .output) r))
+    let call = c .before .answer in
+    refuses (now (a .store)) (now (a .output)) (now (a .datagram)) (call .result) (call .ensures) (c .if1 .taken)
 
 accept-requires : tie.Need-accept-requires
-unfolding answerTo
-accept-requires c κs =
-    let test = c .before .before in
-    sym (test .before .answer .ensures) ∙ test .if1 .left
+accept-requires c κs = zero (c .before .before)
 
 returns-2 : tie.Need-returns-2
-returns-2 c = ?
+returns-2 c =
+    let call = c .before .before .before .before in
+    let test = call .before .before .before in
+    let a = test .before .before .before .before .before .before .args in
+    let left = call .accept in
+    carries-out (now (a .store)) (now (a .output)) (now (a .datagram)) (zero test) (left .result) (left .last .0)
+    (left .last .1 .0) (left .ensures .0) (left .ensures .1 .0) (left .ensures .1 .1)
 
 pub handle-spec : {M : Type 1} → statement M
 handle-spec =

@@ -16,7 +16,7 @@ use Rattle.store.specs.declared.Found.the-variants.{At}
 use Rattle.store.specs.Limits.{channelLimit}
 use Rattle.store.specs.Table.{isNumbered, channelAt}
 use Rattle.store.specs.Layout.{storeIn}
-use Rattle.store.specs.Scan.{firstThat}
+use Rattle.store.specs.Scan.{holds, firstThat}
 use Rattle.store.proofs.EffectLaws.{exact-room}
 use Rattle.store.proofs.HeldLaws.{held-exact}
 use Rattle.datagram.specs.Datagram.{kindIn, sizeOfKind, channelFrom, datagramIn}
@@ -24,7 +24,9 @@ use Rattle.datagram.specs.Output.{atFront}
 use Rattle.datagram.proofs.DatagramLaws.{digest-room}
 use Rattle.rules.specs.Acceptance.{Effect}
 use Rattle.handler.specs.Carried.{Accepts}
-use Rattle.handler.proofs.AcceptLaws.{accepts, store-exact, sound, effect-is, index-below, channel-found}
+use Rattle.store.proofs.ScanLaws.{channel-found}
+use Rattle.store.proofs.SlotTestLaws.{channel-index}
+use Rattle.handler.proofs.AcceptLaws.{accepts, store-exact, sound, effect-is}
 use Rattle.handler.proofs.AcceptLaws.{held-records, held-tables, held-all}
 use Rattle.handler.proofs.accept.accept.Statement.{statement}
 use Rattle.handler.proofs.accept.accept.Tie as tie
@@ -68,7 +70,8 @@ there i =
 below : (j : tie.After-channel-index) → j .channel-index .result < channelLimit
 below j =
     let i = j .before .before in
-    index-below (i .channel-in .result) (j .channel-index .result) (store (first i)) (j .channel-index .ensures)
+    channel-index (j .channel-index .result) (store (first i)) (holds (isNumbered (i .channel-in .result)))
+    (j .channel-index .ensures)
 
 abbrev entry : tie.After-channel-at → tie.Start
 entry x = first (x .before .before .before .before)
@@ -85,8 +88,8 @@ here x =
       kind = sym (i .before .kind-in .ensures);
       found =
           ap (λ (n : ℕ). channelAt n (storeIn (store o) .channels)) (sym (number i)) ∙
-          channel-found (i .channel-in .result) (j .channel-index .result) (store o) (j .channel-index .ensures)
-          (there i) ∙
+          channel-found (isNumbered (i .channel-in .result)) (j .channel-index .result) (store o)
+          (j .channel-index .ensures) ∙
           ap (λ (c : Channel). some c) (sym (x .channel-at .ensures));
     }
 

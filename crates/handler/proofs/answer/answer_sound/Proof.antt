@@ -16,8 +16,8 @@ use Rattle.store.specs.Layout.{roomIn, storeIn}
 use Rattle.store.specs.Scan.{holds, firstThat}
 use Rattle.store.proofs.FitLaws.{Sized, fits-size}
 use Rattle.store.proofs.HeldLaws.{fit-exact}
-use Rattle.store.proofs.ScanLaws.{find-nothing}
-use Rattle.store.proofs.SlotTestLaws.{channel-index, channel-found}
+use Rattle.store.proofs.ScanLaws.{find-nothing, channel-found}
+use Rattle.store.proofs.SlotTestLaws.{channel-index}
 use Rattle.datagram.specs.Datagram.{bodyFrom, kindIn, contextIn, sizeOfKind, channelFrom, datagramIn}
 use Rattle.datagram.proofs.DatagramLaws.{sound-is, digest-room}
 use Rattle.rules.specs.Refusals.{lowest, goesBack, table, orNone, endFor}
@@ -82,7 +82,7 @@ found k = sym (scanned (k .before .before .before)) ∙ k .before .j .given .1
 
 below : (k : tie.After-known-told) → index k < channelLimit
 below k =
-    channel-index (bytes (origin k)) (index k) (holds (isNumbered (datagramIn (sent (origin k)) .channel))) (found k)
+    channel-index (index k) (bytes (origin k)) (holds (isNumbered (datagramIn (sent (origin k)) .channel))) (found k)
 
 context-in-requires : tie.Need-context-in-requires
 context-in-requires c κs = body (c .before .before)
@@ -151,7 +151,7 @@ past k =
     let f = k .before .before .before .before in
     let o = origin (k .before) in
     let there =
-    channel-found (bytes o) (index (k .before)) (isNumbered (datagramIn (sent o) .channel)) (found (k .before)) ∙
+    channel-found (isNumbered (datagramIn (sent o) .channel)) (index (k .before)) (bytes o) (found (k .before)) ∙
     ap (λ (c : Channel). some c) (sym (k .channel-at .ensures)) in
     rw (came (clock (tested f)) (f .before .before .before .if1 .left), there)
 

@@ -9,8 +9,8 @@ use Rattle.store.specs.declared.Found.the-variants.{At}
 use Rattle.store.specs.Table.{Key, commitmentKey, hasKey}
 use Rattle.store.specs.Layout.{storeIn}
 use Rattle.store.specs.Scan.{holds, firstThat}
-use Rattle.store.proofs.ScanLaws.{find-nothing}
-use Rattle.store.proofs.SlotTestLaws.{record-index, record-found}
+use Rattle.store.proofs.ScanLaws.{find-nothing, record-found}
+use Rattle.store.proofs.SlotTestLaws.{record-index}
 use Rattle.rules.specs.Verdict.{hasValues}
 use Rattle.rules.specs.Refusals.{isCommitted}
 use Rattle.handler.proofs.records.is_committed.Statement.{statement}
@@ -33,7 +33,7 @@ found : (k : tie.After-digest) → firstThat (hasKey (key k)) (storeIn (bytes k)
 found k = sym (k .before .before .before .before .before .find-record .ensures) ∙ k .before .before .before .i .given .1
 
 below : (k : tie.After-digest) → index k < start k .args .count
-below k = record-index (bytes k) (index k) (start k .args .count) (start k .pre) (holds (hasKey (key k))) (found k)
+below k = record-index (index k) (bytes k) (holds (hasKey (key k))) (start k .args .count) (start k .pre) (found k)
 
 returns : tie.Need-returns
 unfolding isCommitted hasValues
@@ -58,10 +58,9 @@ returns-2 : tie.Need-returns-2
 unfolding isCommitted
 returns-2 c =
     let k = c .before .before in
-    let o = start k in
     rw (
       isCommitted,
-      record-found (bytes k) (index k) (o .args .count) (o .pre) (hasKey (key k)) (found k),
+      record-found (hasKey (key k)) (index k) (bytes k) (found k),
       ← c .before .record-at .ensures,
     )
     (c .has-values .ensures)
