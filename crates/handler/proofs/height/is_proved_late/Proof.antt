@@ -13,14 +13,19 @@ is-past-other-requires c κs = search needs
 
 returns : tie.Need-returns
 unfolding isProvedLate _or_
-returns c = let past = rw (c .before .before .height-at-sender .ensures) at (c .before .is-past-other .ensures) in rw (← past, c .if1 .taken)
+returns c =
+    let past = rw (c .before .before .height-at-sender .ensures) at (c .before .is-past-other .ensures) in
+    rw (← past, c .if1 .taken)
 
 is-past-requires : tie.Need-is-past-requires
 is-past-requires c κs = search needs
 
 returns-2 : tie.Need-returns-2
 unfolding isProvedLate _or_
-returns-2 c = let past = rw (c .before .before .before .height-at-sender .ensures) at (c .before .before .is-past-other .ensures) in rw (← past, c .before .if1 .left) (c .is-past .ensures)
+returns-2 c =
+    let other = c .before .before in
+    let past = rw (other .before .height-at-sender .ensures) at (other .is-past-other .ensures) in
+    rw (← past, c .before .if1 .left) (c .is-past .ensures)
 
 pub is-proved-late-spec : {M : Type 1} → statement M
 is-proved-late-spec =

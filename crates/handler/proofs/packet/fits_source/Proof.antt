@@ -15,7 +15,7 @@ same-end-requires c κs = search needs
 
 returns-2 : tie.Need-returns-2
 unfolding fitsPacket _and_
-returns-2 c = 
+returns-2 c =
     let e = eq-eqb _ _ (c .before .before .before .if1 .left) in
     (rw e (c .same-end .ensures), rw e (c .same-end .ensures))
 

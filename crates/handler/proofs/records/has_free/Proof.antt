@@ -15,7 +15,7 @@ is-found-requires : tie.Need-is-found-requires
 is-found-requires c κs = search needs
 
 returns : tie.Need-returns
-returns c = 
+returns c =
     let s = now (c .before .before .before .args .store) in
     c .is-found .ensures ∙ ap isAt (c .before .find-free .ensures) ∙ sym (free-at 0 (storeIn s .records))
 

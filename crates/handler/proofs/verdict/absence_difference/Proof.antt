@@ -16,7 +16,7 @@ first-difference-requires : tie.Need-first-difference-requires
 first-difference-requires c κs = search needs
 
 returns : tie.Need-returns
-returns c = 
+returns c =
     let d = c .before .before in
     rw (
       c .first-difference .ensures,
