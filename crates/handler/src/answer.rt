@@ -35,13 +35,11 @@ ghost use Rattle.handler.specs.Lines.{numberBehind, Known};
 const OPEN: u8 = 3;
 
 pub fn answer(store: &[u8], room: usize, datagram: &[u8]) -> u8
-    ensures {
-        λ r. ⌜
-            r ≡
-            lowest (datagramIn (now (datagram .entry)) .kind)
-            (refusals (now (store .entry)) room (now (datagram .entry)))
-        ⌝
-    }
+    ensures { λ r. ⌜
+        r ≡
+        lowest (datagramIn (now (datagram .entry)) .kind)
+        (refusals (now (store .entry)) room (now (datagram .entry)))
+        ⌝ }
 {
     if !is_fit(store) {
         return 1;
@@ -58,14 +56,12 @@ pub fn answer(store: &[u8], room: usize, datagram: &[u8]) -> u8
 // Lines 4 and 5: the clock, and the channel end that the datagram is about.
 fn answer_sound(store: &[u8], datagram: &[u8]) -> u8
     requires { ⌜ (isFit (now store) ≡ true) × (isSound (now datagram) ≡ true) ⌝ }
-    ensures {
-        λ r. ⌜
-            r ≡
-            numberBehind 3 (kindIn (now (datagram .entry))) (storeIn (now (store .entry)))
-            (datagramIn (now (datagram .entry)))
-            (orNone (endFor (storeIn (now (store .entry))) (datagramIn (now (datagram .entry)))))
-        ⌝
-    }
+    ensures { λ r. ⌜
+        r ≡
+        numberBehind 3 (kindIn (now (datagram .entry))) (storeIn (now (store .entry)))
+        (datagramIn (now (datagram .entry)))
+        (orNone (endFor (storeIn (now (store .entry))) (datagramIn (now (datagram .entry)))))
+        ⌝ }
 {
     let x = context_in(datagram);
     if goes_back(OwnHeight(u64_at(store, 8)), u64_at(store, 16), x) {
@@ -83,9 +79,7 @@ fn answer_sound(store: &[u8], datagram: &[u8]) -> u8
 // Lines 6 and 7: an open channel end, and its port.
 fn answer_on(store: &[u8], count: usize, datagram: &[u8], kind: u16, x: Context, c: Channel) -> u8
     requires { ⌜ Known (now store) count (now datagram) kind x ⌝ }
-    ensures {
-        λ r. ⌜ r ≡ numberBehind 5 kind (storeIn (now (store .entry))) (datagramIn (now (datagram .entry))) c ⌝
-    }
+    ensures { λ r. ⌜ r ≡ numberBehind 5 kind (storeIn (now (store .entry))) (datagramIn (now (datagram .entry))) c ⌝ }
 {
     if c.state != OPEN {
         return 6;
@@ -97,21 +91,36 @@ fn answer_on(store: &[u8], count: usize, datagram: &[u8], kind: u16, x: Context,
 }
 
 // The lines of the datagram's own kind. Unknown kinds were refused with 3.
-fn answer_by_kind(store: &[u8], count: usize, datagram: &[u8], kind: u16, x: Context, c: Channel) -> u8
+fn answer_by_kind(
+    store: &[u8],
+    count: usize,
+    datagram: &[u8],
+    kind: u16,
+    x: Context,
+    c: Channel,
+) -> u8
     requires { ⌜ Known (now store) count (now datagram) kind x ⌝ }
-    ensures {
-        λ r. ⌜ r ≡ numberBehind 7 kind (storeIn (now (store .entry))) (datagramIn (now (datagram .entry))) c ⌝
-    }
+    ensures { λ r. ⌜ r ≡ numberBehind 7 kind (storeIn (now (store .entry))) (datagramIn (now (datagram .entry))) c ⌝ }
 {
     match kind {
         0 | 6..=65535 => 3,
         1 => send_row(store, count, x, timeout_in(datagram), c),
-        2 => receive_row(store, count, x, packet_in(datagram), verdict_in(datagram, 2), c),
-        3 => write_row(store, count, sequence_in(datagram), digest_in(datagram, 3), c),
-        4 => {
-            let digest = digest_in(datagram, 4);
-            acknowledge_row(store, count, x, packet_in(datagram), digest, verdict_in(datagram, 4), c)
+        2 => {
+            let p = packet_in(datagram);
+            receive_row(store, count, x, p, verdict_in(datagram, 2), c)
         }
-        5 => time_out_row(store, count, packet_in(datagram), verdict_in(datagram, 5), c),
+        3 => {
+            let sequence = sequence_in(datagram);
+            write_row(store, count, sequence, digest_in(datagram, 3), c)
+        }
+        4 => {
+            let p = packet_in(datagram);
+            let digest = digest_in(datagram, 4);
+            acknowledge_row(store, count, x, p, digest, verdict_in(datagram, 4), c)
+        }
+        5 => {
+            let p = packet_in(datagram);
+            time_out_row(store, count, p, verdict_in(datagram, 5), c)
+        }
     }
 }

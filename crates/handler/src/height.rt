@@ -39,6 +39,13 @@ pub fn same_timeout(t: Timeout, u: Timeout) -> bool
     t.time == u.time
 }
 
+// 10: neither height nor time.
+pub fn is_no_timeout(t: Timeout) -> bool
+    ensures { λ r. ⌜ r ≡ sameTimeout t noTimeout ⌝ }
+{
+    same_timeout(t, no_timeout())
+}
+
 // A limit of 0 is none.
 pub fn is_past(limit: u64, reached: u64) -> bool
     ensures { λ r. ⌜ r ≡ isPast limit reached ⌝ }

@@ -46,5 +46,9 @@ pub fn is_committed(store: &[u8], count: usize, p: Packet) -> bool
     };
     let timeout = p.timeout;
     let digest = p.digest;
-    has_values(timeout, digest, record_at(store, Store::RECORDS_FROM + Store::SLOT * i))
+    has_values(
+        timeout,
+        digest,
+        record_at(store, Store::RECORDS_FROM + Store::SLOT * i),
+    )
 }

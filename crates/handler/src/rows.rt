@@ -2,9 +2,8 @@
 // Each function takes the parts of a datagram that its lines look at, and promises the answer for all that have them.
 use super::height::is_late_at_receiver;
 use super::height::is_late_at_sender;
+use super::height::is_no_timeout;
 use super::height::is_proved_late;
-use super::height::no_timeout;
-use super::height::same_timeout;
 use super::ordering::acknowledges_in_order;
 use super::ordering::is_acknowledge_at_top;
 use super::ordering::is_receipt_there;
@@ -40,14 +39,12 @@ ghost use Rattle.handler.specs.Lines.{numberBehind};
 
 pub fn send_row(store: &[u8], count: usize, x: Context, t: Timeout, c: Channel) -> u8
     requires { ⌜ length (now store) ≡ sizeFor count ⌝ }
-    ensures {
-        λ r. ⌜
-            ((d : Datagram) → d .context ≡ x → d .timeout ≡ t →
-            r ≡ numberBehind 7 1 (storeIn (now (store .entry))) d c)
-        ⌝
-    }
+    ensures { λ r. ⌜
+        ((d : Datagram) → d .context ≡ x → d .timeout ≡ t →
+        r ≡ numberBehind 7 1 (storeIn (now (store .entry))) d c)
+        ⌝ }
 {
-    if same_timeout(t, no_timeout()) {
+    if is_no_timeout(t) {
         return 10;
     }
     if is_late_at_sender(x, t) {
@@ -64,12 +61,10 @@ pub fn send_row(store: &[u8], count: usize, x: Context, t: Timeout, c: Channel) 
 
 pub fn receive_row(store: &[u8], count: usize, x: Context, p: Packet, v: Verdict, c: Channel) -> u8
     requires { ⌜ length (now store) ≡ sizeFor count ⌝ }
-    ensures {
-        λ r. ⌜
-            ((d : Datagram) → d .context ≡ x → d .packet ≡ p → d .verdict ≡ v →
-            r ≡ numberBehind 7 2 (storeIn (now (store .entry))) d c)
-        ⌝
-    }
+    ensures { λ r. ⌜
+        ((d : Datagram) → d .context ≡ x → d .packet ≡ p → d .verdict ≡ v →
+        r ≡ numberBehind 7 2 (storeIn (now (store .entry))) d c)
+        ⌝ }
 {
     if !x.connected {
         return 8;
@@ -101,9 +96,7 @@ fn lacks_record(store: &[u8], count: usize, c: Channel) -> bool
 // Behind the verdict, what the channel end and the packet records say.
 fn delivery_row(store: &[u8], count: usize, p: Packet, c: Channel) -> u8
     requires { ⌜ length (now store) ≡ sizeFor count ⌝ }
-    ensures {
-        λ r. ⌜ ((d : Datagram) → d .packet ≡ p → r ≡ numberBehind 14 2 (storeIn (now (store .entry))) d c) ⌝
-    }
+    ensures { λ r. ⌜ ((d : Datagram) → d .packet ≡ p → r ≡ numberBehind 14 2 (storeIn (now (store .entry))) d c) ⌝ }
 {
     if !receives_in_order(c, p.sequence) {
         return 15;
@@ -122,12 +115,10 @@ fn delivery_row(store: &[u8], count: usize, p: Packet, c: Channel) -> u8
 
 pub fn write_row(store: &[u8], count: usize, sequence: u64, digest: [u8; 32], c: Channel) -> u8
     requires { ⌜ length (now store) ≡ sizeFor count ⌝ }
-    ensures {
-        λ r. ⌜
-            ((d : Datagram) → d .sequence ≡ sequence → d .digest ≡ digest →
-            r ≡ numberBehind 7 3 (storeIn (now (store .entry))) d c)
-        ⌝
-    }
+    ensures { λ r. ⌜
+        ((d : Datagram) → d .sequence ≡ sequence → d .digest ≡ digest →
+        r ≡ numberBehind 7 3 (storeIn (now (store .entry))) d c)
+        ⌝ }
 {
     if has_record(store, count, 3, c.own.channel, sequence) {
         return 16;
@@ -154,12 +145,10 @@ pub fn acknowledge_row(
     c: Channel,
 ) -> u8
     requires { ⌜ length (now store) ≡ sizeFor count ⌝ }
-    ensures {
-        λ r. ⌜
-            ((d : Datagram) → d .context ≡ x → d .packet ≡ p → d .digest ≡ digest → d .verdict ≡ v →
-            r ≡ numberBehind 7 4 (storeIn (now (store .entry))) d c)
-        ⌝
-    }
+    ensures { λ r. ⌜
+        ((d : Datagram) → d .context ≡ x → d .packet ≡ p → d .digest ≡ digest → d .verdict ≡ v →
+        r ≡ numberBehind 7 4 (storeIn (now (store .entry))) d c)
+        ⌝ }
 {
     if !x.connected {
         return 8;
@@ -191,12 +180,10 @@ fn acknowledgement_row(p: Packet, c: Channel) -> u8
 
 pub fn time_out_row(store: &[u8], count: usize, p: Packet, v: Verdict, c: Channel) -> u8
     requires { ⌜ length (now store) ≡ sizeFor count ⌝ }
-    ensures {
-        λ r. ⌜
-            ((d : Datagram) → d .packet ≡ p → d .verdict ≡ v →
-            r ≡ numberBehind 7 5 (storeIn (now (store .entry))) d c)
-        ⌝
-    }
+    ensures { λ r. ⌜
+        ((d : Datagram) → d .packet ≡ p → d .verdict ≡ v →
+        r ≡ numberBehind 7 5 (storeIn (now (store .entry))) d c)
+        ⌝ }
 {
     if !fits_source(c, p) {
         return 9;

@@ -15,7 +15,14 @@ ghost use Rattle.store.specs.Height.{noTimeout};
 ghost use Rattle.rules.specs.Verdict.{firstDifference};
 ghost use Rattle.rules.specs.Ordering.{absenceClaim, absenceSequence};
 
-pub fn first_difference(v: Verdict, claim: u16, end: End, sequence: u64, timeout: Timeout, digest: [u8; 32]) -> u8
+pub fn first_difference(
+    v: Verdict,
+    claim: u16,
+    end: End,
+    sequence: u64,
+    timeout: Timeout,
+    digest: [u8; 32],
+) -> u8
     ensures { λ r. ⌜ r ≡ firstDifference v claim end sequence timeout digest ⌝ }
 {
     if v.claim != claim {

@@ -37,16 +37,18 @@ sequence-in-requires c κs = omega (arith, long (c .before .before .before) 3 (c
 digest-in-requires : tie.Need-digest-in-requires
 digest-in-requires c κs = long (c .before .before .before .before) 3 (c .before .match .keys4)
 
-digest-in-requires-2 : tie.Need-digest-in-requires-2
-digest-in-requires-2 c κs = long (c .before .before .before) 4 (c .match .keys5)
-
 packet-in-requires-2 : tie.Need-packet-in-requires-2
 unfolding sizeOfKind
-packet-in-requires-2 c κs = omega (arith, long (c .before .before .before .before) 4 (c .before .match .keys5))
+packet-in-requires-2 c κs = omega (arith, long (c .before .before .before) 4 (c .match .keys5))
+
+digest-in-requires-2 : tie.Need-digest-in-requires-2
+digest-in-requires-2 c κs = long (c .before .before .before .before) 4 (c .before .match .keys5)
 
 verdict-in-requires-2 : tie.Need-verdict-in-requires-2
 unfolding isProved _or_
-verdict-in-requires-2 c κs = (refl, long (c .before .before .before .before .before) 4 (c .before .before .match .keys5))
+verdict-in-requires-2 c κs =
+    let m = c .before .before in
+    (refl, long (m .before .before .before) 4 (m .match .keys5))
 
 packet-in-requires-3 : tie.Need-packet-in-requires-3
 unfolding sizeOfKind
@@ -62,7 +64,8 @@ returns c =
     let m = c .before .before in
     let o = m .before .before .before in
     rw (m .match .keys2)
-    (c .send-row .ensures (datagramIn (now (o .args .datagram))) (o .pre .context) (sym (c .before .timeout-in .ensures)))
+    (c .send-row .ensures (datagramIn (now (o .args .datagram))) (o .pre .context)
+    (sym (c .before .timeout-in .ensures)))
 
 returns-2 : tie.Need-returns-2
 unfolding datagramIn
@@ -91,8 +94,8 @@ returns-4 c =
     let k = of-kind o (m .match .keys5) in
     rw (m .match .keys5)
     (c .acknowledge-row .ensures (datagramIn (now (o .args .datagram))) (o .pre .context)
-    (sym (c .before .before .packet-in2 .ensures))
-    (rw k (sym (c .before .before .before .digest-in2 .ensures)))
+    (sym (c .before .before .before .packet-in2 .ensures))
+    (rw k (sym (c .before .before .digest-in2 .ensures)))
     (rw k (sym (c .before .verdict-in2 .ensures))))
 
 returns-5 : tie.Need-returns-5
@@ -130,8 +133,8 @@ answer-by-kind-spec =
     sequence-in-requires
     digest-in-requires
     (λ c κs. search needs)
-    digest-in-requires-2
     packet-in-requires-2
+    digest-in-requires-2
     verdict-in-requires-2
     (λ c κs. search needs)
     packet-in-requires-3

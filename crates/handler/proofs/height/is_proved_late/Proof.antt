@@ -5,24 +5,21 @@ use borrow.Author.Needs.{needs}
 use Rattle.handler.proofs.height.is_proved_late.Statement.{statement}
 use Rattle.handler.proofs.height.is_proved_late.Tie as tie
 
-height-at-sender-requires : tie.Need-height-at-sender-requires
-height-at-sender-requires c κs = search needs
-
-is-past-other-requires : tie.Need-is-past-other-requires
-is-past-other-requires c κs = search needs
-
 returns : tie.Need-returns
 unfolding isProvedLate _or_
-returns c = let past = rw (c .before .before .height-at-sender .ensures) at (c .before .is-past-other .ensures) in rw (← past, c .if1 .taken)
-
-is-past-requires : tie.Need-is-past-requires
-is-past-requires c κs = search needs
+returns c =
+    let past = rw (c .before .before .height-at-sender .ensures) at (c .before .is-past-other .ensures) in
+    rw (← past, c .if1 .taken)
 
 returns-2 : tie.Need-returns-2
 unfolding isProvedLate _or_
-returns-2 c = let past = rw (c .before .before .before .height-at-sender .ensures) at (c .before .before .is-past-other .ensures) in rw (← past, c .before .if1 .left) (c .is-past .ensures)
+returns-2 c =
+    let other = c .before .before in
+    let past = rw (other .before .height-at-sender .ensures) at (other .is-past-other .ensures) in
+    rw (← past, c .before .if1 .left) (c .is-past .ensures)
 
 pub is-proved-late-spec : {M : Type 1} → statement M
 is-proved-late-spec =
     tie.close
-    (tie.spec height-at-sender-requires is-past-other-requires returns is-past-requires returns-2)
+    (tie.spec
+    (λ c κs. search needs) (λ c κs. search needs) returns (λ c κs. search needs) returns-2)

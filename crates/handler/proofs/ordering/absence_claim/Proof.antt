@@ -4,9 +4,6 @@ use borrow.Author.Needs.{needs}
 use Rattle.handler.proofs.ordering.absence_claim.Statement.{statement}
 use Rattle.handler.proofs.ordering.absence_claim.Tie as tie
 
-is-ordered-requires : tie.Need-is-ordered-requires
-is-ordered-requires c κs = search needs
-
 returns : tie.Need-returns
 unfolding absenceClaim
 returns c = rw (← c .before .is-ordered .ensures, c .if1 .taken)
@@ -16,4 +13,7 @@ unfolding absenceClaim
 returns-2 c = rw (← c .before .is-ordered .ensures, c .if1 .left)
 
 pub absence-claim-spec : {M : Type 1} → statement M
-absence-claim-spec = tie.close (tie.spec is-ordered-requires returns returns-2)
+absence-claim-spec =
+    tie.close
+    (tie.spec
+    (λ c κs. search needs) returns returns-2)

@@ -4,9 +4,6 @@ use borrow.Author.Needs.{needs}
 use Rattle.handler.proofs.ordering.absence_sequence.Statement.{statement}
 use Rattle.handler.proofs.ordering.absence_sequence.Tie as tie
 
-is-ordered-requires : tie.Need-is-ordered-requires
-is-ordered-requires c κs = search needs
-
 returns : tie.Need-returns
 unfolding absenceSequence
 returns c = rw (← c .before .is-ordered .ensures, c .if1 .taken)
@@ -16,4 +13,7 @@ unfolding absenceSequence
 returns-2 c = rw (← c .before .is-ordered .ensures, c .if1 .left)
 
 pub absence-sequence-spec : {M : Type 1} → statement M
-absence-sequence-spec = tie.close (tie.spec is-ordered-requires returns returns-2)
+absence-sequence-spec =
+    tie.close
+    (tie.spec
+    (λ c κs. search needs) returns returns-2)

@@ -4,9 +4,6 @@ use borrow.Author.Needs.{needs}
 use Rattle.handler.proofs.ordering.acknowledges_in_order.Statement.{statement}
 use Rattle.handler.proofs.ordering.acknowledges_in_order.Tie as tie
 
-is-ordered-requires : tie.Need-is-ordered-requires
-is-ordered-requires c κs = search needs
-
 returns : tie.Need-returns
 unfolding acknowledgesInOrder
 returns c = rw (← c .before .before .is-ordered .ensures, c .before .if1 .taken)
@@ -16,4 +13,7 @@ unfolding acknowledgesInOrder
 returns-2 c = rw (← c .before .is-ordered .ensures, c .if1 .left)
 
 pub acknowledges-in-order-spec : {M : Type 1} → statement M
-acknowledges-in-order-spec = tie.close (tie.spec is-ordered-requires returns returns-2)
+acknowledges-in-order-spec =
+    tie.close
+    (tie.spec
+    (λ c κs. search needs) returns returns-2)

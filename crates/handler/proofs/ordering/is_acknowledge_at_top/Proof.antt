@@ -5,9 +5,6 @@ use borrow.Author.Needs.{needs}
 use Rattle.handler.proofs.ordering.is_acknowledge_at_top.Statement.{statement}
 use Rattle.handler.proofs.ordering.is_acknowledge_at_top.Tie as tie
 
-is-ordered-requires : tie.Need-is-ordered-requires
-is-ordered-requires c κs = search needs
-
 returns : tie.Need-returns
 unfolding isAtTop raisesAcknowledge _and_
 returns c = rw (← c .before .before .is-ordered .ensures, c .before .if1 .taken)
@@ -17,4 +14,7 @@ unfolding isAtTop raisesAcknowledge _and_
 returns-2 c = rw (← c .before .is-ordered .ensures, c .if1 .left)
 
 pub is-acknowledge-at-top-spec : {M : Type 1} → statement M
-is-acknowledge-at-top-spec = tie.close (tie.spec is-ordered-requires returns returns-2)
+is-acknowledge-at-top-spec =
+    tie.close
+    (tie.spec
+    (λ c κs. search needs) returns returns-2)

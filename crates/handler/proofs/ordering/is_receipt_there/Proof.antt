@@ -5,15 +5,9 @@ use borrow.Author.Needs.{needs}
 use Rattle.handler.proofs.ordering.is_receipt_there.Statement.{statement}
 use Rattle.handler.proofs.ordering.is_receipt_there.Tie as tie
 
-is-ordered-requires : tie.Need-is-ordered-requires
-is-ordered-requires c κs = search needs
-
 returns : tie.Need-returns
 unfolding isReceiptThere _and_
 returns c = rw (← c .before .is-ordered .ensures, c .if1 .taken)
-
-has-record-requires : tie.Need-has-record-requires
-has-record-requires c κs = search needs
 
 returns-2 : tie.Need-returns-2
 unfolding isReceiptThere _and_
@@ -21,4 +15,6 @@ returns-2 c = rw (← c .before .before .is-ordered .ensures, c .before .if1 .le
 
 pub is-receipt-there-spec : {M : Type 1} → statement M
 is-receipt-there-spec =
-    tie.close (tie.spec is-ordered-requires returns has-record-requires returns-2)
+    tie.close
+    (tie.spec
+    (λ c κs. search needs) returns (λ c κs. search needs) returns-2)

@@ -4,12 +4,12 @@ use borrow.Author.Needs.{needs}
 use Rattle.handler.proofs.ordering.receive_needs_record.Statement.{statement}
 use Rattle.handler.proofs.ordering.receive_needs_record.Tie as tie
 
-is-ordered-requires : tie.Need-is-ordered-requires
-is-ordered-requires c κs = search needs
-
 returns : tie.Need-returns
 unfolding needsRecord raisesReceive
 returns c = rw (c .is-ordered .ensures)
 
 pub receive-needs-record-spec : {M : Type 1} → statement M
-receive-needs-record-spec = tie.close (tie.spec is-ordered-requires returns)
+receive-needs-record-spec =
+    tie.close
+    (tie.spec
+    (λ c κs. search needs) returns)

@@ -10,12 +10,12 @@ returns : tie.Need-returns
 unfolding fitsPacket _and_
 returns c = rw (ne-eqb _ _ (c .if1 .taken))
 
-same-end-requires : tie.Need-same-end-requires
-same-end-requires c κs = search needs
-
 returns-2 : tie.Need-returns-2
 unfolding fitsPacket _and_
 returns-2 c = rw (eq-eqb _ _ (c .before .before .before .if1 .left)) (c .same-end .ensures)
 
 pub fits-destination-spec : {M : Type 1} → statement M
-fits-destination-spec = tie.close (tie.spec returns same-end-requires returns-2)
+fits-destination-spec =
+    tie.close
+    (tie.spec
+    returns (λ c κs. search needs) returns-2)

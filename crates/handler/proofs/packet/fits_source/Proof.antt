@@ -10,14 +10,14 @@ returns : tie.Need-returns
 unfolding fitsPacket _and_
 returns c = let e = ne-eqb _ _ (c .if1 .taken) in (rw e, rw e)
 
-same-end-requires : tie.Need-same-end-requires
-same-end-requires c κs = search needs
-
 returns-2 : tie.Need-returns-2
 unfolding fitsPacket _and_
-returns-2 c = 
+returns-2 c =
     let e = eq-eqb _ _ (c .before .before .before .if1 .left) in
     (rw e (c .same-end .ensures), rw e (c .same-end .ensures))
 
 pub fits-source-spec : {M : Type 1} → statement M
-fits-source-spec = tie.close (tie.spec returns same-end-requires returns-2)
+fits-source-spec =
+    tie.close
+    (tie.spec
+    returns (λ c κs. search needs) returns-2)

@@ -8,16 +8,13 @@ use borrow.Author.Needs.{needs}
 use Rattle.handler.proofs.records.has_free.Statement.{statement}
 use Rattle.handler.proofs.records.has_free.Tie as tie
 
-find-free-requires : tie.Need-find-free-requires
-find-free-requires c κs = search needs
-
-is-found-requires : tie.Need-is-found-requires
-is-found-requires c κs = search needs
-
 returns : tie.Need-returns
-returns c = 
+returns c =
     let s = now (c .before .before .before .args .store) in
     c .is-found .ensures ∙ ap isAt (c .before .find-free .ensures) ∙ sym (free-at 0 (storeIn s .records))
 
 pub has-free-spec : {M : Type 1} → statement M
-has-free-spec = tie.close (tie.spec find-free-requires is-found-requires returns)
+has-free-spec =
+    tie.close
+    (tie.spec
+    (λ c κs. search needs) (λ c κs. search needs) returns)

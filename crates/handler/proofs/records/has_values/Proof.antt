@@ -5,19 +5,18 @@ use borrow.Author.Needs.{needs}
 use Rattle.handler.proofs.records.has_values.Statement.{statement}
 use Rattle.handler.proofs.records.has_values.Tie as tie
 
-same-timeout-requires : tie.Need-same-timeout-requires
-same-timeout-requires c κs = search needs
-
 returns : tie.Need-returns
 unfolding hasValues
 returns c = rw (hasValues, fails-then _ (c .before .same-timeout .ensures) (c .if1 .taken))
 
-same-digest-requires : tie.Need-same-digest-requires
-same-digest-requires c κs = search needs
-
 returns-2 : tie.Need-returns-2
 unfolding hasValues
-returns-2 c = let d = c .before .before in rw (hasValues, holds-then _ (d .before .same-timeout .ensures) (d .if1 .left)) (c .same-digest .ensures)
+returns-2 c =
+    let e1 = c .before .before in
+    rw (hasValues, holds-then _ (e1 .before .same-timeout .ensures) (e1 .if1 .left)) (c .same-digest .ensures)
 
 pub has-values-spec : {M : Type 1} → statement M
-has-values-spec = tie.close (tie.spec same-timeout-requires returns same-digest-requires returns-2)
+has-values-spec =
+    tie.close
+    (tie.spec
+    (λ c κs. search needs) returns (λ c κs. search needs) returns-2)

@@ -31,7 +31,8 @@ past-8 e d x p a v = rw (x, not-false (e .before .before .before .args .x .conne
 returns-2 : tie.Need-returns-2
 unfolding numberBehind table lowest only _or_ verdictDifference
 returns-2 c =
-    λ d x p a v. sym (past-8 (c .before .before) d x p a v ∙ rw (p, fails (c .before .fits-source .ensures .0) (c .if2 .taken)))
+    λ d x p a v. sym (past-8 (c .before .before) d x p a v ∙
+    rw (p, fails (c .before .fits-source .ensures .0) (c .if2 .taken)))
 
 past-9 : (e : tie.Else2) → Left 9 (e .before .before .before .before .before)
 unfolding numberBehind table lowest only _or_ verdictDifference
@@ -41,7 +42,8 @@ past-9 e d x p a v =
 returns-3 : tie.Need-returns-3
 unfolding numberBehind table lowest only _or_ verdictDifference
 returns-3 c =
-    λ d x p a v. sym (past-9 (c .before .before) d x p a v ∙ rw (p, fails (c .before .is-committed .ensures) (c .if3 .taken)))
+    λ d x p a v. sym (past-9 (c .before .before) d x p a v ∙
+    rw (p, fails (c .before .is-committed .ensures) (c .if3 .taken)))
 
 past-13 : (e : tie.Else3) → Left 13 (e .before .before .before .before .before .before .before)
 unfolding numberBehind table lowest only _or_ verdictDifference
@@ -51,16 +53,20 @@ past-13 e d x p a v =
 returns-4 : tie.Need-returns-4
 unfolding numberBehind table lowest only _or_ verdictDifference
 returns-4 c =
-    λ d x p a v. sym (past-13 (c .before .before) d x p a v ∙ rw (p, a, v, is-not-zero (c .before .acknowledgement-difference .ensures) (c .if4 .taken)))
+    λ d x p a v. sym (past-13 (c .before .before) d x p a v ∙
+    rw (p, a, v, is-not-zero (c .before .acknowledgement-difference .ensures) (c .if4 .taken)))
 
 past-14 : (e : tie.Else4) → Left 14 (e .before .before .before .before .before .before .before .before .before)
 unfolding numberBehind table lowest only _or_ verdictDifference
 past-14 e d x p a v =
-    past-13 (e .before .before) d x p a v ∙ rw (p, a, v, is-zero (e .before .acknowledgement-difference .ensures) (e .if4 .left))
+    past-13 (e .before .before) d x p a v ∙
+    rw (p, a, v, is-zero (e .before .acknowledgement-difference .ensures) (e .if4 .left))
 
 returns-5 : tie.Need-returns-5
 returns-5 c =
-    λ d x p a v. c .acknowledgement-row .ensures (storeIn (now (c .before .before .before .before .before .before .before .before .before .before .args .store))) d p ∙ sym (past-14 (c .before) d x p a v)
+    let o = c .before .before .before .before .before .before .before .before .before .before in
+    λ d x p a v. c .acknowledgement-row .ensures (storeIn (now (o .args .store))) d p ∙
+    sym (past-14 (c .before) d x p a v)
 
 pub acknowledge-row-spec : {M : Type 1} → statement M
 acknowledge-row-spec =

@@ -29,7 +29,8 @@ past-15 e s d p = rw (p, holds (e .before .acknowledges-in-order .ensures) (e .i
 returns-2 : tie.Need-returns-2
 unfolding numberBehind table lowest only _or_ isInOrder
 returns-2 c =
-    λ s d p. sym (past-15 (c .before .before) s d p ∙ rw (came (c .before .is-acknowledge-at-top .ensures) (c .if2 .taken)))
+    λ s d p. sym (past-15 (c .before .before) s d p ∙
+    rw (came (c .before .is-acknowledge-at-top .ensures) (c .if2 .taken)))
 
 past-19 : (e : tie.Else2) → Left 19 (e .before .before .before .before)
 unfolding numberBehind table lowest only _or_ isInOrder

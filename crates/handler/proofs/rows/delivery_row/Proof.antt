@@ -30,7 +30,8 @@ past-15 e d p = rw (p, holds (e .before .receives-in-order .ensures) (e .if1 .le
 returns-2 : tie.Need-returns-2
 unfolding numberBehind table lowest only _or_ isInOrder isThere
 returns-2 c =
-    λ d p. sym (past-15 (c .before .before) d p ∙ rw (p, came (c .before .is-receipt-there .ensures) (c .if2 .taken)))
+    λ d p. sym (past-15 (c .before .before) d p ∙
+    rw (p, came (c .before .is-receipt-there .ensures) (c .if2 .taken)))
 
 past-16 : (e : tie.Else2) → Left 16 (e .before .before .before .before .before)
 unfolding numberBehind table lowest only _or_ isInOrder isThere

@@ -31,7 +31,8 @@ past-8 e d x p v = rw (x, not-false (e .before .before .before .args .x .connect
 returns-2 : tie.Need-returns-2
 unfolding numberBehind table lowest only _or_ verdictDifference
 returns-2 c =
-    λ d x p v. sym (past-8 (c .before .before) d x p v ∙ rw (p, fails (c .before .fits-destination .ensures) (c .if2 .taken)))
+    λ d x p v. sym (past-8 (c .before .before) d x p v ∙
+    rw (p, fails (c .before .fits-destination .ensures) (c .if2 .taken)))
 
 past-9 : (e : tie.Else2) → Left 9 (e .before .before .before .before .before)
 unfolding numberBehind table lowest only _or_ verdictDifference
@@ -41,22 +42,27 @@ past-9 e d x p v =
 returns-3 : tie.Need-returns-3
 unfolding numberBehind table lowest only _or_ verdictDifference
 returns-3 c =
-    λ d x p v. sym (past-9 (c .before .before .before) d x p v ∙ rw (x, p, came (c .before .is-late-at-receiver .ensures (d .timeout)) (c .if3 .taken)))
+    λ d x p v. sym (past-9 (c .before .before .before) d x p v ∙
+    rw (x, p, came (c .before .is-late-at-receiver .ensures (d .timeout)) (c .if3 .taken)))
 
 past-11 : (e : tie.Else3) → Left 11 (e .before .before .before .before .before .before .before .before)
 unfolding numberBehind table lowest only _or_ verdictDifference
 past-11 e d x p v =
-    past-9 (e .before .before .before) d x p v ∙ rw (x, p, came (e .before .is-late-at-receiver .ensures (d .timeout)) (e .if3 .left))
+    past-9 (e .before .before .before) d x p v ∙
+    rw (x, p, came (e .before .is-late-at-receiver .ensures (d .timeout)) (e .if3 .left))
 
 returns-4 : tie.Need-returns-4
 unfolding numberBehind table lowest only _or_ verdictDifference
 returns-4 c =
-    λ d x p v. sym (past-11 (c .before .before) d x p v ∙ rw (p, v, is-not-zero (c .before .commitment-difference .ensures) (c .if4 .taken)))
+    λ d x p v. sym (past-11 (c .before .before) d x p v ∙
+    rw (p, v, is-not-zero (c .before .commitment-difference .ensures) (c .if4 .taken)))
 
-past-14 : (e : tie.Else4) → Left 14 (e .before .before .before .before .before .before .before .before .before .before)
+past-14 : (e : tie.Else4) →
+    Left 14 (e .before .before .before .before .before .before .before .before .before .before)
 unfolding numberBehind table lowest only _or_ verdictDifference
 past-14 e d x p v =
-    past-11 (e .before .before) d x p v ∙ rw (p, v, is-zero (e .before .commitment-difference .ensures) (e .if4 .left))
+    past-11 (e .before .before) d x p v ∙
+    rw (p, v, is-zero (e .before .commitment-difference .ensures) (e .if4 .left))
 
 returns-5 : tie.Need-returns-5
 returns-5 c = λ d x p v. c .delivery-row .ensures d p ∙ sym (past-14 (c .before) d x p v)

@@ -1,9 +1,8 @@
 -- The lines of a send, one after another. Assumes nothing.
-use mathlib.Core.Path.{_≡_, sym, ap, _∙_}
+use mathlib.Core.Path.{_≡_, sym, _∙_}
 use Prim.Native.Nat.{ℕ}
 use denote.Ref.{now}
 use borrow.Author.Needs.{needs}
-use Rattle.store.specs.Height.{sameTimeout}
 use Rattle.wire.specs.Choice.{_and_, _or_}
 use Rattle.store.specs.Layout.{storeIn}
 use Rattle.datagram.specs.Datagram.{Datagram}
@@ -23,30 +22,31 @@ Left n o =
 
 returns : tie.Need-returns
 unfolding numberBehind table lowest only _or_ needsRecord _and_
-returns c =
-    λ d x t. rw (t, came (c .before .same-timeout .ensures ∙ ap (sameTimeout _) (c .before .before .no-timeout .ensures)) (c .if1 .taken))
+returns c = λ d x t. rw (t, came (c .before .is-no-timeout .ensures) (c .if1 .taken))
 
-past-10 : (e : tie.Else1) → Left 10 (e .before .before .before .before)
+past-10 : (e : tie.Else1) → Left 10 (e .before .before .before)
 unfolding numberBehind table lowest only _or_ needsRecord _and_
-past-10 e d x t =
-    rw (t, came (e .before .same-timeout .ensures ∙ ap (sameTimeout _) (e .before .before .no-timeout .ensures)) (e .if1 .left))
+past-10 e d x t = rw (t, came (e .before .is-no-timeout .ensures) (e .if1 .left))
 
 returns-2 : tie.Need-returns-2
 unfolding numberBehind table lowest only _or_ needsRecord _and_
 returns-2 c =
-    λ d x t. sym (past-10 (c .before .before) d x t ∙ rw (x, t, came (c .before .is-late-at-sender .ensures (d .packet .timeout)) (c .if2 .taken)))
+    λ d x t. sym (past-10 (c .before .before) d x t ∙
+    rw (x, t, came (c .before .is-late-at-sender .ensures (d .packet .timeout)) (c .if2 .taken)))
 
-past-11 : (e : tie.Else2) → Left 11 (e .before .before .before .before .before .before)
+past-11 : (e : tie.Else2) → Left 11 (e .before .before .before .before .before)
 unfolding numberBehind table lowest only _or_ needsRecord _and_
 past-11 e d x t =
-    past-10 (e .before .before) d x t ∙ rw (x, t, came (e .before .is-late-at-sender .ensures (d .packet .timeout)) (e .if2 .left))
+    past-10 (e .before .before) d x t ∙
+    rw (x, t, came (e .before .is-late-at-sender .ensures (d .packet .timeout)) (e .if2 .left))
 
 returns-3 : tie.Need-returns-3
 unfolding numberBehind table lowest only _or_ needsRecord _and_
 returns-3 c =
-    λ d x t. sym (past-11 (c .before .before) d x t ∙ rw (came (c .before .is-send-at-top .ensures) (c .if3 .taken)))
+    λ d x t. sym (past-11 (c .before .before) d x t ∙
+    rw (came (c .before .is-send-at-top .ensures) (c .if3 .taken)))
 
-past-19 : (e : tie.Else3) → Left 19 (e .before .before .before .before .before .before .before .before)
+past-19 : (e : tie.Else3) → Left 19 (e .before .before .before .before .before .before .before)
 unfolding numberBehind table lowest only _or_ needsRecord _and_
 past-19 e d x t = past-11 (e .before .before) d x t ∙ rw (came (e .before .is-send-at-top .ensures) (e .if3 .left))
 
@@ -55,7 +55,7 @@ unfolding numberBehind table lowest only _or_ needsRecord _and_
 returns-4 c =
     λ d x t. sym (past-19 (c .before .before) d x t ∙ rw (fails (c .before .has-free .ensures) (c .if4 .taken)))
 
-past-20 : (e : tie.Else4) → Left 20 (e .before .before .before .before .before .before .before .before .before .before)
+past-20 : (e : tie.Else4) → Left 20 (e .before .before .before .before .before .before .before .before .before)
 unfolding numberBehind table lowest only _or_ needsRecord _and_
 past-20 e d x t = past-19 (e .before .before) d x t ∙ rw (holds (e .before .has-free .ensures) (e .if4 .left))
 
@@ -67,5 +67,5 @@ pub send-row-spec : {M : Type 1} → statement M
 send-row-spec =
     tie.close
     (tie.spec
-    (λ c κs. search needs) (λ c κs. search needs) returns (λ c κs. search needs) returns-2 (λ c κs. search needs)
-    returns-3 (λ c κs. search needs) returns-4 returns-5)
+    (λ c κs. search needs) returns (λ c κs. search needs) returns-2 (λ c κs. search needs) returns-3
+    (λ c κs. search needs) returns-4 returns-5)

@@ -30,7 +30,8 @@ past-9 e d p v = rw (p, holds (e .before .fits-source .ensures .1) (e .if1 .left
 returns-2 : tie.Need-returns-2
 unfolding numberBehind table lowest only _or_ verdictDifference isInOrder
 returns-2 c =
-    λ d p v. sym (past-9 (c .before .before .before) d p v ∙ rw (p, v, fails (c .before .is-proved-late .ensures) (c .if2 .taken)))
+    λ d p v. sym (past-9 (c .before .before .before) d p v ∙
+    rw (p, v, fails (c .before .is-proved-late .ensures) (c .if2 .taken)))
 
 past-12 : (e : tie.Else2) → Left 12 (e .before .before .before .before .before .before)
 unfolding numberBehind table lowest only _or_ verdictDifference isInOrder
@@ -40,18 +41,22 @@ past-12 e d p v =
 returns-3 : tie.Need-returns-3
 unfolding numberBehind table lowest only _or_ verdictDifference isInOrder
 returns-3 c =
-    λ d p v. sym (past-12 (c .before .before) d p v ∙ rw (p, fails (c .before .is-committed .ensures) (c .if3 .taken)))
+    λ d p v. sym (past-12 (c .before .before) d p v ∙
+    rw (p, fails (c .before .is-committed .ensures) (c .if3 .taken)))
 
 past-13 : (e : tie.Else3) → Left 13 (e .before .before .before .before .before .before .before .before)
 unfolding numberBehind table lowest only _or_ verdictDifference isInOrder
-past-13 e d p v = past-12 (e .before .before) d p v ∙ rw (p, holds (e .before .is-committed .ensures) (e .if3 .left))
+past-13 e d p v =
+    past-12 (e .before .before) d p v ∙ rw (p, holds (e .before .is-committed .ensures) (e .if3 .left))
 
 returns-4 : tie.Need-returns-4
 unfolding numberBehind table lowest only _or_ verdictDifference isInOrder
 returns-4 c =
-    λ d p v. sym (past-13 (c .before .before) d p v ∙ rw (p, v, is-not-zero (c .before .absence-difference .ensures) (c .if4 .taken)))
+    λ d p v. sym (past-13 (c .before .before) d p v ∙
+    rw (p, v, is-not-zero (c .before .absence-difference .ensures) (c .if4 .taken)))
 
-past-14 : (e : tie.Else4) → Left 14 (e .before .before .before .before .before .before .before .before .before .before)
+past-14 : (e : tie.Else4) →
+    Left 14 (e .before .before .before .before .before .before .before .before .before .before)
 unfolding numberBehind table lowest only _or_ verdictDifference isInOrder
 past-14 e d p v =
     past-13 (e .before .before) d p v ∙ rw (p, v, is-zero (e .before .absence-difference .ensures) (e .if4 .left))
@@ -59,9 +64,11 @@ past-14 e d p v =
 returns-5 : tie.Need-returns-5
 unfolding numberBehind table lowest only _or_ verdictDifference isInOrder
 returns-5 c =
-    λ d p v. sym (past-14 (c .before .before) d p v ∙ rw (p, v, fails (c .before .times-out-in-order .ensures) (c .if5 .taken)))
+    λ d p v. sym (past-14 (c .before .before) d p v ∙
+    rw (p, v, fails (c .before .times-out-in-order .ensures) (c .if5 .taken)))
 
-past-15 : (e : tie.Else5) → Left 15 (e .before .before .before .before .before .before .before .before .before .before .before .before)
+past-15 : (e : tie.Else5) →
+    Left 15 (e .before .before .before .before .before .before .before .before .before .before .before .before)
 unfolding numberBehind table lowest only _or_ verdictDifference isInOrder
 past-15 e d p v =
     past-14 (e .before .before) d p v ∙ rw (p, v, holds (e .before .times-out-in-order .ensures) (e .if5 .left))

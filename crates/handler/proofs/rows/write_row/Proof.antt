@@ -31,7 +31,8 @@ past-16 e d n a = rw (n, came (e .before .has-record .ensures) (e .if1 .left))
 returns-2 : tie.Need-returns-2
 unfolding numberBehind table lowest only _or_ isThere needsRecord _and_
 returns-2 c =
-    λ d n a. sym (past-16 (c .before .before) d n a ∙ rw (n, fails (c .before .is-received .ensures) (c .if2 .taken)))
+    λ d n a. sym (past-16 (c .before .before) d n a ∙
+    rw (n, fails (c .before .is-received .ensures) (c .if2 .taken)))
 
 past-17 : (e : tie.Else2) → Left 17 (e .before .before .before .before .before)
 unfolding numberBehind table lowest only _or_ isThere needsRecord _and_
@@ -40,11 +41,13 @@ past-17 e d n a = past-16 (e .before .before) d n a ∙ rw (n, holds (e .before 
 returns-3 : tie.Need-returns-3
 unfolding numberBehind table lowest only _or_ isThere needsRecord _and_
 returns-3 c =
-    λ d n a. sym (past-17 (c .before .before) d n a ∙ rw (a, came (c .before .is-zero-digest .ensures) (c .if3 .taken)))
+    λ d n a. sym (past-17 (c .before .before) d n a ∙
+    rw (a, came (c .before .is-zero-digest .ensures) (c .if3 .taken)))
 
 past-18 : (e : tie.Else3) → Left 18 (e .before .before .before .before .before .before .before)
 unfolding numberBehind table lowest only _or_ isThere needsRecord _and_
-past-18 e d n a = past-17 (e .before .before) d n a ∙ rw (a, came (e .before .is-zero-digest .ensures) (e .if3 .left))
+past-18 e d n a =
+    past-17 (e .before .before) d n a ∙ rw (a, came (e .before .is-zero-digest .ensures) (e .if3 .left))
 
 returns-4 : tie.Need-returns-4
 unfolding numberBehind table lowest only _or_ isThere needsRecord _and_

@@ -1,7 +1,8 @@
 -- By the parts, one after another. Assumes nothing.
 use borrow.Author.Needs.{needs}
-use borrow.Author.Tests.{eq-eqb, ne-eqb, not-true, not-false}
+use borrow.Author.Tests.{eq-eqb, ne-eqb}
 use Rattle.rules.specs.Verdict.{firstDifference}
+use Rattle.handler.proofs.TestedLaws.{holds, fails}
 use Rattle.handler.proofs.verdict.first_difference.Statement.{statement}
 use Rattle.handler.proofs.verdict.first_difference.Tie as tie
 
@@ -28,7 +29,12 @@ returns-4 c =
     let e3 = c .before .before in
     let e2 = e3 .before .before .before in
     let e1 = e2 .before .before .before in
-    rw (eq-eqb _ _ (e1 .if1 .left), eq-eqb _ _ (e2 .if2 .left), eq-eqb _ _ (e3 .if3 .left), ne-eqb _ _ (c .if4 .taken))
+    rw (
+      eq-eqb _ _ (e1 .if1 .left),
+      eq-eqb _ _ (e2 .if2 .left),
+      eq-eqb _ _ (e3 .if3 .left),
+      ne-eqb _ _ (c .if4 .taken),
+    )
 
 returns-5 : tie.Need-returns-5
 unfolding firstDifference
@@ -37,7 +43,13 @@ returns-5 c =
     let e3 = e4 .before .before in
     let e2 = e3 .before .before .before in
     let e1 = e2 .before .before .before in
-    rw (eq-eqb _ _ (e1 .if1 .left), eq-eqb _ _ (e2 .if2 .left), eq-eqb _ _ (e3 .if3 .left), eq-eqb _ _ (e4 .if4 .left), ← c .before .same-timeout .ensures, not-true (c .before .same-timeout .result) (c .if5 .taken))
+    rw (
+      eq-eqb _ _ (e1 .if1 .left),
+      eq-eqb _ _ (e2 .if2 .left),
+      eq-eqb _ _ (e3 .if3 .left),
+      eq-eqb _ _ (e4 .if4 .left),
+      fails (c .before .same-timeout .ensures) (c .if5 .taken),
+    )
 
 returns-6 : tie.Need-returns-6
 unfolding firstDifference
@@ -47,7 +59,14 @@ returns-6 c =
     let e3 = e4 .before .before in
     let e2 = e3 .before .before .before in
     let e1 = e2 .before .before .before in
-    rw (eq-eqb _ _ (e1 .if1 .left), eq-eqb _ _ (e2 .if2 .left), eq-eqb _ _ (e3 .if3 .left), eq-eqb _ _ (e4 .if4 .left), ← e5 .before .same-timeout .ensures, not-false (e5 .before .same-timeout .result) (e5 .if5 .left), ← c .before .same-digest .ensures, not-true (c .before .same-digest .result) (c .if6 .taken))
+    rw (
+      eq-eqb _ _ (e1 .if1 .left),
+      eq-eqb _ _ (e2 .if2 .left),
+      eq-eqb _ _ (e3 .if3 .left),
+      eq-eqb _ _ (e4 .if4 .left),
+      holds (e5 .before .same-timeout .ensures) (e5 .if5 .left),
+      fails (c .before .same-digest .ensures) (c .if6 .taken),
+    )
 
 returns-7 : tie.Need-returns-7
 unfolding firstDifference
@@ -57,18 +76,17 @@ returns-7 c =
     let e3 = e4 .before .before in
     let e2 = e3 .before .before .before in
     let e1 = e2 .before .before .before in
-    rw (eq-eqb _ _ (e1 .if1 .left), eq-eqb _ _ (e2 .if2 .left), eq-eqb _ _ (e3 .if3 .left), eq-eqb _ _ (e4 .if4 .left), ← e5 .before .same-timeout .ensures, not-false (e5 .before .same-timeout .result) (e5 .if5 .left), ← c .before .same-digest .ensures, not-false (c .before .same-digest .result) (c .if6 .left))
+    rw (
+      eq-eqb _ _ (e1 .if1 .left),
+      eq-eqb _ _ (e2 .if2 .left),
+      eq-eqb _ _ (e3 .if3 .left),
+      eq-eqb _ _ (e4 .if4 .left),
+      holds (e5 .before .same-timeout .ensures) (e5 .if5 .left),
+      holds (c .before .same-digest .ensures) (c .if6 .left),
+    )
 
 pub first-difference-spec : {M : Type 1} → statement M
 first-difference-spec =
     tie.close
     (tie.spec
-    returns
-    returns-2
-    returns-3
-    returns-4
-    (λ c κs. search needs)
-    returns-5
-    (λ c κs. search needs)
-    returns-6
-    returns-7)
+    returns returns-2 returns-3 returns-4 (λ c κs. search needs) returns-5 (λ c κs. search needs) returns-6 returns-7)
