@@ -37,8 +37,14 @@ pub fn handle(store: &mut [u8], output: &mut [u8], datagram: &[u8]) -> Told
 {
     let number = answer(store, output.len(), datagram);
     if number != 0 {
-        return Told { number: number, size: 0 };
+        return Told {
+            number: number,
+            size: 0,
+        };
     }
     let size = accept(store, output, datagram);
-    Told { number: 0, size: size }
+    Told {
+        number: 0,
+        size: size,
+    }
 }

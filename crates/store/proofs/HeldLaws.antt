@@ -29,10 +29,7 @@ fit-exact bs h =
     let a = and-both (and-both h .0) in
     record { size = a .0; laid = same-eq (bytesOf (storeIn bs)) bs (a .1) }
 
--- a fit store is held; so is what is made of it, call by call
-pub held-fit : (bs : List ℕ) → Bytes bs → isFit bs ≡ true → Held (storeIn bs) bs
-held-fit bs b h = record { bytes = sym (fit-exact bs h .laid); fields = fit-fields bs b h }
-
+-- what is made of a held store, call by call
 module _ {s : Store} {bs : List ℕ} (h : Held s bs) where
   pub held-store : storeIn bs ≡ s
   held-store = ap storeIn (h .bytes) ∙ read-back s (h .fields)
