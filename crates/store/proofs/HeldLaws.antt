@@ -6,7 +6,6 @@ use mathlib.Core.List.{List, [], _∷_}
 use mathlib.Core.Option.{Option, none, some}
 use Prim.Native.Nat.{ℕ, zero, suc, _^_, _<_}
 use lib.ListN.{length, set, length-set}
-use Rattle.wire.specs.Bytes.{Bytes}
 use Rattle.wire.proofs.ChoiceLaws.{and-both}
 use Rattle.wire.proofs.BytesLaws.{same-eq}
 use Rattle.store.specs.declared.OwnHeight.{OwnHeight}
@@ -17,7 +16,7 @@ use Rattle.store.specs.Fit.{sizeFits, isFit}
 use Rattle.store.specs.Effect.{Exact, withTimes, withChannelSlot, withRecordSlot}
 use Rattle.store.proofs.TableLaws.{Each}
 use Rattle.store.proofs.LayoutLaws.{ChannelFields, RecordFields, StoreFields, read-back, size-of}
-use Rattle.store.proofs.FitLaws.{size-fits, fit-fields}
+use Rattle.store.proofs.FitLaws.{size-fits}
 
 pub record Held (s : Store) (bs : List ℕ) : Type 0 where
   pub bytes : bs ≡ bytesOf s
