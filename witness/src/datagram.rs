@@ -52,30 +52,11 @@ pub struct Verdict {
 
 #[derive(Clone, Copy, Debug, PartialEq, Eq)]
 pub enum Body {
-    Send {
-        channel: u32,
-        timeout_height: u64,
-        timeout_timestamp: u64,
-        digest: Digest,
-    },
-    Receive {
-        packet: Packet,
-        verdict: Verdict,
-    },
-    Write {
-        channel: u32,
-        sequence: u64,
-        digest: Digest,
-    },
-    Acknowledge {
-        packet: Packet,
-        acknowledgement: Digest,
-        verdict: Verdict,
-    },
-    TimeOut {
-        packet: Packet,
-        verdict: Verdict,
-    },
+    Send { channel: u32, timeout_height: u64, timeout_timestamp: u64, digest: Digest },
+    Receive { packet: Packet, verdict: Verdict },
+    Write { channel: u32, sequence: u64, digest: Digest },
+    Acknowledge { packet: Packet, acknowledgement: Digest, verdict: Verdict },
+    TimeOut { packet: Packet, verdict: Verdict },
 }
 
 #[derive(Clone, Copy, Debug, PartialEq, Eq)]
@@ -108,10 +89,7 @@ pub fn read(bytes: &[u8]) -> Option<Datagram> {
         return None;
     }
     let (front, behind) = bytes[frame::BODY..].split_at(context::LENGTH);
-    Some(Datagram {
-        context: read_context(front)?,
-        body: read_body(kind, behind)?,
-    })
+    Some(Datagram { context: read_context(front)?, body: read_body(kind, behind)? })
 }
 
 fn read_context(bytes: &[u8]) -> Option<Context> {
@@ -134,31 +112,25 @@ fn read_body(kind: u16, bytes: &[u8]) -> Option<Body> {
             timeout_timestamp: get_u64(bytes, send::TIMEOUT_TIMESTAMP),
             digest: get(bytes, send::DIGEST),
         }),
-        RECEIVE => Some(Body::Receive {
-            packet: read_packet(bytes)?,
-            verdict: read_verdict(&bytes[packet::LENGTH..])?,
-        }),
+        RECEIVE => {
+            Some(Body::Receive { packet: read_packet(bytes)?, verdict: read_verdict(&bytes[packet::LENGTH..])? })
+        }
         WRITE => read_write(bytes),
         ACKNOWLEDGE => Some(Body::Acknowledge {
             packet: read_packet(bytes)?,
             acknowledgement: get(bytes, packet::LENGTH),
             verdict: read_verdict(&bytes[packet::LENGTH + DIGEST_LENGTH..])?,
         }),
-        TIME_OUT => Some(Body::TimeOut {
-            packet: read_packet(bytes)?,
-            verdict: read_verdict(&bytes[packet::LENGTH..])?,
-        }),
+        TIME_OUT => {
+            Some(Body::TimeOut { packet: read_packet(bytes)?, verdict: read_verdict(&bytes[packet::LENGTH..])? })
+        }
         _ => None,
     }
 }
 
 fn read_write(bytes: &[u8]) -> Option<Body> {
     let sequence = get_u64(bytes, write::SEQUENCE);
-    let body = Body::Write {
-        channel: get_u32(bytes, write::CHANNEL),
-        sequence,
-        digest: get(bytes, write::DIGEST),
-    };
+    let body = Body::Write { channel: get_u32(bytes, write::CHANNEL), sequence, digest: get(bytes, write::DIGEST) };
     (sequence != 0).then_some(body)
 }
 
@@ -180,9 +152,7 @@ fn read_verdict(bytes: &[u8]) -> Option<Verdict> {
         timeout_timestamp: get_u64(bytes, verdict::TIMEOUT_TIMESTAMP),
         digest: get(bytes, verdict::DIGEST),
     };
-    (COMMITMENT_PRESENT..=NEXT_RECV_EQUALS)
-        .contains(&verdict.claim)
-        .then_some(verdict)
+    (COMMITMENT_PRESENT..=NEXT_RECV_EQUALS).contains(&verdict.claim).then_some(verdict)
 }
 
 impl Packet {

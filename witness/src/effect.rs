@@ -15,16 +15,8 @@ const TIMED_OUT: u16 = 0x0105;
 pub enum Emitted {
     Sent(Packet),
     Delivered(Packet),
-    Written {
-        port: u16,
-        channel: u32,
-        sequence: u64,
-        digest: Digest,
-    },
-    Acknowledged {
-        packet: Packet,
-        acknowledgement: Digest,
-    },
+    Written { port: u16, channel: u32, sequence: u64, digest: Digest },
+    Acknowledged { packet: Packet, acknowledgement: Digest },
     TimedOut(Packet),
 }
 
@@ -36,22 +28,14 @@ impl Emitted {
             Emitted::Sent(packet) => (SENT, write_packet(packet, body)),
             Emitted::Delivered(packet) => (DELIVERED, write_packet(packet, body)),
             Emitted::TimedOut(packet) => (TIMED_OUT, write_packet(packet, body)),
-            Emitted::Written {
-                port,
-                channel,
-                sequence,
-                digest,
-            } => {
+            Emitted::Written { port, channel, sequence, digest } => {
                 put_u16(body, 0, *port);
                 put_u32(body, 2, *channel);
                 put_u64(body, 6, *sequence);
                 put(body, 14, *digest);
                 (WRITTEN, 52)
             }
-            Emitted::Acknowledged {
-                packet,
-                acknowledgement,
-            } => {
+            Emitted::Acknowledged { packet, acknowledgement } => {
                 put(body, packet::LENGTH, *acknowledgement);
                 (ACKNOWLEDGED, write_packet(packet, body) + 32)
             }

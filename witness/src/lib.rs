@@ -5,14 +5,27 @@
 //! each other and check whole histories of two ledgers by counting.
 
 pub mod bytes;
+pub mod compare;
+pub mod coverage;
 pub mod datagram;
 pub mod effect;
 pub mod fit;
+pub mod generate;
+pub mod history;
 pub mod maker;
 pub mod places;
 pub mod refusal;
+#[cfg(feature = "route")]
+pub mod route;
 pub mod rules;
 pub mod store;
+pub mod subject;
+pub mod workload;
+
+#[cfg(test)]
+mod shim;
+#[cfg(test)]
+mod tests;
 
 pub use maker::make_store;
 pub use store::store_length;

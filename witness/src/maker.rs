@@ -19,10 +19,7 @@ pub fn make_store(store: &mut [u8], openings: &[u8]) -> u8 {
 fn records_to_make(length: usize, openings: &[u8]) -> Result<usize, u8> {
     let records = records_in(length).ok_or(STORE_LENGTH_UNFIT)?;
     let whole = openings.len().is_multiple_of(opening::LENGTH);
-    refuse_if(
-        !whole || !openings.chunks_exact(opening::LENGTH).all(well_formed),
-        OPENINGS_MALFORMED,
-    )?;
+    refuse_if(!whole || !openings.chunks_exact(opening::LENGTH).all(well_formed), OPENINGS_MALFORMED)?;
     refuse_if(openings.len() / opening::LENGTH > CHANNELS, TOO_MANY_OPENINGS)?;
     refuse_if(a_channel_twice(openings), CHANNEL_TWICE)?;
     Ok(records)

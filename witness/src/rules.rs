@@ -14,26 +14,15 @@ pub fn decide(store: &[u8], output_length: usize, bytes: &[u8]) -> Result<Effect
     refuse_if(output_length < OUTPUT, OUTPUT_SHORT)?;
     let Datagram { context, body } = read(bytes).ok_or(MALFORMED)?;
     match body {
-        Body::Send {
-            channel,
-            timeout_height,
-            timeout_timestamp,
-            digest,
-        } => {
+        Body::Send { channel, timeout_height, timeout_timestamp, digest } => {
             let call = Call::enter(store, context, channel)?;
             call.send(timeout_height, timeout_timestamp, digest)
         }
         Body::Receive { packet, verdict } => Call::enter(store, context, packet.dest_channel)?.receive(packet, verdict),
-        Body::Write {
-            channel,
-            sequence,
-            digest,
-        } => Call::enter(store, context, channel)?.write(sequence, digest),
-        Body::Acknowledge {
-            packet,
-            acknowledgement,
-            verdict,
-        } => Call::enter(store, context, packet.source_channel)?.acknowledge(packet, acknowledgement, verdict),
+        Body::Write { channel, sequence, digest } => Call::enter(store, context, channel)?.write(sequence, digest),
+        Body::Acknowledge { packet, acknowledgement, verdict } => {
+            Call::enter(store, context, packet.source_channel)?.acknowledge(packet, acknowledgement, verdict)
+        }
         Body::TimeOut { packet, verdict } => {
             Call::enter(store, context, packet.source_channel)?.time_out(packet, verdict)
         }
@@ -57,12 +46,7 @@ impl Call<'_> {
         let (index, end) = find_channel(store, channel).ok_or(NO_CHANNEL)?;
         refuse_if(!end.is_open(), NOT_OPEN)?;
         refuse_if(context.port != end.port, NOT_OWNER)?;
-        Ok(Call {
-            store,
-            context,
-            index,
-            end,
-        })
+        Ok(Call { store, context, index, end })
     }
 
     fn send(&self, timeout_height: u64, timeout_timestamp: u64, digest: Digest) -> Result<Effect, u8> {
@@ -73,14 +57,8 @@ impl Call<'_> {
         let mut end = self.end;
         end.next_sequence_send = raised(sequence)?;
         let free = first_free(self.store).ok_or(NO_FREE_RECORD)?;
-        let record = Record {
-            kind: COMMITMENT,
-            channel: end.channel,
-            sequence,
-            timeout_height,
-            timeout_timestamp,
-            digest,
-        };
+        let record =
+            Record { kind: COMMITMENT, channel: end.channel, sequence, timeout_height, timeout_timestamp, digest };
         let packet = Packet {
             sequence,
             timeout_height,
@@ -112,37 +90,18 @@ impl Call<'_> {
         }
         refuse_if(received(self.store, &end, packet.sequence), ALREADY_THERE)?;
         let free = first_free(self.store).ok_or(NO_FREE_RECORD)?;
-        let receipt = Record {
-            kind: RECEIPT,
-            channel: end.channel,
-            sequence: packet.sequence,
-            ..Record::FREE
-        };
+        let receipt = Record { kind: RECEIPT, channel: end.channel, sequence: packet.sequence, ..Record::FREE };
         Ok(self.effect(end, Some((free, receipt)), Emitted::Delivered(packet)))
     }
 
     fn write(&self, sequence: u64, digest: Digest) -> Result<Effect, u8> {
         let end = self.end;
-        refuse_if(
-            find_record(self.store, ACKNOWLEDGEMENT, end.channel, sequence).is_some(),
-            ALREADY_THERE,
-        )?;
+        refuse_if(find_record(self.store, ACKNOWLEDGEMENT, end.channel, sequence).is_some(), ALREADY_THERE)?;
         refuse_if(!received(self.store, &end, sequence), NOT_RECEIVED)?;
         refuse_if(digest == NO_DIGEST, EMPTY_ACKNOWLEDGEMENT)?;
         let free = first_free(self.store).ok_or(NO_FREE_RECORD)?;
-        let record = Record {
-            kind: ACKNOWLEDGEMENT,
-            channel: end.channel,
-            sequence,
-            digest,
-            ..Record::FREE
-        };
-        let emitted = Emitted::Written {
-            port: end.port,
-            channel: end.channel,
-            sequence,
-            digest,
-        };
+        let record = Record { kind: ACKNOWLEDGEMENT, channel: end.channel, sequence, digest, ..Record::FREE };
+        let emitted = Emitted::Written { port: end.port, channel: end.channel, sequence, digest };
         Ok(self.effect(end, Some((free, record)), emitted))
     }
 
@@ -151,22 +110,12 @@ impl Call<'_> {
         refuse_if(self.context.connection != 1, CONNECTION_NOT_OPEN)?;
         refuse_if(!self.sent_here(&packet), WRONG_END)?;
         let place = self.commitment(&packet).ok_or(NO_COMMITMENT)?;
-        refuse_if(
-            !shows_acknowledgement(&verdict, &packet, &acknowledgement),
-            OTHER_VERDICT,
-        )?;
+        refuse_if(!shows_acknowledgement(&verdict, &packet, &acknowledgement), OTHER_VERDICT)?;
         if end.is_ordered() {
             refuse_if(packet.sequence != end.next_sequence_ack, OUT_OF_ORDER)?;
             end.next_sequence_ack = raised(end.next_sequence_ack)?;
         }
-        Ok(self.effect(
-            end,
-            Some((place, Record::FREE)),
-            Emitted::Acknowledged {
-                packet,
-                acknowledgement,
-            },
-        ))
+        Ok(self.effect(end, Some((place, Record::FREE)), Emitted::Acknowledged { packet, acknowledgement }))
     }
 
     fn time_out(&self, packet: Packet, verdict: Verdict) -> Result<Effect, u8> {
@@ -203,13 +152,7 @@ impl Call<'_> {
 
     fn effect(&self, end: Channel, record: Option<(usize, Record)>, emitted: Emitted) -> Effect {
         let Context { height, time, .. } = self.context;
-        Effect {
-            height,
-            time,
-            end: (self.index, end),
-            record,
-            emitted,
-        }
+        Effect { height, time, end: (self.index, end), record, emitted }
     }
 }
 

@@ -10,9 +10,7 @@ fn opening(channel: u32, order: u8) -> Vec<u8> {
 }
 
 fn openings(count: u32) -> Vec<u8> {
-    (0..count)
-        .flat_map(|channel| opening(channel, 1 + (channel % 2) as u8))
-        .collect()
+    (0..count).flat_map(|channel| opening(channel, 1 + (channel % 2) as u8)).collect()
 }
 
 /// The answer on a slice that holds other bytes before; a refusal has to leave them.
@@ -29,10 +27,7 @@ fn empty_list_makes_an_empty_store() {
     assert_eq!(number, 0);
     assert_eq!(store[..8], [0x80, 4, 0, 0, 1, 4, 16, 0]);
     assert_eq!(store[24..28], [1, 0, 0, 0]);
-    let others = store
-        .iter()
-        .enumerate()
-        .filter(|(at, byte)| **byte != 0 && *at >= 8 && *at != 24);
+    let others = store.iter().enumerate().filter(|(at, byte)| **byte != 0 && *at >= 8 && *at != 24);
     assert_eq!(others.count(), 0);
 }
 

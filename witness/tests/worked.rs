@@ -35,16 +35,7 @@ impl Bytes {
 }
 
 fn opening(port: u16, channel: u32, other_port: u16, other_channel: u32, order: u8) -> Vec<u8> {
-    Bytes::default()
-        .n32(20)
-        .n16(0x10)
-        .n16(port)
-        .n32(channel)
-        .n16(other_port)
-        .n32(other_channel)
-        .n8(order)
-        .n8(0)
-        .0
+    Bytes::default().n32(20).n16(0x10).n16(port).n32(channel).n16(other_port).n32(other_channel).n8(order).n8(0).0
 }
 
 fn fresh() -> Vec<u8> {
@@ -55,24 +46,11 @@ fn fresh() -> Vec<u8> {
 }
 
 fn start(length: u32, kind: u16, caller: u16) -> Bytes {
-    Bytes::default()
-        .n32(length)
-        .n16(kind)
-        .n64(100)
-        .n64(1000)
-        .n64(50)
-        .n16(caller)
-        .n8(1)
-        .zeros(5)
+    Bytes::default().n32(length).n16(kind).n64(100).n64(1000).n64(50).n16(caller).n8(1).zeros(5)
 }
 
 fn send(caller: u16, timeout_height: u64) -> Vec<u8> {
-    start(90, 1, caller)
-        .n32(ORDERED_END)
-        .n64(timeout_height)
-        .n64(0)
-        .digest(0xd1)
-        .0
+    start(90, 1, caller).n32(ORDERED_END).n64(timeout_height).n64(0).digest(0xd1).0
 }
 
 fn receive(channel: u32, sequence: u64, timeout_height: u64, timeout_timestamp: u64) -> Vec<u8> {
@@ -100,25 +78,8 @@ fn receive(channel: u32, sequence: u64, timeout_height: u64, timeout_timestamp: 
 
 /// Times out the packet of case 1.
 fn time_out(proof_height: u64, claimed: u64) -> Vec<u8> {
-    let sent = start(186, 5, 5)
-        .n64(1)
-        .n64(60)
-        .n64(0)
-        .n16(5)
-        .n32(ORDERED_END)
-        .n16(6)
-        .n32(9)
-        .digest(0xd1);
-    sent.n16(4)
-        .n64(proof_height)
-        .n64(0)
-        .n16(6)
-        .n32(9)
-        .n64(claimed)
-        .n64(0)
-        .n64(0)
-        .digest(0)
-        .0
+    let sent = start(186, 5, 5).n64(1).n64(60).n64(0).n16(5).n32(ORDERED_END).n16(6).n32(9).digest(0xd1);
+    sent.n16(4).n64(proof_height).n64(0).n16(6).n32(9).n64(claimed).n64(0).n64(0).digest(0).0
 }
 
 /// Handles it and checks that a refusal changes nothing and an acceptance nothing behind what it emits.
@@ -156,54 +117,14 @@ fn after_case_1() -> Vec<u8> {
 fn case_01_send_accepted() {
     let mut store = fresh();
     let (number, emitted) = answer(&mut store, &send(5, 60));
-    let packet = Bytes::default()
-        .n64(1)
-        .n64(60)
-        .n64(0)
-        .n16(5)
-        .n32(7)
-        .n16(6)
-        .n32(9)
-        .digest(0xd1)
-        .0;
-    assert_eq!(
-        (number, emitted),
-        (0, [Bytes::default().n32(74).n16(0x0101).0, packet].concat())
-    );
-    let commitment = Bytes::default()
-        .n16(1)
-        .n16(0)
-        .n32(7)
-        .n64(1)
-        .n64(60)
-        .n64(0)
-        .digest(0xd1)
-        .0;
+    let packet = Bytes::default().n64(1).n64(60).n64(0).n16(5).n32(7).n16(6).n32(9).digest(0xd1).0;
+    assert_eq!((number, emitted), (0, [Bytes::default().n32(74).n16(0x0101).0, packet].concat()));
+    let commitment = Bytes::default().n16(1).n16(0).n32(7).n64(1).n64(60).n64(0).digest(0xd1).0;
     assert_eq!(record(&store, 0), commitment);
     assert_eq!(record(&store, 1), [0; 64]);
-    let end = Bytes::default()
-        .n16(1)
-        .n8(3)
-        .n8(1)
-        .n32(7)
-        .n16(5)
-        .n16(6)
-        .n32(9)
-        .n64(2)
-        .n64(1)
-        .n64(1)
-        .zeros(24)
-        .0;
+    let end = Bytes::default().n16(1).n8(3).n8(1).n32(7).n16(5).n16(6).n32(9).n64(2).n64(1).n64(1).zeros(24).0;
     assert_eq!(channel(&store, 0), end);
-    let header = Bytes::default()
-        .n32(1216)
-        .n16(0x0401)
-        .n16(16)
-        .n64(100)
-        .n64(1000)
-        .n32(2)
-        .zeros(36)
-        .0;
+    let header = Bytes::default().n32(1216).n16(0x0401).n16(16).n64(100).n64(1000).n32(2).zeros(36).0;
     assert_eq!(store[..64], header);
 }
 
@@ -225,20 +146,8 @@ fn case_06_third_send_finds_no_record() {
 fn cases_07_to_10_ordered_receives() {
     let mut store = fresh();
     let (number_7, emitted) = answer(&mut store, &receive(7, 1, 101, 0));
-    let packet = Bytes::default()
-        .n64(1)
-        .n64(101)
-        .n64(0)
-        .n16(6)
-        .n32(9)
-        .n16(5)
-        .n32(7)
-        .digest(0xd2)
-        .0;
-    assert_eq!(
-        (number_7, emitted),
-        (0, [Bytes::default().n32(74).n16(0x0102).0, packet].concat())
-    );
+    let packet = Bytes::default().n64(1).n64(101).n64(0).n16(6).n32(9).n16(5).n32(7).digest(0xd2).0;
+    assert_eq!((number_7, emitted), (0, [Bytes::default().n32(74).n16(0x0102).0, packet].concat()));
     assert_eq!(channel(&store, 0)[24..32], 2u64.to_le_bytes());
     assert_eq!(record(&store, 0), [0; 64]);
     for (sequence, height, timestamp, expected) in [(1, 100, 0, 11), (1, 0, 1000, 11), (2, 101, 0, 15)] {
@@ -250,10 +159,7 @@ fn cases_07_to_10_ordered_receives() {
 fn cases_11_and_12_unordered_receive_twice() {
     let mut store = fresh();
     assert_eq!(number(&mut store, &receive(8, 3, 101, 0)), 0);
-    assert_eq!(
-        record(&store, 0),
-        Bytes::default().n16(2).n16(0).n32(8).n64(3).zeros(48).0
-    );
+    assert_eq!(record(&store, 0), Bytes::default().n16(2).n16(0).n32(8).n64(3).zeros(48).0);
     assert_eq!(number(&mut store, &receive(8, 3, 101, 0)), 16);
 }
 
@@ -261,20 +167,8 @@ fn cases_11_and_12_unordered_receive_twice() {
 fn cases_13_and_16_time_out_closes() {
     let mut store = after_case_1();
     let (number_13, emitted) = answer(&mut store, &time_out(60, 1));
-    let packet = Bytes::default()
-        .n64(1)
-        .n64(60)
-        .n64(0)
-        .n16(5)
-        .n32(7)
-        .n16(6)
-        .n32(9)
-        .digest(0xd1)
-        .0;
-    assert_eq!(
-        (number_13, emitted),
-        (0, [Bytes::default().n32(74).n16(0x0105).0, packet].concat())
-    );
+    let packet = Bytes::default().n64(1).n64(60).n64(0).n16(5).n32(7).n16(6).n32(9).digest(0xd1).0;
+    assert_eq!((number_13, emitted), (0, [Bytes::default().n32(74).n16(0x0105).0, packet].concat()));
     assert_eq!(channel(&store, 0)[2], 4);
     assert_eq!(record(&store, 0), [0; 64]);
     assert_eq!(number(&mut store, &send(5, 60)), 6);
@@ -294,42 +188,11 @@ fn acknowledgement_is_written_and_taken() {
     let write = start(82, 3, 5).n32(8).n64(3).digest(0xac).0;
     let written = Bytes::default().n32(52).n16(0x0103).n16(5).n32(8).n64(3).digest(0xac).0;
     assert_eq!(answer(&mut store, &write), (0, written));
-    assert_eq!(
-        record(&store, 1),
-        Bytes::default()
-            .n16(3)
-            .n16(0)
-            .n32(8)
-            .n64(3)
-            .n64(0)
-            .n64(0)
-            .digest(0xac)
-            .0
-    );
+    assert_eq!(record(&store, 1), Bytes::default().n16(3).n16(0).n32(8).n64(3).n64(0).n64(0).digest(0xac).0);
 
     let mut store = after_case_1();
-    let packet = Bytes::default()
-        .n64(1)
-        .n64(60)
-        .n64(0)
-        .n16(5)
-        .n32(7)
-        .n16(6)
-        .n32(9)
-        .digest(0xd1)
-        .digest(0xac)
-        .0;
-    let verdict = Bytes::default()
-        .n16(2)
-        .n64(0)
-        .n64(0)
-        .n16(6)
-        .n32(9)
-        .n64(1)
-        .n64(0)
-        .n64(0)
-        .digest(0xac)
-        .0;
+    let packet = Bytes::default().n64(1).n64(60).n64(0).n16(5).n32(7).n16(6).n32(9).digest(0xd1).digest(0xac).0;
+    let verdict = Bytes::default().n16(2).n64(0).n64(0).n16(6).n32(9).n64(1).n64(0).n64(0).digest(0xac).0;
     let datagram = [start(218, 4, 5).0, packet.clone(), verdict].concat();
     let emitted = [Bytes::default().n32(106).n16(0x0104).0, packet].concat();
     assert_eq!(answer(&mut store, &datagram), (0, emitted));
