@@ -39,8 +39,9 @@ pub fn put_u64(bytes: &mut [u8], at: usize, value: u64) {
     put(bytes, at, value.to_le_bytes());
 }
 
+/// Looks at every byte: without an early way out the compiler takes many at a time.
 pub fn all_zero(bytes: &[u8]) -> bool {
-    bytes.iter().all(|byte| *byte == 0)
+    bytes.iter().fold(0, |seen, byte| seen | byte) == 0
 }
 
 /// Whether a length field of four bytes says exactly this length; a slice may be longer than any field can say.

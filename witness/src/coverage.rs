@@ -12,8 +12,41 @@ const OTHER: usize = 5;
 const MAKER: usize = 6;
 const ANSWERS: usize = 25;
 
-type Table = [[u64; COLUMNS.len()]; ANSWERS];
+/// A count for each answer and each kind of datagram.
+#[derive(Default)]
+pub struct Table([[u64; COLUMNS.len()]; ANSWERS]);
 
+impl Table {
+    fn add(&mut self, column: usize, number: u8) {
+        // A subject may give a number that is in no table; that is a difference, and is told as one.
+        if let Some(row) = self.0.get_mut(usize::from(number)) {
+            row[column] += 1;
+        }
+    }
+
+    pub fn count(&mut self, datagram: &[u8], number: u8) {
+        self.add(column_of(datagram), number);
+    }
+}
+
+impl fmt::Display for Table {
+    fn fmt(&self, out: &mut fmt::Formatter) -> fmt::Result {
+        write!(out, "{:>6}", "No.")?;
+        COLUMNS.iter().try_for_each(|name| write!(out, "{name:>10}"))?;
+        writeln!(out)?;
+        for (number, row) in self.0.iter().enumerate().filter(|(_, row)| row.iter().any(|count| *count > 0)) {
+            write!(out, "{number:>6}")?;
+            row.iter().try_for_each(|count| match count {
+                0 => write!(out, "{:>10}", "-"),
+                count => write!(out, "{count:>10}"),
+            })?;
+            writeln!(out)?;
+        }
+        Ok(())
+    }
+}
+
+/// What random calls have reached.
 #[derive(Default)]
 pub struct Coverage {
     answers: Table,
@@ -31,10 +64,10 @@ impl Coverage {
             Task::Handle { datagram, .. } => column_of(datagram),
             _ => MAKER,
         };
-        self.count_answer(column, number);
+        self.answers.add(column, number);
         match call.origin {
             // By the kind that the datagram was made as: malformed bytes may say another.
-            Origin::Fault(kind, number) => self.alone[usize::from(number)][usize::from(kind) - 1] += 1,
+            Origin::Fault(kind, number) => self.alone.add(usize::from(kind) - 1, number),
             Origin::Pair(kind, low, high) => *self.pairs.entry((kind, low, high)).or_default() += 1,
             Origin::Damaged(kind) => self.damages[kind] += 1,
             Origin::Malformed(way) => self.ways[way] += 1,
@@ -42,24 +75,8 @@ impl Coverage {
         }
     }
 
-    fn count_answer(&mut self, column: usize, number: u8) {
-        if let Some(row) = self.answers.get_mut(usize::from(number)) {
-            row[column] += 1;
-        }
-    }
-
-    /// A call of a history, which has no origin.
-    pub fn count_datagram(&mut self, datagram: &[u8], number: u8) {
-        self.count_answer(column_of(datagram), number);
-    }
-
     pub fn count_length(&mut self) {
         self.lengths += 1;
-    }
-
-    /// How often this kind of datagram got this answer.
-    pub fn answers(&self, kind: u16, number: u8) -> u64 {
-        self.answers[usize::from(number)][usize::from(kind) - 1]
     }
 
     /// How many kinds of damage and ways of malforming were never tried.
@@ -77,22 +94,6 @@ impl Coverage {
     fn rarest_pair(&self, kind: u16) -> Option<(u8, u8, u64)> {
         let own = self.pairs.iter().filter(|((of, ..), _)| *of == kind);
         own.map(|((_, low, high), count)| (*low, *high, *count)).min_by_key(|(.., count)| *count)
-    }
-
-    fn write_table(&self, out: &mut fmt::Formatter, title: &str, table: &Table) -> fmt::Result {
-        writeln!(out, "{title}")?;
-        write!(out, "{:>6}", "No.")?;
-        COLUMNS.iter().try_for_each(|name| write!(out, "{name:>10}"))?;
-        writeln!(out)?;
-        for (number, row) in table.iter().enumerate().filter(|(_, row)| row.iter().any(|count| *count > 0)) {
-            write!(out, "{number:>6}")?;
-            row.iter().try_for_each(|count| match count {
-                0 => write!(out, "{:>10}", "-"),
-                count => write!(out, "{count:>10}"),
-            })?;
-            writeln!(out)?;
-        }
-        Ok(())
     }
 }
 
@@ -121,12 +122,9 @@ fn possible_pairs(kind: u16) -> BTreeSet<(u8, u8)> {
 
 impl fmt::Display for Coverage {
     fn fmt(&self, out: &mut fmt::Formatter) -> fmt::Result {
-        self.write_table(out, "Answers by kind of datagram", &self.answers)?;
-        if self.lengths == 0 {
-            return Ok(());
-        }
-        self.write_table(out, "\nAimed at alone", &self.alone)?;
-        writeln!(out, "\nPairs of refusals that apply together")?;
+        writeln!(out, "Answers by kind of datagram\n{}", self.answers)?;
+        writeln!(out, "Aimed at alone\n{}", self.alone)?;
+        writeln!(out, "Pairs of refusals that apply together")?;
         for kind in 1..=5 {
             let (tried, possible) = self.pairs(kind);
             let (low, high, count) = self.rarest_pair(kind).unwrap_or_default();

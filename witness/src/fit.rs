@@ -6,7 +6,7 @@ use crate::places::{channel, frame, header, record, CHANNELS, CHANNEL_KIND, HEAD
 use crate::store::*;
 
 pub fn fit(store: &[u8]) -> bool {
-    header_fit(store) && channels_fit(store) && (0..record_count(store)).all(|index| record_fit(store, index))
+    header_fit(store) && channels_fit(store) && records_fit(store)
 }
 
 fn header_fit(store: &[u8]) -> bool {
@@ -44,11 +44,11 @@ fn channel_is_first(store: &[u8], index: usize) -> bool {
     (0..index).all(|before| channel_at(store, before).is_none_or(|end| end.channel != number))
 }
 
-fn record_fit(store: &[u8], index: usize) -> bool {
-    let bytes = &store[record_place(index)..][..RECORD];
-    if all_zero(bytes) {
-        return true;
-    }
+fn records_fit(store: &[u8]) -> bool {
+    records(store).enumerate().all(|(index, bytes)| all_zero(bytes) || record_fit(store, index, bytes))
+}
+
+fn record_fit(store: &[u8], index: usize, bytes: &[u8]) -> bool {
     let record = Record::read(bytes);
     let Some((_, end)) = find_channel(store, record.channel) else {
         return false;
@@ -56,7 +56,7 @@ fn record_fit(store: &[u8], index: usize) -> bool {
     all_zero(&bytes[record::ZEROS..record::CHANNEL])
         && record.sequence >= 1
         && record_allowed(store, &record, &end)
-        && record_is_first(store, index)
+        && record_is_first(store, index, key_of(bytes))
 }
 
 /// What is asked of each of the three kinds; there is no fourth.
@@ -71,7 +71,6 @@ fn record_allowed(store: &[u8], record: &Record, end: &Channel) -> bool {
 }
 
 /// No record before this one has its kind, channel and sequence.
-fn record_is_first(store: &[u8], index: usize) -> bool {
-    let own = key_at(store, index);
-    (0..index).all(|before| key_at(store, before) != own)
+fn record_is_first(store: &[u8], index: usize, own: u128) -> bool {
+    records(&store[..record_place(index)]).all(|before| key_of(before) != own)
 }

@@ -5,14 +5,14 @@ mod opening;
 mod tally;
 
 use crate::compare::differences;
-use crate::coverage::Coverage;
+use crate::coverage::Table;
 use crate::datagram::*;
 use crate::fit::fit;
 use crate::generate::draft::{encode, needed_verdict, NO_VERDICT};
 use crate::generate::malform::garbage;
 use crate::generate::rng::Rng;
 use crate::generate::shape::channels;
-use crate::places::{packet, OUTPUT};
+use crate::places::{frame, OUTPUT};
 use crate::store::*;
 use crate::subject::{witness_handle, Subject};
 use ledger::Ledger;
@@ -25,7 +25,7 @@ const STEPS: u64 = 300;
 #[derive(Default)]
 pub struct Outcome {
     pub calls: u64,
-    pub coverage: Coverage,
+    pub answers: Table,
     /// Packets sent, delivered at paired ends, acknowledged and timed out.
     pub totals: [u64; 4],
     pub broken: Vec<String>,
@@ -73,23 +73,24 @@ impl History {
         if self.truthful && !self.admit(at, &datagram) {
             return;
         }
+        let length = self.rng.pick(&[OUTPUT, OUTPUT, OUTPUT, OUTPUT, OUTPUT + 30, OUTPUT - 1]);
+        let output = self.rng.bytes(length);
         let store = &self.ledgers[at].store;
-        let output = self.rng.bytes(OUTPUT);
         let left = subject.handle(store, &output, &datagram, (outcome.calls % 16) as usize);
         let expected = witness_handle(store, &output, &datagram);
         outcome.calls += 1;
-        outcome.coverage.count_datagram(&datagram, left.number);
+        outcome.answers.count(&datagram, left.number);
         outcome.differences.extend(differences(&expected, &left).iter().map(|text| format!("{place}: {text}")));
         if left.number != 0 {
             return;
         }
-        if !fit(&left.store) {
-            outcome.broken.push(format!("{place}: the store is not fit any more"));
+        if length < OUTPUT || !fit(&left.store) {
+            outcome.broken.push(format!("{place}: accepted with a short output, or the store is not fit any more"));
+            return;
         }
-        let emitted = &left.output[..(left.size as usize).clamp(packet::LENGTH, OUTPUT)];
-        self.tally.take(at, emitted, &left.store);
-        if datagram[4] == SEND as u8 {
-            self.sent.push((at, Packet::read(&emitted[6..])));
+        self.tally.take(at, &left.output, &left.store);
+        if datagram[frame::KIND] == SEND as u8 {
+            self.sent.push((at, Packet::read(&left.output[frame::BODY..])));
         }
         self.ledgers[at].accept(left.store);
     }

@@ -6,7 +6,7 @@ use crate::compare::compare;
 use crate::generate::{Generator, Origin};
 use crate::history;
 use crate::shim;
-use crate::workload::workload;
+use crate::workload::{workload, Workload, SEGMENT};
 
 const SEED: u64 = 20_240_601;
 
@@ -68,7 +68,7 @@ fn every_origin_comes() {
 fn right_histories_keep_all_promises() {
     for truthful in [true, false] {
         let outcome = history::run(&shim::RIGHT, 60, SEED, truthful);
-        println!("truthful {truthful}: {} calls, {:?}\n{}", outcome.calls, outcome.totals, outcome.coverage);
+        println!("truthful {truthful}: {} calls, {:?}\n{}", outcome.calls, outcome.totals, outcome.answers);
         assert_eq!(outcome.broken, Vec::<String>::new());
         assert_eq!(outcome.differences, Vec::<String>::new());
         assert!(outcome.totals.iter().all(|count| *count > 20 || !truthful));
@@ -97,7 +97,20 @@ fn workload_is_mixed() {
         println!("{records}: {:?}", workload.answers);
         let refusals = workload.answers[1..].iter().filter(|count| **count > 0).count();
         assert!(workload.answers[0] > 2_000 && refusals >= 12 && workload.answers[1] == 0);
-        let accepted: BTreeSet<u8> = workload.datagrams.iter().filter(|bytes| bytes.len() > 5).map(|b| b[4]).collect();
-        assert!((1..=5).all(|kind| accepted.contains(&kind)));
+        assert_eq!(kinds_accepted(&workload), BTreeSet::from([1, 2, 3, 4, 5]));
     }
+}
+
+fn kinds_accepted(workload: &Workload) -> BTreeSet<u8> {
+    let mut store = workload.store.clone();
+    let mut kinds = BTreeSet::new();
+    for (number, datagram) in workload.datagrams.iter().enumerate() {
+        if number % SEGMENT == 0 {
+            store.copy_from_slice(&workload.store);
+        }
+        if crate::handle(&mut store, &mut [0; 106], datagram).0 == 0 {
+            kinds.insert(datagram[4]);
+        }
+    }
+    kinds
 }

@@ -14,8 +14,12 @@ const DEFAULT_ROUNDS: usize = 9;
 
 type Handler = fn(&mut [u8], &mut [u8], &[u8]) -> (u8, u32);
 
-/// What one round left, to see that both did the same work.
-type Trace = (u64, Vec<u8>);
+/// A round: the time of each chunk of calls, and what it left, to see that both did the same work.
+struct Round {
+    chunks: Vec<Duration>,
+    sum: u64,
+    store: Vec<u8>,
+}
 
 fn library(store: &mut [u8], output: &mut [u8], datagram: &[u8]) -> (u8, u32) {
     let mut size = 0;
@@ -34,45 +38,54 @@ fn library(store: &mut [u8], output: &mut [u8], datagram: &[u8]) -> (u8, u32) {
     (number, size)
 }
 
-/// Runs all datagrams once and answers the time inside the calls. Setting the store back is not measured.
-fn round(handler: Handler, workload: &Workload) -> (Duration, Trace) {
-    let mut store = workload.store.clone();
+/// Runs all datagrams once. Setting the store back is not measured.
+fn round(handler: Handler, workload: &Workload, chunk: usize) -> Round {
+    let mut round = Round { chunks: Vec::new(), sum: 0, store: workload.store.clone() };
     let mut output = [0; OUTPUT];
-    let (mut spent, mut sum) = (Duration::ZERO, 0u64);
     for segment in workload.datagrams.chunks(SEGMENT) {
-        store.copy_from_slice(&workload.store);
-        let start = Instant::now();
-        for datagram in segment {
-            let (number, size) = handler(&mut store, &mut output, black_box(datagram));
-            sum = sum.wrapping_mul(31).wrapping_add(u64::from(number) << 8 | u64::from(size));
+        round.store.copy_from_slice(&workload.store);
+        for datagrams in segment.chunks(chunk) {
+            let start = Instant::now();
+            for datagram in datagrams {
+                let (number, size) = handler(&mut round.store, &mut output, black_box(datagram));
+                round.sum = round.sum.wrapping_mul(31).wrapping_add(u64::from(number) << 8 | u64::from(size));
+            }
+            round.chunks.push(start.elapsed());
         }
-        spent += start.elapsed();
     }
-    (spent, (sum, store))
+    round
 }
 
-/// Nanoseconds per call: the best round and the median round.
-fn summary(mut rounds: Vec<Duration>) -> [f64; 2] {
-    rounds.sort_unstable();
-    [rounds[0], rounds[rounds.len() / 2]].map(|round| round.as_nanos() as f64 / CALLS as f64)
+/// Nanoseconds per call, from each chunk's best round and from each chunk's median round.
+fn summary(rounds: Vec<Vec<Duration>>) -> [f64; 2] {
+    let mut sums = [Duration::ZERO; 2];
+    for chunk in 0..rounds[0].len() {
+        let mut times: Vec<Duration> = rounds.iter().map(|round| round[chunk]).collect();
+        times.sort_unstable();
+        sums[0] += times[0];
+        sums[1] += times[times.len() / 2];
+    }
+    sums.map(|sum| sum.as_nanos() as f64 / CALLS as f64)
 }
 
 fn measure(records: usize, rounds: usize) {
     let workload = workload(SEED, records, CALLS);
+    // Short chunks, so that most of them are not disturbed by whatever else the machine does.
+    let chunk = (SEGMENT * 8 / records).max(1);
     let handlers: [Handler; 2] = [black_box(library), black_box(witness::handle)];
     // The first round of each warms up and is not counted.
-    let [first, second] = handlers.map(|handler| round(handler, &workload).1);
-    assert!(first == second, "the two do not do the same work: run compare");
+    let [first, second] = handlers.map(|handler| round(handler, &workload, chunk));
+    assert!(first.sum == second.sum && first.store == second.store, "the two do not do the same work: run compare");
     let mut times = [Vec::new(), Vec::new()];
     for number in 0..rounds {
         // Whoever went second goes first the next time.
         for which in [number % 2, 1 - number % 2] {
-            times[which].push(round(handlers[which], &workload).0);
+            times[which].push(round(handlers[which], &workload, chunk).chunks);
         }
     }
     let [library, plain] = times.map(summary);
     let accepted = workload.answers[0];
-    println!("\nP = {records}: {CALLS} calls, {accepted} accepted, {rounds} rounds each");
+    println!("\nP = {records}: {CALLS} calls, {accepted} accepted, {rounds} rounds each, timed by {chunk}");
     println!("{:>14}{:>16}{:>16}", "ns per call", "best", "median");
     for (name, [best, median]) in [("library", library), ("plain Rust", plain)] {
         println!("{name:>14}{best:>16.0}{median:>16.0}");
@@ -87,7 +100,8 @@ fn main() {
     println!(
         "The store is nearly full; it is set back every {SEGMENT} calls, which is not measured. Rounds of the two"
     );
-    println!("take turns. Ratio: time of the library over time of the plain Rust. Seed {SEED}.");
+    println!("take turns. Few calls are timed at once; best is the sum of the best rounds of these, median that of");
+    println!("their median rounds. Ratio: time of the library over time of the plain Rust. Seed {SEED}.");
     for records in [8, 64, 512] {
         measure(records, rounds);
     }

@@ -54,7 +54,7 @@ fn run_histories(histories: u64, seed: u64, truthful: bool) -> u64 {
     if truthful {
         println!("{delivered} packets delivered at paired ends");
     }
-    println!("{}", outcome.coverage);
+    println!("{}", outcome.answers);
     println!("{} calls differ, {} promises broken", outcome.differences.len(), outcome.broken.len());
     show(&outcome.differences, seed);
     show(&outcome.broken, seed);

@@ -66,7 +66,7 @@ impl Rng {
         match self.below(4) {
             0 => low,
             1 => high,
-            _ => match (high - low).checked_add(1) {
+            _ => match high.saturating_sub(low).checked_add(1) {
                 Some(count) => low + self.below(count),
                 None => self.draw(),
             },

@@ -27,7 +27,7 @@ pub fn place(rng: &mut Rng, store: &mut [u8], record: &Record) -> bool {
 
 /// Fills free records until `left` are free, never with a receipt or acknowledgement of the packet to keep.
 pub fn fill(rng: &mut Rng, store: &mut [u8], left: usize, keep: Option<(u32, u64)>) -> bool {
-    let free: Vec<usize> = (0..record_count(store)).filter(|index| key_at(store, *index) == 0).collect();
+    let free: Vec<usize> = (0..record_count(store)).filter(|index| record_at(store, *index) == Record::FREE).collect();
     let ends = channels(store);
     for index in free.iter().skip(left) {
         let made = (0..20).find_map(|_| {

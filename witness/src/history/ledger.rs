@@ -58,7 +58,9 @@ impl Ledger {
     /// The latest moment that shows this block: that is where a time-out is nearest to a delivery.
     fn last_moment(&self, index: usize) -> (u64, u64) {
         let block = &self.blocks[index];
-        self.blocks.get(index + 1).map_or((block.height + 1, block.time + 1), |next| (next.height - 1, next.time))
+        self.blocks
+            .get(index + 1)
+            .map_or((block.height + 1, block.time + 1), |next| (next.height.saturating_sub(1), next.time))
     }
 
     /// Moments to look for a true verdict at: any few, and the latest of each block, from a random one on.
