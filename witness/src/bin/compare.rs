@@ -1,0 +1,66 @@
+//! Holds the static library against the witness: `compare [calls] [seed]`.
+
+use std::env;
+use std::process::ExitCode;
+use std::time::{SystemTime, UNIX_EPOCH};
+
+use witness::compare::compare;
+use witness::history;
+use witness::route::ROUTE;
+
+const DEFAULT_CALLS: u64 = 200_000;
+/// One history of each sort for so many calls.
+const CALLS_PER_HISTORY: u64 = 500;
+const SHOWN: usize = 20;
+
+fn main() -> ExitCode {
+    let arguments: Vec<String> = env::args().skip(1).collect();
+    let number = |at: usize| arguments.get(at).and_then(|text| text.parse::<u64>().ok());
+    if arguments.len() > 2 || (0..arguments.len()).any(|at| number(at).is_none()) {
+        eprintln!("usage: compare [calls] [seed]");
+        return ExitCode::from(2);
+    }
+    let calls = number(0).unwrap_or(DEFAULT_CALLS);
+    let seed = number(1).unwrap_or_else(any_seed);
+    println!("seed {seed}, {calls} calls\n");
+    let mut found = compare_calls(calls, seed);
+    for truthful in [true, false] {
+        found += run_histories(calls.div_ceil(CALLS_PER_HISTORY), seed, truthful);
+    }
+    println!("\n{found} differences and broken promises in all, seed {seed}");
+    ExitCode::from(u8::from(found != 0))
+}
+
+fn any_seed() -> u64 {
+    let now = SystemTime::now().duration_since(UNIX_EPOCH).unwrap_or_default();
+    now.as_nanos() as u64
+}
+
+fn compare_calls(calls: u64, seed: u64) -> u64 {
+    let report = compare(&ROUTE, calls, seed);
+    println!("{}", report.coverage);
+    println!("{} calls differ", report.different_calls);
+    show(&report.differences, seed);
+    show(&report.witness_faults, seed);
+    report.different_calls + report.witness_faults.len() as u64
+}
+
+fn run_histories(histories: u64, seed: u64, truthful: bool) -> u64 {
+    let outcome = history::run(&ROUTE, histories, seed, truthful);
+    let verdicts = if truthful { "true" } else { "lying" };
+    println!("\n{histories} histories of two ledgers with {verdicts} verdicts, {} calls", outcome.calls);
+    let [sent, delivered, acknowledged, timed_out] = outcome.totals;
+    println!("{sent} packets sent, {acknowledged} acknowledged, {timed_out} timed out");
+    if truthful {
+        println!("{delivered} packets delivered at paired ends");
+    }
+    println!("{}", outcome.answers);
+    println!("{} calls differ, {} promises broken", outcome.differences.len(), outcome.broken.len());
+    show(&outcome.differences, seed);
+    show(&outcome.broken, seed);
+    (outcome.differences.len() + outcome.broken.len()) as u64
+}
+
+fn show(texts: &[String], seed: u64) {
+    texts.iter().take(SHOWN).for_each(|text| println!("  seed {seed}, {text}"));
+}

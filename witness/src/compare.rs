@@ -1,0 +1,123 @@
+//! Random calls given to the witness and to the implementation under test; whatever they leave is compared whole.
+
+use crate::coverage::Coverage;
+use crate::fit::fit;
+use crate::generate::{Call, Generator, Task};
+use crate::subject::{witness_handle, witness_make_store, Left, Subject};
+
+/// Differences beyond this many are counted and not kept.
+const KEPT: usize = 20;
+
+/// The outcome of a run.
+#[derive(Default)]
+pub struct Report {
+    pub coverage: Coverage,
+    pub different_calls: u64,
+    /// The first differences, each with the index of its call.
+    pub differences: Vec<String>,
+    /// Calls at which the witness broke a law of its own or missed what the call was made for.
+    pub witness_faults: Vec<String>,
+}
+
+/// Compares that many random calls.
+pub fn compare(subject: &Subject, calls: u64, seed: u64) -> Report {
+    let mut generator = Generator::new(seed);
+    let mut report = Report::default();
+    for index in 0..calls {
+        let call = generator.next_call();
+        compare_call(subject, &call, index, &mut report);
+    }
+    report
+}
+
+fn compare_call(subject: &Subject, call: &Call, index: u64, report: &mut Report) {
+    let shift = (index % 16) as usize;
+    let (expected, given) = match &call.task {
+        Task::Handle { store, output, datagram } => {
+            (witness_handle(store, output, datagram), subject.handle(store, output, datagram, shift))
+        }
+        Task::Make { store, openings } => {
+            (witness_make_store(store, openings), subject.make_store(store, openings, shift))
+        }
+        Task::StoreLength(records) => {
+            let (expected, given) = (crate::store_length(*records), subject.store_length(*records));
+            report.coverage.count_length();
+            if expected != given {
+                note(report, call, index, vec![format!("length {given} instead of {expected} of {records} records")]);
+            }
+            return;
+        }
+    };
+    report.coverage.count(call, expected.number);
+    let found = differences(&expected, &given);
+    if !found.is_empty() {
+        note(report, call, index, found);
+    }
+    if let Some(fault) = witness_fault(call, &expected) {
+        report.witness_faults.push(format!("call {index}, {:?}: {fault}", call.origin));
+    }
+}
+
+fn note(report: &mut Report, call: &Call, index: u64, found: Vec<String>) {
+    report.different_calls += 1;
+    if report.differences.len() < KEPT {
+        let bytes = match &call.task {
+            Task::Handle { store, output, datagram } => {
+                format!("store of {}, output of {}, datagram {}", store.len(), output.len(), hex(datagram))
+            }
+            Task::Make { store, openings } => format!("store of {}, openings {}", store.len(), hex(openings)),
+            Task::StoreLength(_) => String::new(),
+        };
+        report.differences.push(format!("call {index}, {:?}: {}; {bytes}", call.origin, found.join(", ")));
+    }
+}
+
+/// In words, everything in which the second is not as the first.
+pub fn differences(expected: &Left, given: &Left) -> Vec<String> {
+    let mut found = Vec::new();
+    if given.number != expected.number {
+        found.push(format!("answer {} instead of {}", given.number, expected.number));
+    }
+    if given.size != expected.size {
+        found.push(format!("emitted length {} instead of {}", given.size, expected.size));
+    }
+    let slices = [("store", &expected.store, &given.store), ("output", &expected.output, &given.output)];
+    for (name, expected, given) in slices {
+        if let Some(at) = first_difference(expected, given) {
+            found.push(format!("{name} differs first at byte {at}"));
+        }
+    }
+    found.extend(given.strayed.iter().map(|place| format!("bytes changed {place}")));
+    found
+}
+
+fn first_difference(expected: &[u8], given: &[u8]) -> Option<usize> {
+    let pairs = expected.iter().zip(given);
+    let differs = pairs.enumerate().find(|(_, (expected, given))| expected != given).map(|(at, _)| at);
+    differs.or((expected.len() != given.len()).then_some(expected.len().min(given.len())))
+}
+
+/// Three laws that are independent of how the witness decides: a call made for an answer gets it, a refusal
+/// changes nothing, an acceptance leaves a fit store and nothing behind what it emits.
+fn witness_fault(call: &Call, left: &Left) -> Option<String> {
+    if call.intended.is_some_and(|intended| intended != left.number) {
+        return Some(format!("made for {:?}, got {}", call.intended, left.number));
+    }
+    let (store, output) = match &call.task {
+        Task::Handle { store, output, .. } => (store.as_slice(), output.as_slice()),
+        Task::Make { store, .. } => (store.as_slice(), [].as_slice()),
+        Task::StoreLength(_) => return None,
+    };
+    let size = left.size as usize;
+    if left.number != 0 && (left.store != store || left.output != output || size != 0) {
+        return Some("refusal changed something".to_string());
+    }
+    if left.number == 0 && (!fit(&left.store) || left.output[size..] != output[size..]) {
+        return Some("acceptance left an unfit store or wrote too much".to_string());
+    }
+    None
+}
+
+pub fn hex(bytes: &[u8]) -> String {
+    bytes.iter().map(|byte| format!("{byte:02x}")).collect()
+}

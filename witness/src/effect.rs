@@ -1,0 +1,79 @@
+//! What an acceptance does. It is decided whole before the first byte is written, so that a refusal writes none.
+
+use crate::bytes::*;
+use crate::datagram::Packet;
+use crate::places::{frame, header, packet};
+use crate::store::{channel_place, record_place, Channel, Record};
+
+const SENT: u16 = 0x0101;
+const DELIVERED: u16 = 0x0102;
+const WRITTEN: u16 = 0x0103;
+const ACKNOWLEDGED: u16 = 0x0104;
+const TIMED_OUT: u16 = 0x0105;
+
+#[derive(Clone, Copy, Debug)]
+pub enum Emitted {
+    Sent(Packet),
+    Delivered(Packet),
+    Written { port: u16, channel: u32, sequence: u64, digest: Digest },
+    Acknowledged { packet: Packet, acknowledgement: Digest },
+    TimedOut(Packet),
+}
+
+impl Emitted {
+    /// Writes the framed record to the front of the output and answers its length.
+    fn write(&self, output: &mut [u8]) -> u32 {
+        let body = &mut output[frame::BODY..];
+        let (kind, length) = match self {
+            Emitted::Sent(packet) => (SENT, write_packet(packet, body)),
+            Emitted::Delivered(packet) => (DELIVERED, write_packet(packet, body)),
+            Emitted::TimedOut(packet) => (TIMED_OUT, write_packet(packet, body)),
+            Emitted::Written { port, channel, sequence, digest } => {
+                put_u16(body, 0, *port);
+                put_u32(body, 2, *channel);
+                put_u64(body, 6, *sequence);
+                put(body, 14, *digest);
+                (WRITTEN, 52)
+            }
+            Emitted::Acknowledged { packet, acknowledgement } => {
+                put(body, packet::LENGTH, *acknowledgement);
+                (ACKNOWLEDGED, write_packet(packet, body) + 32)
+            }
+        };
+        put_u32(output, frame::LENGTH, length);
+        put_u16(output, frame::KIND, kind);
+        length
+    }
+}
+
+/// Answers the length of a framed record that holds the packet alone: 74.
+fn write_packet(packet: &Packet, body: &mut [u8]) -> u32 {
+    packet.write(body);
+    (frame::BODY + packet::LENGTH) as u32
+}
+
+/// Everything that an accepted call changes.
+#[derive(Clone, Copy, Debug)]
+pub struct Effect {
+    pub height: u64,
+    pub time: u64,
+    /// The end as it is afterwards, and its index.
+    pub end: (usize, Channel),
+    /// The packet record as it is afterwards, and its index; receiving on an ordered channel touches none.
+    pub record: Option<(usize, Record)>,
+    pub emitted: Emitted,
+}
+
+impl Effect {
+    /// Writes it all and answers the emitted length.
+    pub fn apply(&self, store: &mut [u8], output: &mut [u8]) -> u32 {
+        put_u64(store, header::LAST_HEIGHT, self.height);
+        put_u64(store, header::LAST_TIME, self.time);
+        let (index, end) = &self.end;
+        end.write(&mut store[channel_place(*index)..]);
+        if let Some((index, record)) = &self.record {
+            record.write(&mut store[record_place(*index)..]);
+        }
+        self.emitted.write(output)
+    }
+}

@@ -1,0 +1,207 @@
+//! Random calls from a seed. Fit stores grow by accepted calls and by changes that keep them fit; from each a
+//! number of calls is made, accepted ones and ones aimed at a refusal.
+
+pub mod accept;
+pub mod call;
+pub mod damage;
+pub mod draft;
+pub mod fault;
+pub mod grow;
+pub mod making;
+pub mod malform;
+pub mod rng;
+pub mod shape;
+
+use crate::datagram::ACKNOWLEDGE;
+use crate::places::OUTPUT;
+use crate::refusal::*;
+pub use call::{Call, Origin, Task};
+use draft::Draft;
+use rng::Rng;
+
+/// Calls made from one store before the next one is grown.
+const CALLS_PER_STORE: u32 = 100;
+
+pub struct Generator {
+    rng: Rng,
+    store: Vec<u8>,
+    left: u32,
+}
+
+impl Generator {
+    pub fn new(seed: u64) -> Generator {
+        Generator { rng: Rng::new(seed), store: Vec::new(), left: 0 }
+    }
+
+    pub fn next_call(&mut self) -> Call {
+        if self.left == 0 {
+            self.store = grow::grown(&mut self.rng);
+            self.left = CALLS_PER_STORE;
+        }
+        self.left -= 1;
+        match self.rng.below(100) {
+            0..=24 => self.accepted(),
+            25..=49 => self.with_faults(false),
+            50..=71 => self.with_faults(true),
+            72..=81 => self.damaged(),
+            82..=87 => self.malformed(),
+            88..=90 => self.garbage(),
+            91..=93 => self.flipped(),
+            94..=98 => self.maker(),
+            _ => self.length(),
+        }
+    }
+
+    fn draft(&mut self) -> Option<Draft> {
+        (0..12).find_map(|_| grow::any_accepted(&mut self.rng, &self.store))
+    }
+
+    /// A call made for the answer 0; the store goes on with what it leaves.
+    fn accepted(&mut self) -> Call {
+        if self.rng.one_in(4) {
+            shape::reshape(&mut self.rng, &mut self.store);
+        }
+        let Some(draft) = self.draft() else {
+            self.left = 0;
+            return self.garbage();
+        };
+        let (output, datagram) = (self.output(), draft.encode());
+        crate::handle(&mut self.store, &mut output.clone(), &datagram);
+        let task = Task::Handle { store: draft.store, output, datagram };
+        Call { origin: Origin::Accepted, task, intended: Some(0) }
+    }
+
+    /// A call at which one refusal is aimed, or two.
+    fn with_faults(&mut self, two: bool) -> Call {
+        for _ in 0..20 {
+            let Some(draft) = self.draft() else {
+                break;
+            };
+            let mut numbers = vec![self.fault(&draft)];
+            if two {
+                numbers.push(self.fault(&draft));
+            }
+            if let Some(call) = self.spoiled(draft, numbers) {
+                return call;
+            }
+        }
+        self.garbage()
+    }
+
+    fn fault(&mut self, draft: &Draft) -> u8 {
+        let possible = fault::possible(draft.kind, draft.end().is_ordered());
+        let number = self.rng.index(possible.len() + 3);
+        possible.get(number).copied().unwrap_or_else(|| 1 + (number - possible.len()) as u8)
+    }
+
+    fn spoiled(&mut self, mut draft: Draft, mut numbers: Vec<u8>) -> Option<Call> {
+        numbers.sort_unstable();
+        let (low, high) = (numbers[0], numbers[numbers.len() - 1]);
+        // No counter alone keeps an acknowledge out: see `fault::counter_at_end`.
+        let never_alone = draft.kind == ACKNOWLEDGE && low == COUNTER_AT_END;
+        if never_alone || numbers.len() == 2 && (low == high || fault::exclude_each_other(low, high)) {
+            return None;
+        }
+        let from_table = numbers.iter().rev().filter(|number| **number >= BEFORE_LAST && **number != OTHER_VERDICT);
+        for number in from_table {
+            if !fault::spoil(&mut self.rng, &mut draft, *number) {
+                return None;
+            }
+        }
+        draft.match_verdict();
+        if numbers.contains(&OTHER_VERDICT) {
+            fault::spoil(&mut self.rng, &mut draft, OTHER_VERDICT);
+        }
+        let mut datagram = draft.encode();
+        if numbers.contains(&MALFORMED) {
+            malform::malform(&mut self.rng, &mut datagram);
+        }
+        let output = if numbers.contains(&OUTPUT_SHORT) { self.short_output() } else { self.output() };
+        if numbers.contains(&STORE_NOT_FIT) {
+            damage::damage(&mut self.rng, &mut draft.store);
+        }
+        let also_out_of_order = draft.kind == ACKNOWLEDGE && high == COUNTER_AT_END;
+        let intended = if also_out_of_order { low.min(OUT_OF_ORDER) } else { low };
+        let kind = draft.kind;
+        let origin = if numbers.len() == 2 { Origin::Pair(kind, low, high) } else { Origin::Fault(kind, low) };
+        let task = Task::Handle { store: draft.store, output, datagram };
+        Some(Call { origin, task, intended: Some(intended) })
+    }
+
+    fn damaged(&mut self) -> Call {
+        let mut call = self.accepted();
+        match &mut call.task {
+            Task::Handle { store, .. } if call.origin == Origin::Accepted => {
+                call.origin = Origin::Damaged(damage::damage(&mut self.rng, store));
+                call.intended = Some(STORE_NOT_FIT);
+            }
+            _ => {}
+        }
+        call
+    }
+
+    fn malformed(&mut self) -> Call {
+        let mut call = self.accepted();
+        match &mut call.task {
+            Task::Handle { datagram, .. } if call.origin == Origin::Accepted => {
+                call.origin = Origin::Malformed(malform::malform(&mut self.rng, datagram));
+                call.intended = Some(MALFORMED);
+            }
+            _ => {}
+        }
+        call
+    }
+
+    /// Bytes that nobody made as a datagram, and sometimes bytes that nobody made as a store.
+    fn garbage(&mut self) -> Call {
+        let mut store = self.store.clone();
+        if self.rng.one_in(8) {
+            let length = if self.rng.one_in(2) { self.rng.index(2000) } else { store.len() };
+            store = self.rng.bytes(length);
+        }
+        let length = if self.rng.one_in(8) { 0 } else { self.rng.index(200) };
+        let task = Task::Handle { store, output: self.rng.bytes(length), datagram: malform::garbage(&mut self.rng) };
+        Call { origin: Origin::Garbage, task, intended: None }
+    }
+
+    /// A good call with few bits changed anywhere; what comes of it is not known beforehand.
+    fn flipped(&mut self) -> Call {
+        let mut call = self.accepted();
+        if let Task::Handle { store, datagram, .. } = &mut call.task {
+            let bytes = if datagram.is_empty() || self.rng.one_in(3) { store } else { datagram };
+            for _ in 0..1 + self.rng.index(3) {
+                if !bytes.is_empty() {
+                    let at = self.rng.index(bytes.len());
+                    bytes[at] ^= 1 << self.rng.below(8);
+                }
+            }
+        }
+        Call { origin: Origin::Flipped, intended: None, ..call }
+    }
+
+    fn maker(&mut self) -> Call {
+        let making::Making { store, openings, intended } = making::making(&mut self.rng);
+        Call { origin: Origin::Maker, task: Task::Make { store, openings }, intended: Some(intended) }
+    }
+
+    fn length(&mut self) -> Call {
+        let records = match self.rng.below(3) {
+            0 => self.rng.index(520),
+            1 => self.rng.pick(&[0, 1, 511, 512, 513, usize::MAX, usize::MAX / 64, 1 << 58, (1 << 58) + 1]),
+            _ => self.rng.draw() as usize,
+        };
+        Call { origin: Origin::Length, task: Task::StoreLength(records), intended: None }
+    }
+
+    /// Long enough, sometimes just so, with other bytes in it.
+    fn output(&mut self) -> Vec<u8> {
+        let more = if self.rng.one_in(2) { 0 } else { self.rng.index(60) };
+        self.rng.bytes(OUTPUT + more)
+    }
+
+    fn short_output(&mut self) -> Vec<u8> {
+        let any = self.rng.index(OUTPUT);
+        let length = self.rng.pick(&[0, 74, OUTPUT - 1, any]);
+        self.rng.bytes(length)
+    }
+}

@@ -1,0 +1,160 @@
+//! Drafts of calls that a given fit store accepts.
+
+use super::draft::{Draft, NO_VERDICT};
+use super::rng::Rng;
+use crate::datagram::*;
+use crate::places::CHANNELS;
+use crate::store::*;
+
+/// A call of this kind that the store accepts, or nothing when the dice find none.
+pub fn accepted(rng: &mut Rng, store: &[u8], kind: u16) -> Option<Draft> {
+    let open: Vec<usize> =
+        (0..CHANNELS).filter(|index| channel_at(store, *index).is_some_and(|end| end.is_open())).collect();
+    let index = rng.pick_any(&open)?;
+    let end = channel_at(store, index)?;
+    let mut draft = blank(rng, store, index, kind);
+    match kind {
+        SEND => fill_send(rng, &mut draft, &end)?,
+        RECEIVE => fill_receive(rng, &mut draft, &end)?,
+        WRITE => fill_write(rng, &mut draft, &end)?,
+        _ => fill_finish(rng, &mut draft, &end)?,
+    }
+    draft.match_verdict();
+    Some(draft)
+}
+
+/// A moment that the store admits: the last one again, or a later one.
+pub fn later(rng: &mut Rng, height: u64, time: u64) -> (u64, u64) {
+    let rise = match rng.below(2000) {
+        0 => u64::MAX - 2,
+        1..=400 => 0,
+        401..=1900 => 1 + rng.below(3),
+        _ => rng.below(1000),
+    };
+    let next = height.saturating_add(rise).max(1);
+    if next == height {
+        return (height, time);
+    }
+    let rise = if rng.one_in(3) { 0 } else { rng.below(40) };
+    (next, time.saturating_add(rise))
+}
+
+fn blank(rng: &mut Rng, store: &[u8], index: usize, kind: u16) -> Draft {
+    let (height, time) = later(rng, last_height(store), last_time(store));
+    let needs_connection = matches!(kind, RECEIVE | ACKNOWLEDGE);
+    let connection = u8::from(needs_connection || !rng.one_in(6));
+    let end = Channel::read(&store[channel_place(index)..]);
+    let packet = Packet {
+        sequence: 1,
+        timeout_height: 0,
+        timeout_timestamp: 0,
+        source_port: end.port,
+        source_channel: end.channel,
+        dest_port: end.counterparty_port,
+        dest_channel: end.counterparty_channel,
+        digest: rng.digest(),
+    };
+    Draft {
+        store: store.to_vec(),
+        index,
+        kind,
+        context: Context { height, time, client_height: rng.number(), port: end.port, connection },
+        packet,
+        acknowledgement: rng.digest(),
+        verdict: Verdict { proof_height: rng.number(), proof_time: rng.number(), ..NO_VERDICT },
+        claimed: 0,
+    }
+}
+
+/// A timeout that this moment has not reached, or none; the nearest one comes often.
+fn ahead(rng: &mut Rng, now: u64) -> u64 {
+    if now == u64::MAX || rng.one_in(3) {
+        return 0;
+    }
+    let far = rng.pick(&[1, 2, 8, u64::MAX]);
+    rng.between(now + 1, now.saturating_add(far))
+}
+
+fn fill_send(rng: &mut Rng, draft: &mut Draft, end: &Channel) -> Option<()> {
+    first_free(&draft.store)?;
+    end.next_sequence_send.checked_add(1)?;
+    draft.packet.timeout_height = ahead(rng, draft.context.client_height);
+    draft.packet.timeout_timestamp = if rng.one_in(2) { 0 } else { rng.number() };
+    if draft.packet.timeout_height == 0 {
+        draft.packet.timeout_timestamp = draft.packet.timeout_timestamp.max(1);
+    }
+    Some(())
+}
+
+fn fill_receive(rng: &mut Rng, draft: &mut Draft, end: &Channel) -> Option<()> {
+    let packet = &mut draft.packet;
+    (packet.source_port, packet.dest_port) = (end.counterparty_port, end.port);
+    (packet.source_channel, packet.dest_channel) = (end.counterparty_channel, end.channel);
+    packet.timeout_height = ahead(rng, draft.context.height);
+    packet.timeout_timestamp = ahead(rng, draft.context.time);
+    if end.is_ordered() {
+        end.next_sequence_recv.checked_add(1)?;
+        packet.sequence = end.next_sequence_recv;
+        return Some(());
+    }
+    first_free(&draft.store)?;
+    packet.sequence = rng.number_from_1();
+    (!received(&draft.store, end, packet.sequence)).then_some(())
+}
+
+fn fill_write(rng: &mut Rng, draft: &mut Draft, end: &Channel) -> Option<()> {
+    first_free(&draft.store)?;
+    draft.packet.dest_channel = end.channel;
+    draft.packet.sequence = if end.is_ordered() {
+        rng.between(1, end.next_sequence_recv.checked_sub(1).filter(|last| *last >= 1)?)
+    } else {
+        pick_record(rng, &draft.store, RECEIPT, end.channel)?.1.sequence
+    };
+    draft.acknowledgement = rng.nonzero_digest();
+    let taken = find_record(&draft.store, ACKNOWLEDGEMENT, end.channel, draft.packet.sequence);
+    taken.is_none().then_some(())
+}
+
+/// Acknowledge and time out: both finish a packet whose commitment is there.
+fn fill_finish(rng: &mut Rng, draft: &mut Draft, end: &Channel) -> Option<()> {
+    let record = if end.is_ordered() && draft.kind == ACKNOWLEDGE {
+        record_at(&draft.store, find_record(&draft.store, COMMITMENT, end.channel, end.next_sequence_ack)?)
+    } else {
+        pick_record(rng, &draft.store, COMMITMENT, end.channel)?.1
+    };
+    draft.packet.sequence = record.sequence;
+    draft.packet.timeout_height = record.timeout_height;
+    draft.packet.timeout_timestamp = record.timeout_timestamp;
+    draft.packet.digest = record.digest;
+    draft.claimed = record.sequence;
+    if draft.kind == ACKNOWLEDGE {
+        return Some(());
+    }
+    pass_timeout(rng, &draft.packet, &mut draft.verdict)
+}
+
+/// Lets the proof reach one of the timeouts, or both.
+fn pass_timeout(rng: &mut Rng, packet: &Packet, verdict: &mut Verdict) -> Option<()> {
+    let (height, time) = (packet.timeout_height, packet.timeout_timestamp);
+    let by_height = height != 0 && (time == 0 || rng.one_in(2));
+    let (other, reached) = if by_height { (time, height) } else { (height, time) };
+    if reached == 0 {
+        return None;
+    }
+    let far = rng.pick(&[0, 1, 9, u64::MAX]);
+    let after = rng.between(reached, reached.saturating_add(far));
+    // The other timeout is missed by as little as 1, or not.
+    let beside = if rng.one_in(2) { other.saturating_sub(1) } else { rng.number() };
+    (verdict.proof_height, verdict.proof_time) = if by_height { (after, beside) } else { (beside, after) };
+    Some(())
+}
+
+/// One of the records of that kind on that channel.
+pub fn pick_record(rng: &mut Rng, store: &[u8], kind: u16, channel: u32) -> Option<(usize, Record)> {
+    let count = record_count(store);
+    let start = rng.index(count);
+    (0..count)
+        .map(|step| (start + step) % count)
+        .map(|index| (index, record_at(store, index)))
+        .find(|(_, record)| record.kind == kind && record.channel == channel)
+}

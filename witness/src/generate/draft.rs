@@ -1,0 +1,138 @@
+//! A call in the making: a store and a datagram in parts, so that single parts can be spoiled.
+
+use crate::bytes::*;
+use crate::datagram::*;
+use crate::places::{context, frame, packet, send, verdict, write};
+use crate::store::*;
+
+/// One draft for all five kinds. A send takes timeouts, digest and source channel from the packet; a written
+/// acknowledgement takes sequence and destination channel from it.
+#[derive(Clone, Debug)]
+pub struct Draft {
+    pub store: Vec<u8>,
+    /// The index of the channel record that the call is about.
+    pub index: usize,
+    pub kind: u16,
+    pub context: Context,
+    pub packet: Packet,
+    pub acknowledgement: Digest,
+    pub verdict: Verdict,
+    /// What the verdict of an ordered time-out says the next receive is.
+    pub claimed: u64,
+}
+
+impl Draft {
+    pub fn end(&self) -> Channel {
+        Channel::read(&self.store[channel_place(self.index)..])
+    }
+
+    pub fn set_end(&mut self, end: Channel) {
+        end.write(&mut self.store[channel_place(self.index)..]);
+    }
+
+    /// The number by which the datagram names the channel of this ledger.
+    pub fn own_channel(&mut self) -> &mut u32 {
+        match self.kind {
+            RECEIVE | WRITE => &mut self.packet.dest_channel,
+            _ => &mut self.packet.source_channel,
+        }
+    }
+
+    /// Makes the verdict the needed one for the packet as it is now. Proof height and time stay.
+    pub fn match_verdict(&mut self) {
+        let ordered = self.end().is_ordered();
+        let Verdict { proof_height, proof_time, .. } = self.verdict;
+        self.verdict = needed_verdict(self.kind, ordered, &self.packet, self.acknowledgement, self.claimed);
+        self.verdict.proof_height = proof_height;
+        self.verdict.proof_time = proof_time;
+    }
+
+    pub fn encode(&self) -> Vec<u8> {
+        encode(self.kind, &self.context, &self.packet, self.acknowledgement, &self.verdict)
+    }
+}
+
+/// A verdict with nothing in it.
+pub const NO_VERDICT: Verdict = Verdict {
+    claim: 0,
+    proof_height: 0,
+    proof_time: 0,
+    port: 0,
+    channel: 0,
+    sequence: 0,
+    timeout_height: 0,
+    timeout_timestamp: 0,
+    digest: NO_DIGEST,
+};
+
+/// The verdict that a receive, an acknowledge or a time-out of this packet needs.
+pub fn needed_verdict(kind: u16, ordered: bool, packet: &Packet, acknowledgement: Digest, claimed: u64) -> Verdict {
+    let about_destination =
+        Verdict { port: packet.dest_port, channel: packet.dest_channel, sequence: packet.sequence, ..NO_VERDICT };
+    match kind {
+        RECEIVE => Verdict {
+            claim: COMMITMENT_PRESENT,
+            port: packet.source_port,
+            channel: packet.source_channel,
+            timeout_height: packet.timeout_height,
+            timeout_timestamp: packet.timeout_timestamp,
+            digest: packet.digest,
+            ..about_destination
+        },
+        ACKNOWLEDGE => Verdict { claim: ACKNOWLEDGEMENT_PRESENT, digest: acknowledgement, ..about_destination },
+        _ if ordered => Verdict { claim: NEXT_RECV_EQUALS, sequence: claimed, ..about_destination },
+        _ => Verdict { claim: RECEIPT_ABSENT, ..about_destination },
+    }
+}
+
+pub fn encode(kind: u16, context: &Context, packet: &Packet, acknowledgement: Digest, verdict: &Verdict) -> Vec<u8> {
+    let mut bytes = vec![0; length_of(kind).unwrap_or(frame::BODY)];
+    let length = bytes.len() as u32;
+    put_u32(&mut bytes, frame::LENGTH, length);
+    put_u16(&mut bytes, frame::KIND, kind);
+    write_context(context, &mut bytes[frame::BODY..]);
+    let body = &mut bytes[frame::BODY + context::LENGTH..];
+    match kind {
+        SEND => {
+            put_u32(body, send::CHANNEL, packet.source_channel);
+            put_u64(body, send::TIMEOUT_HEIGHT, packet.timeout_height);
+            put_u64(body, send::TIMEOUT_TIMESTAMP, packet.timeout_timestamp);
+            put(body, send::DIGEST, packet.digest);
+        }
+        WRITE => {
+            put_u32(body, write::CHANNEL, packet.dest_channel);
+            put_u64(body, write::SEQUENCE, packet.sequence);
+            put(body, write::DIGEST, acknowledgement);
+        }
+        ACKNOWLEDGE => {
+            packet.write(body);
+            put(body, packet::LENGTH, acknowledgement);
+            write_verdict(verdict, &mut body[packet::LENGTH + acknowledgement.len()..]);
+        }
+        _ => {
+            packet.write(body);
+            write_verdict(verdict, &mut body[packet::LENGTH..]);
+        }
+    }
+    bytes
+}
+
+fn write_context(context: &Context, bytes: &mut [u8]) {
+    put_u64(bytes, context::HEIGHT, context.height);
+    put_u64(bytes, context::TIME, context.time);
+    put_u64(bytes, context::CLIENT_HEIGHT, context.client_height);
+    put_u16(bytes, context::PORT, context.port);
+    bytes[context::CONNECTION] = context.connection;
+}
+
+fn write_verdict(verdict: &Verdict, bytes: &mut [u8]) {
+    put_u16(bytes, verdict::CLAIM, verdict.claim);
+    put_u64(bytes, verdict::PROOF_HEIGHT, verdict.proof_height);
+    put_u64(bytes, verdict::PROOF_TIME, verdict.proof_time);
+    put_u16(bytes, verdict::PORT, verdict.port);
+    put_u32(bytes, verdict::CHANNEL, verdict.channel);
+    put_u64(bytes, verdict::SEQUENCE, verdict.sequence);
+    put_u64(bytes, verdict::TIMEOUT_HEIGHT, verdict.timeout_height);
+    put_u64(bytes, verdict::TIMEOUT_TIMESTAMP, verdict.timeout_timestamp);
+    put(bytes, verdict::DIGEST, verdict.digest);
+}

@@ -1,0 +1,208 @@
+//! Spoils a call that would be accepted, so that one refusal of the table applies and no lower one begins to.
+
+use super::accept::pick_record;
+use super::draft::Draft;
+use super::rng::Rng;
+use super::shape::{channels, fill, place};
+use crate::bytes::*;
+use crate::datagram::*;
+use crate::places::header;
+use crate::refusal::*;
+use crate::store::*;
+
+/// The refusals from 4 that can be brought about for this kind of call on a channel of this order.
+pub fn possible(kind: u16, ordered: bool) -> &'static [u8] {
+    match (kind, ordered) {
+        (SEND, _) => &[4, 5, 6, 7, 10, 11, 19, 20],
+        (RECEIVE, true) => &[4, 5, 6, 7, 8, 9, 11, 14, 15, 19],
+        (RECEIVE, false) => &[4, 5, 6, 7, 8, 9, 11, 14, 16, 20],
+        (WRITE, _) => &[4, 5, 6, 7, 16, 17, 18, 20],
+        (ACKNOWLEDGE, true) => &[4, 5, 6, 7, 8, 9, 13, 14, 15, 19],
+        (ACKNOWLEDGE, false) => &[4, 5, 6, 7, 8, 9, 13, 14],
+        (_, true) => &[4, 5, 6, 7, 9, 12, 13, 14, 15],
+        (_, false) => &[4, 5, 6, 7, 9, 12, 13, 14],
+    }
+}
+
+/// Two refusals that exclude each other: a send without timeouts has none to pass, and in a fit store only a
+/// received packet is acknowledged.
+pub fn exclude_each_other(one: u8, other: u8) -> bool {
+    matches!((one.min(other), one.max(other)), (NO_TIMEOUT, TIMEOUT_PASSED) | (ALREADY_THERE, NOT_RECEIVED))
+}
+
+/// Brings one refusal about; several are to be brought about from the highest number down. The verdict has to be
+/// matched again before 14 and after all others. False when the dice or the store do not allow it.
+pub fn spoil(rng: &mut Rng, draft: &mut Draft, number: u8) -> bool {
+    match number {
+        BEFORE_LAST => move_last(rng, draft),
+        NO_CHANNEL => {
+            let number = rng.other_u32(*draft.own_channel());
+            *draft.own_channel() = number;
+            return find_channel(&draft.store, number).is_none();
+        }
+        NOT_OPEN => draft.set_end(Channel { state: CLOSED, ..draft.end() }),
+        NOT_OWNER => draft.context.port = rng.other_u16(draft.context.port),
+        CONNECTION_NOT_OPEN => draft.context.connection = 0,
+        WRONG_END => wrong_end(rng, draft),
+        NO_TIMEOUT => (draft.packet.timeout_height, draft.packet.timeout_timestamp) = (0, 0),
+        TIMEOUT_PASSED => return pass(rng, draft),
+        TIMEOUT_NOT_PASSED => not_yet(rng, draft),
+        NO_COMMITMENT => other_commitment(rng, draft),
+        OTHER_VERDICT => other_verdict(rng, draft),
+        OUT_OF_ORDER => return out_of_order(rng, draft),
+        ALREADY_THERE => return already_there(rng, draft),
+        NOT_RECEIVED => return not_received(rng, draft),
+        EMPTY_ACKNOWLEDGEMENT => draft.acknowledgement = NO_DIGEST,
+        COUNTER_AT_END => counter_at_end(draft),
+        _ => return no_free_record(rng, draft),
+    }
+    true
+}
+
+/// The last moment becomes a later one than the call's, or the same height with another time.
+fn move_last(rng: &mut Rng, draft: &mut Draft) {
+    let Context { height, time, .. } = draft.context;
+    let (last_height, last_time) = match rng.below(3) {
+        0 if height < u64::MAX => (height + 1, rng.between(0, time)),
+        1 if time < u64::MAX => (rng.between(0, height), time + 1),
+        _ => (height, if time == 0 { 1 } else { rng.between(0, time - 1) }),
+    };
+    put_u64(&mut draft.store, header::LAST_HEIGHT, last_height);
+    put_u64(&mut draft.store, header::LAST_TIME, last_time);
+}
+
+fn wrong_end(rng: &mut Rng, draft: &mut Draft) {
+    let received = draft.kind == RECEIVE;
+    let packet = &mut draft.packet;
+    match rng.below(3) {
+        0 => packet.source_port = rng.other_u16(packet.source_port),
+        1 => packet.dest_port = rng.other_u16(packet.dest_port),
+        _ if received => packet.source_channel = rng.other_u32(packet.source_channel),
+        _ => packet.dest_channel = rng.other_u32(packet.dest_channel),
+    }
+}
+
+fn pass(rng: &mut Rng, draft: &mut Draft) -> bool {
+    if draft.kind == SEND {
+        draft.context.client_height = draft.context.client_height.max(1);
+        draft.packet.timeout_height = rng.between(1, draft.context.client_height);
+        return true;
+    }
+    if draft.context.time >= 1 && rng.one_in(2) {
+        draft.packet.timeout_timestamp = rng.between(1, draft.context.time);
+    } else {
+        draft.packet.timeout_height = rng.between(1, draft.context.height);
+    }
+    true
+}
+
+/// The proof comes short of both timeouts; where there is no timeout it may be anything.
+fn not_yet(rng: &mut Rng, draft: &mut Draft) {
+    let mut short_of = |timeout: u64| match timeout.checked_sub(1) {
+        Some(before) => rng.between(0, before),
+        None => rng.number(),
+    };
+    draft.verdict.proof_height = short_of(draft.packet.timeout_height);
+    draft.verdict.proof_time = short_of(draft.packet.timeout_timestamp);
+}
+
+/// The commitment goes, or differs from the packet in one value.
+fn other_commitment(rng: &mut Rng, draft: &mut Draft) {
+    let Some(index) = find_record(&draft.store, COMMITMENT, draft.end().channel, draft.packet.sequence) else {
+        return;
+    };
+    let mut record = record_at(&draft.store, index);
+    match rng.below(6) {
+        0 => match other_sender(rng, &draft.store, &record) {
+            Some(channel) => record.channel = channel,
+            None => record = Record::FREE,
+        },
+        1 => record.timeout_height = rng.other_than(record.timeout_height),
+        2 => record.timeout_timestamp = rng.other_than(record.timeout_timestamp),
+        3 => record.digest = rng.other_digest(record.digest),
+        4 => draft.packet.digest = rng.other_digest(record.digest),
+        _ => record = Record::FREE,
+    }
+    record.write(&mut draft.store[record_place(index)..]);
+}
+
+/// Another end that may have sent this packet and has no commitment of that sequence.
+fn other_sender(rng: &mut Rng, store: &[u8], record: &Record) -> Option<u32> {
+    let mut ends = channels(store);
+    ends.retain(|(_, end)| {
+        record.sequence < end.next_sequence_send
+            && find_record(store, COMMITMENT, end.channel, record.sequence).is_none()
+    });
+    Some(rng.pick_any(&ends)?.1.channel)
+}
+
+fn other_verdict(rng: &mut Rng, draft: &mut Draft) {
+    let any_sequence = draft.kind == TIME_OUT && draft.end().is_ordered();
+    let verdict = &mut draft.verdict;
+    match rng.below(7) {
+        0 => verdict.port = rng.other_u16(verdict.port),
+        1 => verdict.channel = rng.other_u32(verdict.channel),
+        2 => verdict.timeout_height = rng.other_than(verdict.timeout_height),
+        3 => verdict.timeout_timestamp = rng.other_than(verdict.timeout_timestamp),
+        4 => verdict.digest = rng.other_digest(verdict.digest),
+        5 if !any_sequence => verdict.sequence = rng.other_than(verdict.sequence),
+        _ => verdict.claim = 1 + (verdict.claim + rng.below(3) as u16) % 4,
+    }
+}
+
+fn out_of_order(rng: &mut Rng, draft: &mut Draft) -> bool {
+    let mut end = draft.end();
+    match draft.kind {
+        RECEIVE => {
+            draft.packet.sequence = rng.other_than(end.next_sequence_recv);
+            draft.packet.sequence != 0
+        }
+        ACKNOWLEDGE => {
+            end.next_sequence_ack = rng.other_than(draft.packet.sequence).max(1);
+            draft.set_end(end);
+            end.next_sequence_ack != draft.packet.sequence
+        }
+        _ => {
+            draft.claimed = rng.other_than(draft.packet.sequence);
+            true
+        }
+    }
+}
+
+fn already_there(rng: &mut Rng, draft: &mut Draft) -> bool {
+    let kind = if draft.kind == RECEIVE { RECEIPT } else { ACKNOWLEDGEMENT };
+    let digest = if kind == RECEIPT { NO_DIGEST } else { rng.digest() };
+    let record = Record { kind, channel: draft.end().channel, sequence: draft.packet.sequence, digest, ..Record::FREE };
+    place(rng, &mut draft.store, &record)
+}
+
+fn not_received(rng: &mut Rng, draft: &mut Draft) -> bool {
+    let end = draft.end();
+    draft.packet.sequence = if end.is_ordered() {
+        rng.between(end.next_sequence_recv, u64::MAX)
+    } else {
+        // Next to a receipt, or anywhere.
+        let near = pick_record(rng, &draft.store, RECEIPT, end.channel).map_or(1, |(_, record)| record.sequence);
+        rng.other_than(near).max(1)
+    };
+    !received(&draft.store, &end, draft.packet.sequence)
+}
+
+/// On an ordered acknowledge the packet is then out of order too, as no commitment reaches the last sequence.
+fn counter_at_end(draft: &mut Draft) {
+    let mut end = draft.end();
+    match draft.kind {
+        SEND => end.next_sequence_send = u64::MAX,
+        RECEIVE => {
+            end.next_sequence_recv = u64::MAX;
+            draft.packet.sequence = u64::MAX;
+        }
+        _ => end.next_sequence_ack = u64::MAX,
+    }
+    draft.set_end(end);
+}
+
+fn no_free_record(rng: &mut Rng, draft: &mut Draft) -> bool {
+    let kept = (draft.end().channel, draft.packet.sequence);
+    fill(rng, &mut draft.store, 0, Some(kept))
+}

@@ -1,0 +1,148 @@
+//! Ways in which a datagram can be malformed, and bytes that are no datagram at all.
+
+// Some ways change the length and some do not; standing in one table, they need one type.
+#![allow(clippy::ptr_arg)]
+
+use super::rng::Rng;
+use crate::bytes::*;
+use crate::datagram::*;
+use crate::places::{context, frame, packet, write};
+
+type Way = fn(&mut Rng, &mut Vec<u8>) -> Option<()>;
+
+/// Each way with its name. A way answers nothing when the datagram has no place for it.
+pub const WAYS: [(&str, Way); 9] = [
+    ("under 6 bytes", under_six),
+    ("length field", length_field),
+    ("kind unknown", kind_unknown),
+    ("length wrong for the kind", wrong_length),
+    ("zero byte", |rng, bytes| flip(rng, bytes, frame::BODY + context::ZEROS, context::LENGTH - context::ZEROS)),
+    ("connection", connection),
+    ("own height 0", |_, bytes| zero(bytes, frame::BODY + context::HEIGHT)),
+    ("sequence 0", sequence_zero),
+    ("claim", claim),
+];
+
+/// Malforms a well-formed datagram in one way and answers its index among the ways.
+pub fn malform(rng: &mut Rng, bytes: &mut Vec<u8>) -> usize {
+    loop {
+        let way = rng.index(WAYS.len());
+        if WAYS[way].1(rng, bytes).is_some() {
+            return way;
+        }
+    }
+}
+
+fn flip(rng: &mut Rng, bytes: &mut [u8], at: usize, count: usize) -> Option<()> {
+    bytes[at + rng.index(count)] ^= 1 << rng.below(8);
+    Some(())
+}
+
+fn under_six(rng: &mut Rng, bytes: &mut Vec<u8>) -> Option<()> {
+    bytes.truncate(rng.index(6));
+    // The shortest ones can still tell their own length.
+    if bytes.len() >= 4 && rng.one_in(2) {
+        say_length(bytes);
+    }
+    Some(())
+}
+
+fn say_length(bytes: &mut [u8]) {
+    put_u32(bytes, frame::LENGTH, bytes.len() as u32);
+}
+
+/// The field is wrong, or the slice is longer or shorter than it says.
+fn length_field(rng: &mut Rng, bytes: &mut Vec<u8>) -> Option<()> {
+    match rng.below(3) {
+        0 => flip(rng, bytes, frame::LENGTH, 4),
+        1 => {
+            let length = bytes.len() + 1 + rng.index(40);
+            bytes.resize(length, 0);
+            Some(())
+        }
+        _ => {
+            bytes.truncate(6 + rng.index(bytes.len() - 6));
+            Some(())
+        }
+    }
+}
+
+/// Kinds of other records, high bytes that a careless reader drops, neighbours.
+fn kind_unknown(rng: &mut Rng, bytes: &mut Vec<u8>) -> Option<()> {
+    let kind = get_u16(bytes, frame::KIND);
+    let unknown = rng.pick(&[0, 6, 7, 0x0010, 0x0020, 0x0101, 0x0401, 0xffff, kind | 0x0100, kind | 0x8000]);
+    put_u16(bytes, frame::KIND, unknown);
+    Some(())
+}
+
+/// Slice and field agree on a length that the kind does not have, or the kind is that of a longer or shorter one.
+fn wrong_length(rng: &mut Rng, bytes: &mut Vec<u8>) -> Option<()> {
+    let kind = get_u16(bytes, frame::KIND);
+    match rng.below(3) {
+        0 => bytes.truncate(6 + rng.index(bytes.len() - 6)),
+        1 => {
+            let length = bytes.len() + 1 + rng.index(140);
+            bytes.resize(length, 0);
+        }
+        _ => {
+            let other = rng.pick(&[SEND, RECEIVE, WRITE, ACKNOWLEDGE, TIME_OUT]);
+            if length_of(other) == length_of(kind) {
+                return None;
+            }
+            put_u16(bytes, frame::KIND, other);
+            return Some(());
+        }
+    }
+    say_length(bytes);
+    (length_of(kind) != Some(bytes.len())).then_some(())
+}
+
+fn connection(rng: &mut Rng, bytes: &mut Vec<u8>) -> Option<()> {
+    bytes[frame::BODY + context::CONNECTION] = rng.pick(&[2, 3, 0x10, 0x80, 0xff]);
+    Some(())
+}
+
+fn zero(bytes: &mut [u8], at: usize) -> Option<()> {
+    put_u64(bytes, at, 0);
+    Some(())
+}
+
+fn sequence_zero(_: &mut Rng, bytes: &mut Vec<u8>) -> Option<()> {
+    let body = frame::BODY + context::LENGTH;
+    match get_u16(bytes, frame::KIND) {
+        SEND => None,
+        WRITE => zero(bytes, body + write::SEQUENCE),
+        _ => zero(bytes, body + packet::SEQUENCE),
+    }
+}
+
+fn claim(rng: &mut Rng, bytes: &mut Vec<u8>) -> Option<()> {
+    let body = frame::BODY + context::LENGTH;
+    let at = match get_u16(bytes, frame::KIND) {
+        RECEIVE | TIME_OUT => body + packet::LENGTH,
+        ACKNOWLEDGE => body + packet::LENGTH + 32,
+        _ => return None,
+    };
+    put_u16(bytes, at, rng.pick(&[0, 5, 0x0100, 0x0101, 0x0102, 0x0203, 0x8004, 0xffff]));
+    Some(())
+}
+
+/// Bytes that nobody made as a datagram; some have a good frame, and those may even be well formed.
+pub fn garbage(rng: &mut Rng) -> Vec<u8> {
+    let kind = 1 + rng.below(6) as u16;
+    let length = match (rng.below(3), length_of(kind)) {
+        (0, _) => rng.index(300),
+        (1, _) => rng.index(12),
+        (_, length) => length.unwrap_or(90),
+    };
+    let mut bytes = rng.bytes(length);
+    if length >= frame::BODY && !rng.one_in(3) {
+        say_length(&mut bytes);
+        put_u16(&mut bytes, frame::KIND, kind);
+    }
+    if length >= frame::BODY + context::LENGTH && !rng.one_in(3) {
+        bytes[frame::BODY + context::CONNECTION] = rng.below(2) as u8;
+        bytes[frame::BODY + context::ZEROS..frame::BODY + context::LENGTH].fill(0);
+    }
+    bytes
+}

@@ -1,0 +1,134 @@
+//! Changes that keep a store fit: records put in, and states that no short run of calls would reach.
+
+use super::accept::pick_record;
+use super::rng::Rng;
+use crate::bytes::*;
+use crate::places::{header, CHANNELS, RECORD};
+use crate::store::*;
+
+/// The channel records in use.
+pub fn channels(store: &[u8]) -> Vec<(usize, Channel)> {
+    (0..CHANNELS).filter_map(|index| Some((index, channel_at(store, index)?))).collect()
+}
+
+/// Puts a record into a free place, or else over a commitment, which nothing in a fit store leans on.
+pub fn place(rng: &mut Rng, store: &mut [u8], record: &Record) -> bool {
+    let index = first_free(store).or_else(|| {
+        let ends = channels(store);
+        let (_, end) = rng.pick_any(&ends)?;
+        Some(pick_record(rng, store, COMMITMENT, end.channel)?.0)
+    });
+    let Some(index) = index else {
+        return false;
+    };
+    record.write(&mut store[record_place(index)..]);
+    true
+}
+
+/// Fills free records until `left` are free, never with a receipt or acknowledgement of the packet to keep.
+pub fn fill(rng: &mut Rng, store: &mut [u8], left: usize, keep: Option<(u32, u64)>) -> bool {
+    let free: Vec<usize> = (0..record_count(store)).filter(|index| record_at(store, *index) == Record::FREE).collect();
+    let ends = channels(store);
+    for index in free.iter().skip(left) {
+        let made = (0..20).find_map(|_| {
+            let (at, _) = rng.pick_any(&ends)?;
+            some_record(rng, store, at).filter(|record| {
+                let kept = record.kind != COMMITMENT && keep == Some((record.channel, record.sequence));
+                !kept && find_record(store, record.kind, record.channel, record.sequence).is_none()
+            })
+        });
+        let Some(record) = made else {
+            return false;
+        };
+        record.write(&mut store[record_place(*index)..]);
+    }
+    true
+}
+
+/// A record that the end at this index may have; next send rises for a commitment when it has to.
+fn some_record(rng: &mut Rng, store: &mut [u8], at: usize) -> Option<Record> {
+    let mut end = channel_at(store, at)?;
+    let blank = Record { channel: end.channel, ..Record::FREE };
+    match rng.below(4) {
+        0 if !end.is_ordered() => Some(Record { kind: RECEIPT, sequence: rng.number_from_1(), ..blank }),
+        1 => {
+            let sequence = if end.is_ordered() {
+                rng.between(1, end.next_sequence_recv.checked_sub(1).filter(|last| *last >= 1)?)
+            } else {
+                pick_record(rng, store, RECEIPT, end.channel)?.1.sequence
+            };
+            Some(Record { kind: ACKNOWLEDGEMENT, sequence, digest: rng.digest(), ..blank })
+        }
+        _ => {
+            let sequence =
+                if rng.one_in(2) { end.next_sequence_send } else { rng.below(end.next_sequence_send).max(1) };
+            end.next_sequence_send = end.next_sequence_send.max(sequence.checked_add(1)?);
+            end.write(&mut store[channel_place(at)..]);
+            let (timeout_height, timeout_timestamp) = (rng.number(), rng.number());
+            let digest = rng.digest();
+            Some(Record { kind: COMMITMENT, sequence, timeout_height, timeout_timestamp, digest, ..blank })
+        }
+    }
+}
+
+/// One random change after which a fit store is still fit.
+pub fn reshape(rng: &mut Rng, store: &mut [u8]) {
+    match rng.below(10) {
+        0 => swap_records(store, channel_place(rng.index(CHANNELS)), channel_place(rng.index(CHANNELS))),
+        1 | 2 => {
+            let count = record_count(store);
+            swap_records(store, record_place(rng.index(count)), record_place(rng.index(count)));
+        }
+        3 => {
+            put_u64(store, header::LAST_HEIGHT, rng.number());
+            put_u64(store, header::LAST_TIME, rng.number());
+        }
+        4 => {
+            let left = rng.index(3);
+            fill(rng, store, left, None);
+        }
+        5 => plain_record(rng, store),
+        _ => other_counters(rng, store),
+    }
+}
+
+fn swap_records(store: &mut [u8], one: usize, other: usize) {
+    let kept: [u8; RECORD] = get(store, one);
+    store.copy_within(other..other + RECORD, one);
+    put(store, other, kept);
+}
+
+/// An acknowledgement or commitment with as much zero in it as a fit store allows, or a freed commitment.
+fn plain_record(rng: &mut Rng, store: &mut [u8]) {
+    let index = rng.index(record_count(store));
+    let mut record = record_at(store, index);
+    match (record.kind, rng.below(3)) {
+        (COMMITMENT, 0) => record = Record::FREE,
+        (COMMITMENT, 1) => (record.timeout_height, record.timeout_timestamp) = (0, 0),
+        (COMMITMENT | ACKNOWLEDGEMENT, _) => record.digest = NO_DIGEST,
+        _ => {}
+    }
+    record.write(&mut store[record_place(index)..]);
+}
+
+/// Counters rise; next acknowledge, and next receive of an unordered end, may be anything from 1.
+fn other_counters(rng: &mut Rng, store: &mut [u8]) {
+    let ends = channels(store);
+    let Some((index, mut end)) = rng.pick_any(&ends) else {
+        return;
+    };
+    match rng.below(8) {
+        0 => end.state = rng.pick(&[OPEN, CLOSED]),
+        1 => end.next_sequence_send = rng.between(end.next_sequence_send, u64::MAX),
+        2 => end.next_sequence_recv = rng.between(end.next_sequence_recv, u64::MAX),
+        3 | 4 => end.next_sequence_recv = end.next_sequence_recv.max(rng.below(9)),
+        5 if !end.is_ordered() => end.next_sequence_recv = rng.number_from_1(),
+        6 => end.next_sequence_ack = rng.number_from_1(),
+        _ => {
+            // So that an ordered acknowledge finds its commitment.
+            let found = pick_record(rng, store, COMMITMENT, end.channel);
+            end.next_sequence_ack = found.map_or(end.next_sequence_ack, |(_, record)| record.sequence);
+        }
+    }
+    end.write(&mut store[channel_place(index)..]);
+}

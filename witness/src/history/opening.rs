@@ -1,0 +1,55 @@
+//! Two fresh stores with paired ends, and some ends that are not paired.
+
+use std::collections::BTreeMap;
+
+use crate::bytes::*;
+use crate::generate::rng::Rng;
+use crate::places::{frame, opening, OPENING_KIND};
+use crate::store::{store_length, ORDERED, UNORDERED};
+
+/// Ends by ledger and channel, and whether they are ordered.
+pub type Paired = BTreeMap<(usize, u32), bool>;
+
+/// The two stores, and the ends that are paired.
+pub fn two_stores(rng: &mut Rng) -> ([Vec<u8>; 2], Paired) {
+    let mut lists = [Vec::new(), Vec::new()];
+    let mut paired = Paired::new();
+    for number in 0..1 + rng.below(3) as u32 {
+        let (one, other) = (10 + number, 20 + rng.below(2) as u32 * 50 + number);
+        let ports = [rng.below(3) as u16, rng.below(3) as u16];
+        let order = rng.pick(&[ORDERED, UNORDERED]);
+        lists[0].extend(one_opening(ports[0], one, ports[1], other, order));
+        lists[1].extend(one_opening(ports[1], other, ports[0], one, order));
+        paired.extend([((0, one), order == ORDERED), ((1, other), order == ORDERED)]);
+        if rng.one_in(3) {
+            // A second end that names this one, which does not name it.
+            let ledger = rng.index(2);
+            let named = if ledger == 0 { (ports[1], other) } else { (ports[0], one) };
+            lists[ledger].extend(one_opening(ports[ledger], 90 + number, named.0, named.1, order));
+        }
+    }
+    if rng.one_in(3) {
+        // Two that name each other and do not agree on the order.
+        lists[0].extend(one_opening(1, 80, 2, 81, ORDERED));
+        lists[1].extend(one_opening(2, 81, 1, 80, UNORDERED));
+    }
+    (lists.map(|list| made(rng, &list)), paired)
+}
+
+fn made(rng: &mut Rng, openings: &[u8]) -> Vec<u8> {
+    let mut store = vec![0; store_length(4 + rng.index(60))];
+    assert_eq!(crate::make_store(&mut store, openings), 0);
+    store
+}
+
+fn one_opening(port: u16, channel: u32, other_port: u16, other_channel: u32, order: u8) -> [u8; opening::LENGTH] {
+    let mut bytes = [0; opening::LENGTH];
+    put_u32(&mut bytes, frame::LENGTH, opening::LENGTH as u32);
+    put_u16(&mut bytes, frame::KIND, OPENING_KIND);
+    put_u16(&mut bytes, opening::PORT, port);
+    put_u32(&mut bytes, opening::CHANNEL, channel);
+    put_u16(&mut bytes, opening::COUNTERPARTY_PORT, other_port);
+    put_u32(&mut bytes, opening::COUNTERPARTY_CHANNEL, other_channel);
+    bytes[opening::ORDER] = order;
+    bytes
+}

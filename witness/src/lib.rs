@@ -1,0 +1,39 @@
+//! A second, independent implementation of the packet handler's rules, for comparison.
+//!
+//! It is written from the rules alone, in the most direct way: read the values, ask each refusal in rising
+//! order, decide the whole effect, write it. The other modules make calls, hold two implementations against
+//! each other and check whole histories of two ledgers by counting.
+
+pub mod bytes;
+pub mod compare;
+pub mod coverage;
+pub mod datagram;
+pub mod effect;
+pub mod fit;
+pub mod generate;
+pub mod history;
+pub mod maker;
+pub mod places;
+pub mod refusal;
+#[cfg(feature = "route")]
+pub mod route;
+pub mod rules;
+pub mod store;
+pub mod subject;
+pub mod workload;
+
+#[cfg(test)]
+mod shim;
+#[cfg(test)]
+mod tests;
+
+pub use maker::make_store;
+pub use store::store_length;
+
+/// Handles one datagram: the answer and the emitted length. A refusal changes no byte.
+pub fn handle(store: &mut [u8], output: &mut [u8], datagram: &[u8]) -> (u8, u32) {
+    match rules::decide(store, output.len(), datagram) {
+        Ok(effect) => (0, effect.apply(store, output)),
+        Err(number) => (number, 0),
+    }
+}

@@ -1,0 +1,117 @@
+//! Where each value stands, in bytes, and how many of each there can be.
+
+/// Bytes of the store's header, and of each channel and packet record behind it.
+pub const HEADER: usize = 64;
+pub const RECORD: usize = 64;
+/// Every store has this many channel records and at most this many packet records.
+pub const CHANNELS: usize = 16;
+pub const MAX_RECORDS: usize = 512;
+/// Where the packet records begin: 1,088.
+pub const PACKET_RECORDS: usize = HEADER + CHANNELS * RECORD;
+/// The longest emission; a shorter output buffer is refused whatever would be emitted.
+pub const OUTPUT: usize = 106;
+
+pub const STORE_KIND: u16 = 0x0401;
+pub const CHANNEL_KIND: u16 = 1;
+pub const OPENING_KIND: u16 = 0x0010;
+
+/// Every framed record starts with its whole length and its kind.
+pub mod frame {
+    pub const LENGTH: usize = 0;
+    pub const KIND: usize = 4;
+    pub const BODY: usize = 6;
+}
+
+pub mod header {
+    pub const CHANNEL_COUNT: usize = 6;
+    pub const LAST_HEIGHT: usize = 8;
+    pub const LAST_TIME: usize = 16;
+    pub const RECORD_COUNT: usize = 24;
+    pub const ZEROS: usize = 28;
+}
+
+pub mod channel {
+    pub const KIND: usize = 0;
+    pub const STATE: usize = 2;
+    pub const ORDER: usize = 3;
+    pub const CHANNEL: usize = 4;
+    pub const PORT: usize = 8;
+    pub const COUNTERPARTY_PORT: usize = 10;
+    pub const COUNTERPARTY_CHANNEL: usize = 12;
+    pub const NEXT_SEND: usize = 16;
+    pub const NEXT_RECV: usize = 24;
+    pub const NEXT_ACK: usize = 32;
+    pub const ZEROS: usize = 40;
+}
+
+pub mod record {
+    pub const KIND: usize = 0;
+    pub const ZEROS: usize = 2;
+    pub const CHANNEL: usize = 4;
+    pub const SEQUENCE: usize = 8;
+    pub const TIMEOUT_HEIGHT: usize = 16;
+    pub const TIMEOUT_TIMESTAMP: usize = 24;
+    pub const DIGEST: usize = 32;
+}
+
+pub mod context {
+    pub const LENGTH: usize = 32;
+    pub const HEIGHT: usize = 0;
+    pub const TIME: usize = 8;
+    pub const CLIENT_HEIGHT: usize = 16;
+    pub const PORT: usize = 24;
+    pub const CONNECTION: usize = 26;
+    pub const ZEROS: usize = 27;
+}
+
+pub mod packet {
+    pub const LENGTH: usize = 68;
+    pub const SEQUENCE: usize = 0;
+    pub const TIMEOUT_HEIGHT: usize = 8;
+    pub const TIMEOUT_TIMESTAMP: usize = 16;
+    pub const SOURCE_PORT: usize = 24;
+    pub const SOURCE_CHANNEL: usize = 26;
+    pub const DEST_PORT: usize = 30;
+    pub const DEST_CHANNEL: usize = 32;
+    pub const DIGEST: usize = 36;
+}
+
+pub mod verdict {
+    pub const LENGTH: usize = 80;
+    pub const CLAIM: usize = 0;
+    pub const PROOF_HEIGHT: usize = 2;
+    pub const PROOF_TIME: usize = 10;
+    pub const PORT: usize = 18;
+    pub const CHANNEL: usize = 20;
+    pub const SEQUENCE: usize = 24;
+    pub const TIMEOUT_HEIGHT: usize = 32;
+    pub const TIMEOUT_TIMESTAMP: usize = 40;
+    pub const DIGEST: usize = 48;
+}
+
+/// What stands behind the context of a send, counted from the context's end.
+pub mod send {
+    pub const CHANNEL: usize = 0;
+    pub const TIMEOUT_HEIGHT: usize = 4;
+    pub const TIMEOUT_TIMESTAMP: usize = 12;
+    pub const DIGEST: usize = 20;
+    pub const LENGTH: usize = 52;
+}
+
+/// What stands behind the context of a written acknowledgement.
+pub mod write {
+    pub const CHANNEL: usize = 0;
+    pub const SEQUENCE: usize = 4;
+    pub const DIGEST: usize = 12;
+    pub const LENGTH: usize = 44;
+}
+
+pub mod opening {
+    pub const LENGTH: usize = 20;
+    pub const PORT: usize = 6;
+    pub const CHANNEL: usize = 8;
+    pub const COUNTERPARTY_PORT: usize = 12;
+    pub const COUNTERPARTY_CHANNEL: usize = 14;
+    pub const ORDER: usize = 18;
+    pub const ZERO: usize = 19;
+}

@@ -1,0 +1,201 @@
+//! The five handlers. Each asks its row of refusals in rising order and answers the effect of the acceptance.
+
+use crate::bytes::*;
+use crate::datagram::*;
+use crate::effect::{Effect, Emitted};
+use crate::fit::fit;
+use crate::places::OUTPUT;
+use crate::refusal::*;
+use crate::store::*;
+
+/// Decides a call without changing anything: its effect, or the number of its refusal.
+pub fn decide(store: &[u8], output_length: usize, bytes: &[u8]) -> Result<Effect, u8> {
+    refuse_if(!fit(store), STORE_NOT_FIT)?;
+    refuse_if(output_length < OUTPUT, OUTPUT_SHORT)?;
+    let Datagram { context, body } = read(bytes).ok_or(MALFORMED)?;
+    match body {
+        Body::Send { channel, timeout_height, timeout_timestamp, digest } => {
+            let call = Call::enter(store, context, channel)?;
+            call.send(timeout_height, timeout_timestamp, digest)
+        }
+        Body::Receive { packet, verdict } => Call::enter(store, context, packet.dest_channel)?.receive(packet, verdict),
+        Body::Write { channel, sequence, digest } => Call::enter(store, context, channel)?.write(sequence, digest),
+        Body::Acknowledge { packet, acknowledgement, verdict } => {
+            Call::enter(store, context, packet.source_channel)?.acknowledge(packet, acknowledgement, verdict)
+        }
+        Body::TimeOut { packet, verdict } => {
+            Call::enter(store, context, packet.source_channel)?.time_out(packet, verdict)
+        }
+    }
+}
+
+/// A call that has found its channel: what all five handlers work on.
+struct Call<'a> {
+    store: &'a [u8],
+    context: Context,
+    index: usize,
+    end: Channel,
+}
+
+impl Call<'_> {
+    /// The refusals 4 to 7, which every datagram can get.
+    fn enter(store: &[u8], context: Context, channel: u32) -> Result<Call<'_>, u8> {
+        let (height, time) = (last_height(store), last_time(store));
+        let before = context.height < height || context.time < time;
+        refuse_if(before || context.height == height && context.time != time, BEFORE_LAST)?;
+        let (index, end) = find_channel(store, channel).ok_or(NO_CHANNEL)?;
+        refuse_if(!end.is_open(), NOT_OPEN)?;
+        refuse_if(context.port != end.port, NOT_OWNER)?;
+        Ok(Call { store, context, index, end })
+    }
+
+    fn send(&self, timeout_height: u64, timeout_timestamp: u64, digest: Digest) -> Result<Effect, u8> {
+        refuse_if(timeout_height == 0 && timeout_timestamp == 0, NO_TIMEOUT)?;
+        // Only the height is asked: the context tells the sender no time of the other ledger.
+        refuse_if(reached(self.context.client_height, timeout_height), TIMEOUT_PASSED)?;
+        let sequence = self.end.next_sequence_send;
+        let mut end = self.end;
+        end.next_sequence_send = raised(sequence)?;
+        let free = first_free(self.store).ok_or(NO_FREE_RECORD)?;
+        let record =
+            Record { kind: COMMITMENT, channel: end.channel, sequence, timeout_height, timeout_timestamp, digest };
+        let packet = Packet {
+            sequence,
+            timeout_height,
+            timeout_timestamp,
+            source_port: end.port,
+            source_channel: end.channel,
+            dest_port: end.counterparty_port,
+            dest_channel: end.counterparty_channel,
+            digest,
+        };
+        Ok(self.effect(end, Some((free, record)), Emitted::Sent(packet)))
+    }
+
+    fn receive(&self, packet: Packet, verdict: Verdict) -> Result<Effect, u8> {
+        let mut end = self.end;
+        refuse_if(self.context.connection != 1, CONNECTION_NOT_OPEN)?;
+        let fits = packet.dest_port == end.port
+            && packet.source_port == end.counterparty_port
+            && packet.source_channel == end.counterparty_channel;
+        refuse_if(!fits, WRONG_END)?;
+        let passed =
+            reached(self.context.height, packet.timeout_height) || reached(self.context.time, packet.timeout_timestamp);
+        refuse_if(passed, TIMEOUT_PASSED)?;
+        refuse_if(!shows_commitment(&verdict, &packet), OTHER_VERDICT)?;
+        if end.is_ordered() {
+            refuse_if(packet.sequence != end.next_sequence_recv, OUT_OF_ORDER)?;
+            end.next_sequence_recv = raised(end.next_sequence_recv)?;
+            return Ok(self.effect(end, None, Emitted::Delivered(packet)));
+        }
+        refuse_if(received(self.store, &end, packet.sequence), ALREADY_THERE)?;
+        let free = first_free(self.store).ok_or(NO_FREE_RECORD)?;
+        let receipt = Record { kind: RECEIPT, channel: end.channel, sequence: packet.sequence, ..Record::FREE };
+        Ok(self.effect(end, Some((free, receipt)), Emitted::Delivered(packet)))
+    }
+
+    fn write(&self, sequence: u64, digest: Digest) -> Result<Effect, u8> {
+        let end = self.end;
+        refuse_if(find_record(self.store, ACKNOWLEDGEMENT, end.channel, sequence).is_some(), ALREADY_THERE)?;
+        refuse_if(!received(self.store, &end, sequence), NOT_RECEIVED)?;
+        refuse_if(digest == NO_DIGEST, EMPTY_ACKNOWLEDGEMENT)?;
+        let free = first_free(self.store).ok_or(NO_FREE_RECORD)?;
+        let record = Record { kind: ACKNOWLEDGEMENT, channel: end.channel, sequence, digest, ..Record::FREE };
+        let emitted = Emitted::Written { port: end.port, channel: end.channel, sequence, digest };
+        Ok(self.effect(end, Some((free, record)), emitted))
+    }
+
+    fn acknowledge(&self, packet: Packet, acknowledgement: Digest, verdict: Verdict) -> Result<Effect, u8> {
+        let mut end = self.end;
+        refuse_if(self.context.connection != 1, CONNECTION_NOT_OPEN)?;
+        refuse_if(!self.sent_here(&packet), WRONG_END)?;
+        let place = self.commitment(&packet).ok_or(NO_COMMITMENT)?;
+        refuse_if(!shows_acknowledgement(&verdict, &packet, &acknowledgement), OTHER_VERDICT)?;
+        if end.is_ordered() {
+            refuse_if(packet.sequence != end.next_sequence_ack, OUT_OF_ORDER)?;
+            end.next_sequence_ack = raised(end.next_sequence_ack)?;
+        }
+        Ok(self.effect(end, Some((place, Record::FREE)), Emitted::Acknowledged { packet, acknowledgement }))
+    }
+
+    fn time_out(&self, packet: Packet, verdict: Verdict) -> Result<Effect, u8> {
+        let mut end = self.end;
+        refuse_if(!self.sent_here(&packet), WRONG_END)?;
+        let passed = reached(verdict.proof_height, packet.timeout_height)
+            || reached(verdict.proof_time, packet.timeout_timestamp);
+        refuse_if(!passed, TIMEOUT_NOT_PASSED)?;
+        let place = self.commitment(&packet).ok_or(NO_COMMITMENT)?;
+        refuse_if(!shows_not_received(&verdict, &packet, end.is_ordered()), OTHER_VERDICT)?;
+        if end.is_ordered() {
+            refuse_if(packet.sequence != verdict.sequence, OUT_OF_ORDER)?;
+            end.state = CLOSED;
+        }
+        Ok(self.effect(end, Some((place, Record::FREE)), Emitted::TimedOut(packet)))
+    }
+
+    /// At the sender the source is this end and the destination its counterparty.
+    fn sent_here(&self, packet: &Packet) -> bool {
+        packet.source_port == self.end.port
+            && packet.dest_port == self.end.counterparty_port
+            && packet.dest_channel == self.end.counterparty_channel
+    }
+
+    /// The index of the commitment with the packet's sequence, if its timeouts and digest are the packet's too.
+    fn commitment(&self, packet: &Packet) -> Option<usize> {
+        let index = find_record(self.store, COMMITMENT, self.end.channel, packet.sequence)?;
+        let record = record_at(self.store, index);
+        let same = record.timeout_height == packet.timeout_height
+            && record.timeout_timestamp == packet.timeout_timestamp
+            && record.digest == packet.digest;
+        same.then_some(index)
+    }
+
+    fn effect(&self, end: Channel, record: Option<(usize, Record)>, emitted: Emitted) -> Effect {
+        let Context { height, time, .. } = self.context;
+        Effect { height, time, end: (self.index, end), record, emitted }
+    }
+}
+
+/// A timeout of 0 is none; any other is passed from the moment that equals it.
+fn reached(now: u64, timeout: u64) -> bool {
+    timeout != 0 && now >= timeout
+}
+
+fn raised(counter: u64) -> Result<u64, u8> {
+    counter.checked_add(1).ok_or(COUNTER_AT_END)
+}
+
+fn shows_commitment(verdict: &Verdict, packet: &Packet) -> bool {
+    verdict.claim == COMMITMENT_PRESENT
+        && verdict.port == packet.source_port
+        && verdict.channel == packet.source_channel
+        && verdict.sequence == packet.sequence
+        && verdict.timeout_height == packet.timeout_height
+        && verdict.timeout_timestamp == packet.timeout_timestamp
+        && verdict.digest == packet.digest
+}
+
+/// The two other verdicts are about the destination and carry no timeouts.
+fn about_destination(verdict: &Verdict, packet: &Packet) -> bool {
+    verdict.port == packet.dest_port
+        && verdict.channel == packet.dest_channel
+        && verdict.timeout_height == 0
+        && verdict.timeout_timestamp == 0
+}
+
+fn shows_acknowledgement(verdict: &Verdict, packet: &Packet, acknowledgement: &Digest) -> bool {
+    verdict.claim == ACKNOWLEDGEMENT_PRESENT
+        && about_destination(verdict, packet)
+        && verdict.sequence == packet.sequence
+        && verdict.digest == *acknowledgement
+}
+
+/// On an ordered channel any sequence will do here: whether it is the packet's is a matter of order.
+fn shows_not_received(verdict: &Verdict, packet: &Packet, ordered: bool) -> bool {
+    let claimed = if ordered {
+        verdict.claim == NEXT_RECV_EQUALS
+    } else {
+        verdict.claim == RECEIPT_ABSENT && verdict.sequence == packet.sequence
+    };
+    claimed && about_destination(verdict, packet) && verdict.digest == NO_DIGEST
+}

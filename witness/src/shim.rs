@@ -1,0 +1,169 @@
+//! The witness behind the C signatures, right and deliberately wrong, to test the comparison with.
+
+use std::slice::{from_raw_parts, from_raw_parts_mut};
+
+use crate::bytes::*;
+use crate::datagram::{self, Body, ACKNOWLEDGE, RECEIVE};
+use crate::places::{frame, header, PACKET_RECORDS};
+use crate::store::*;
+use crate::subject::{Handle, Subject};
+
+pub const RIGHT: Subject = with(right);
+
+/// Handlers that each break one rule.
+pub const WRONG: [(&str, Handle); 8] = [
+    ("refuses always", refuses_always),
+    ("accepts and stores nothing", stores_nothing),
+    ("delivers without a receipt", WITHOUT_RECEIPT),
+    ("frees every commitment at an acknowledgement", FREES_ALL),
+    ("receives at the very timeout", AT_TIMEOUT),
+    ("gives 7 before 6", seven_before_six),
+    ("changes the last height on refusal 20", changes_on_refusal),
+    ("writes behind the output", writes_behind),
+];
+
+pub const WITHOUT_RECEIPT: Handle = without_receipt;
+pub const FREES_ALL: Handle = frees_all;
+pub const AT_TIMEOUT: Handle = at_timeout;
+
+pub const fn with(handle: Handle) -> Subject {
+    Subject { handle, make_store, store_length }
+}
+
+unsafe extern "C" fn make_store(store: *mut u8, store_len: usize, openings: *const u8, openings_len: usize) -> u8 {
+    crate::make_store(from_raw_parts_mut(store, store_len), from_raw_parts(openings, openings_len))
+}
+
+unsafe extern "C" fn store_length(records: usize) -> usize {
+    crate::store_length(records)
+}
+
+/// Wraps a function on slices in the C signature.
+macro_rules! behind_c {
+    ($name:ident, $inner:expr) => {
+        unsafe extern "C" fn $name(
+            store: *mut u8,
+            store_len: usize,
+            output: *mut u8,
+            output_len: usize,
+            datagram: *const u8,
+            datagram_len: usize,
+            size: *mut u32,
+        ) -> u8 {
+            let inner: fn(&mut [u8], &mut [u8], &[u8]) -> (u8, u32) = $inner;
+            let store = from_raw_parts_mut(store, store_len);
+            let output = from_raw_parts_mut(output, output_len);
+            let (number, length) = inner(store, output, from_raw_parts(datagram, datagram_len));
+            *size = length;
+            number
+        }
+    };
+}
+
+behind_c!(right, crate::handle);
+
+behind_c!(refuses_always, |store, output, datagram| match crate::handle(
+    &mut store.to_vec(),
+    &mut output.to_vec(),
+    datagram
+) {
+    (0, _) => (NO_REASON, 0),
+    refusal => refusal,
+});
+
+const NO_REASON: u8 = 20;
+
+behind_c!(stores_nothing, |store, output, datagram| crate::handle(&mut store.to_vec(), output, datagram));
+
+behind_c!(without_receipt, |store, output, datagram| {
+    let before = store.to_vec();
+    let answer = crate::handle(store, output, datagram);
+    if answer.0 == 0 && kind_of(datagram) == RECEIVE {
+        store[PACKET_RECORDS..].copy_from_slice(&before[PACKET_RECORDS..]);
+    }
+    answer
+});
+
+behind_c!(frees_all, |store, output, datagram| {
+    let answer = crate::handle(store, output, datagram);
+    if answer.0 == 0 && kind_of(datagram) == ACKNOWLEDGE {
+        let commitments = (0..record_count(store)).filter(|index| record_at(store, *index).kind == COMMITMENT);
+        for index in commitments.collect::<Vec<_>>() {
+            Record::FREE.write(&mut store[record_place(index)..]);
+        }
+    }
+    answer
+});
+
+// Takes the moment that equals the timeout for one before it, and then handles the packet as if it had none.
+behind_c!(at_timeout, |store, output, datagram| {
+    let answer = crate::handle(store, output, datagram);
+    let Some(read) = datagram::read(datagram).filter(|_| answer.0 == 11) else {
+        return answer;
+    };
+    let Body::Receive { packet, .. } = read.body else {
+        return answer;
+    };
+    let (height, time) = (read.context.height, read.context.time);
+    let height_at_most = packet.timeout_height == 0 || height <= packet.timeout_height;
+    let time_at_most = packet.timeout_timestamp == 0 || time <= packet.timeout_timestamp;
+    if !height_at_most || !time_at_most {
+        return answer;
+    }
+    let mut untimed = datagram.to_vec();
+    // Both timeouts, in the packet and in the verdict.
+    for at in [46, 54, 138, 146] {
+        put_u64(&mut untimed, at, 0);
+    }
+    let answer = crate::handle(store, output, &untimed);
+    if answer.0 == 0 {
+        output[frame::BODY..answer.1 as usize].copy_from_slice(&datagram[38..106]);
+    }
+    answer
+});
+
+behind_c!(seven_before_six, |store, output, datagram| {
+    let answer = crate::handle(store, output, datagram);
+    if answer.0 != 6 {
+        return answer;
+    }
+    let mut opened = store.to_vec();
+    for index in 0..16 {
+        if let Some(end) = channel_at(store, index) {
+            Channel { state: OPEN, ..end }.write(&mut opened[channel_place(index)..]);
+        }
+    }
+    match crate::handle(&mut opened, &mut output.to_vec(), datagram) {
+        (7, length) => (7, length),
+        _ => answer,
+    }
+});
+
+behind_c!(changes_on_refusal, |store, output, datagram| {
+    let answer = crate::handle(store, output, datagram);
+    if answer.0 == 20 {
+        let height = last_height(store);
+        put_u64(store, header::LAST_HEIGHT, height.wrapping_add(1));
+    }
+    answer
+});
+
+unsafe extern "C" fn writes_behind(
+    store: *mut u8,
+    store_len: usize,
+    output: *mut u8,
+    output_len: usize,
+    datagram: *const u8,
+    datagram_len: usize,
+    size: *mut u32,
+) -> u8 {
+    let number = right(store, store_len, output, output_len, datagram, datagram_len, size);
+    if number == 0 {
+        *output.add(output_len) ^= 0xff;
+    }
+    number
+}
+
+fn kind_of(datagram: &[u8]) -> u16 {
+    get_u16(datagram, frame::KIND)
+}

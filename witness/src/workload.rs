@@ -1,0 +1,133 @@
+//! Mixed datagrams for one nearly full store, for measuring.
+
+use crate::datagram::*;
+use crate::generate::accept::{accepted, later, pick_record};
+use crate::generate::draft::Draft;
+use crate::generate::fault;
+use crate::generate::making::openings;
+use crate::generate::malform::malform;
+use crate::generate::rng::Rng;
+use crate::generate::shape::{channels, fill};
+use crate::places::OUTPUT;
+use crate::store::*;
+
+/// After so many calls the store is set back, so that it stays nearly full of the same mixture.
+pub const SEGMENT: usize = 100;
+/// Records that are free when a segment begins.
+const FREE_AT_START: usize = 2;
+
+/// Datagrams in segments, each made for the store as the segment's earlier ones leave it.
+pub struct Workload {
+    pub store: Vec<u8>,
+    pub datagrams: Vec<Vec<u8>>,
+    /// How often each answer comes.
+    pub answers: [u64; 25],
+}
+
+/// A workload of that many datagrams for a store with that many records.
+pub fn workload(seed: u64, records: usize, count: usize) -> Workload {
+    let mut rng = Rng::new(seed);
+    let store = nearly_full(&mut rng, records);
+    let mut workload = Workload { store, datagrams: Vec::new(), answers: [0; 25] };
+    while workload.datagrams.len() < count {
+        let mut segment = Segment { store: workload.store.clone(), kept: 0 };
+        for _ in 0..SEGMENT.min(count - workload.datagrams.len()) {
+            let datagram = segment.next(&mut rng, &workload.store);
+            let (number, _) = crate::handle(&mut segment.store, &mut [0; OUTPUT], &datagram);
+            workload.answers[usize::from(number)] += 1;
+            workload.datagrams.push(datagram);
+        }
+    }
+    workload
+}
+
+/// Eight ends of both orders; at least half of the records are commitments, the rest receipts and
+/// acknowledgements.
+fn nearly_full(rng: &mut Rng, records: usize) -> Vec<u8> {
+    loop {
+        let mut store = vec![0; store_length(records)];
+        crate::make_store(&mut store, &openings(rng, 8));
+        for (index, end) in channels(&store) {
+            Channel { next_sequence_recv: 1 + records as u64, ..end }.write(&mut store[channel_place(index)..]);
+        }
+        let filled = fill(rng, &mut store, FREE_AT_START, None);
+        for (index, end) in channels(&store) {
+            let next = pick_record(rng, &store, COMMITMENT, end.channel).map_or(1, |(_, record)| record.sequence);
+            Channel { next_sequence_ack: next, ..end }.write(&mut store[channel_place(index)..]);
+        }
+        let commitments = (0..records).filter(|index| record_at(&store, *index).kind == COMMITMENT).count();
+        let orders = channels(&store).iter().filter(|(_, end)| end.is_ordered()).count();
+        if filled && 2 * commitments >= records && orders == 4 {
+            return store;
+        }
+    }
+}
+
+struct Segment {
+    store: Vec<u8>,
+    /// Records written in this segment that nothing will free.
+    kept: usize,
+}
+
+impl Segment {
+    /// Seven of ten are accepted; the others are refused for many reasons.
+    fn next(&mut self, rng: &mut Rng, start: &[u8]) -> Vec<u8> {
+        loop {
+            let made = match rng.below(20) {
+                0..=13 => self.accepted(rng).map(|draft| draft.encode()),
+                14 => self.accepted(rng).map(|draft| {
+                    let mut bytes = draft.encode();
+                    malform(rng, &mut bytes);
+                    bytes
+                }),
+                15 => self.again(rng),
+                16 => self.send_anyway(rng, start),
+                _ => self.refused(rng),
+            };
+            if let Some(datagram) = made {
+                return datagram;
+            }
+        }
+    }
+
+    /// No ordered time-out, which would close the channel, and few records that stay.
+    fn accepted(&mut self, rng: &mut Rng) -> Option<Draft> {
+        let kind = rng.pick(&[SEND, RECEIVE, WRITE, ACKNOWLEDGE, TIME_OUT]);
+        let draft = accepted(rng, &self.store, kind)?;
+        let ordered = draft.end().is_ordered();
+        let stays = kind == WRITE || kind == RECEIVE && !ordered;
+        if kind == TIME_OUT && ordered || stays && self.kept >= FREE_AT_START {
+            return None;
+        }
+        self.kept += usize::from(stays);
+        Some(draft)
+    }
+
+    /// A fault of the datagram alone, as the store is the one that is there.
+    fn refused(&mut self, rng: &mut Rng) -> Option<Vec<u8>> {
+        let kind = rng.pick(&[SEND, RECEIVE, WRITE, ACKNOWLEDGE, TIME_OUT]);
+        let mut draft = accepted(rng, &self.store, kind)?;
+        let number = rng.pick(fault::possible(kind, draft.end().is_ordered()));
+        let spoiled = fault::spoil(rng, &mut draft, number);
+        if number != crate::refusal::OTHER_VERDICT {
+            draft.match_verdict();
+        }
+        (spoiled && draft.store == self.store).then(|| draft.encode())
+    }
+
+    /// An unordered packet that was received before.
+    fn again(&mut self, rng: &mut Rng) -> Option<Vec<u8>> {
+        let mut draft = accepted(rng, &self.store, RECEIVE)?;
+        draft.packet.sequence = pick_record(rng, &self.store, RECEIPT, draft.end().channel)?.1.sequence;
+        draft.match_verdict();
+        Some(draft.encode())
+    }
+
+    /// A send, whether a record is free or not.
+    fn send_anyway(&mut self, rng: &mut Rng, start: &[u8]) -> Option<Vec<u8>> {
+        let mut draft = accepted(rng, start, SEND)?;
+        let (height, time) = later(rng, last_height(&self.store), last_time(&self.store));
+        (draft.context.height, draft.context.time) = (height, time);
+        Some(draft.encode())
+    }
+}
