@@ -20,7 +20,7 @@ use store::Channel;
 use store::Found;
 use store::OwnHeight;
 use store::Store;
-use store::fit::is_fit;
+use fit::is_fit;
 use store::scan::find_channel;
 use store::slot::channel_at;
 use wire::u64_at;

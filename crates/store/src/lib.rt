@@ -2,10 +2,9 @@
 // they mean.
 pub mod effect; // what acceptance does to the lent store
 pub mod slot; // a channel end or a packet record in 64 bytes
-pub mod exact; // bytes laid out exactly as a store's
 pub mod scan; // the first slot that passes a test
 pub mod ordering; // what an ordering means for what is stored
-pub mod fit; // a fit store
+pub mod size; // how many bytes a store has
 mod maker; // fresh stores out of an opening list
 
 // A height of this ledger, and a height of the other one. Neither can stand where the other is meant.

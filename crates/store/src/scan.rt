@@ -14,8 +14,7 @@ ghost use Rattle.store.specs.Limits.{channelLimit};
 ghost use Rattle.store.specs.Table.{isNumbered, hasKey, lookup};
 ghost use Rattle.store.specs.Layout.{headerSize, slotSize, recordsFrom, sizeFor};
 ghost use Rattle.store.specs.Layout.{channelIn, recordIn, slotIn, storeIn};
-ghost use Rattle.store.specs.Scan.{indexWhere, holds, firstThat, firstFree};
-ghost use Rattle.store.specs.SlotTest.{tableFrom, isAt};
+ghost use Rattle.store.specs.Scan.{indexWhere, isAt, holds, firstFree, firstThat, tableFrom};
 
 // A free slot has no number, though its bytes read as 0.
 fn is_numbered(s: &[u8], at: usize, number: u32) -> bool

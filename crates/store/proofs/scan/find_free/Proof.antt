@@ -4,8 +4,7 @@ use Prim.Native.Nat.{_-_}
 use native.Mathlib.Omega.{arith}
 use denote.Ref.{now}
 use Rattle.store.specs.Layout.{recordsFrom, recordIn, storeIn}
-use Rattle.store.specs.Scan.{isFree, firstFree}
-use Rattle.store.specs.SlotTest.{slotAt}
+use Rattle.store.specs.Scan.{isFree, firstFree, slotAt}
 use Rattle.store.proofs.TurnLaws.{records-from, firstFrom, found, missed, nothing}
 use Rattle.store.proofs.SlotTestLaws.{free-slot}
 use Rattle.store.proofs.scan.find_free.Statement.{statement}

@@ -3,7 +3,7 @@ use mathlib.Core.Path.{sym, ap, _∙_}
 use denote.Ref.{now}
 use Rattle.store.specs.Table.{Key, hasKey}
 use Rattle.store.specs.Layout.{storeIn}
-use Rattle.store.specs.SlotTest.{isAt}
+use Rattle.store.specs.Scan.{isAt}
 use Rattle.store.proofs.SlotTestLaws.{find-at}
 use borrow.Author.Needs.{needs}
 use Rattle.store.proofs.scan.has_record.Statement.{statement}
