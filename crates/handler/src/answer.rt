@@ -21,7 +21,7 @@ use store::Found;
 use store::OwnHeight;
 use store::Store;
 use fit::is_fit;
-use store::scan::find_channel;
+use tables::scan::find_channel;
 use store::slot::channel_at;
 use wire::u64_at;
 ghost use mathlib.Core.Path.{_≡_};

@@ -1,7 +1,7 @@
 // What depends on a channel's ordering: this module, with the store's, and no other.
 use store::Channel;
-use store::ordering::is_ordered;
-use store::scan::has_record;
+use tables::ordering::is_ordered;
+use tables::scan::has_record;
 ghost use mathlib.Core.Path.{_≡_};
 ghost use lib.ListN.{length};
 ghost use Rattle.store.specs.Layout.{sizeFor, storeIn};

@@ -1,9 +1,6 @@
 // The store: one ledger's channel ends and packet records, in bytes that the host lends. Its types; specs/ says what
 // they mean.
-pub mod effect; // what acceptance does to the lent store
 pub mod slot; // a channel end or a packet record in 64 bytes
-pub mod scan; // the first slot that passes a test
-pub mod ordering; // what an ordering means for what is stored
 pub mod size; // how many bytes a store has
 mod maker; // fresh stores out of an opening list
 
