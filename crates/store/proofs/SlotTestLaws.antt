@@ -11,7 +11,7 @@ use lib.ListN.{length, drop}
 use Rattle.wire.specs.Choice.{_and_, isSome}
 use Rattle.wire.specs.Bytes.{areZero, part, field}
 use Rattle.wire.proofs.ChoiceLaws.{cases}
-use Rattle.wire.proofs.PartLaws.{and-assoc}
+use Rattle.wire.proofs.PartLaws.{and-assoc, field-part}
 use Rattle.store.specs.declared.Channel.{Channel}
 use Rattle.store.specs.declared.Record.{Record}
 use Rattle.store.specs.declared.Found.the-variants.{At}
@@ -22,7 +22,6 @@ use Rattle.store.specs.Layout.{channelIn, recordIn, slotIn, storeIn}
 use Rattle.store.specs.Scan.{indexWhere, isAt, isFree, holds}
 use Rattle.store.proofs.TestLaws.{and-true, and-false, and-comm}
 use Rattle.store.proofs.FitLaws.{length-read}
-use Rattle.store.proofs.SlotLaws.{field-part}
 use Rattle.store.proofs.ScanLaws.{found-below}
 
 module _ {A : Type 0} (g : List ℕ → A) (p : List ℕ) where
@@ -44,7 +43,7 @@ module _ (at : ℕ) (bs : List ℕ) where
 
   pub key-held : (k : Key) → holds (hasKey k) (slotIn recordIn (part at slotSize bs)) ≡
       (eqb (field (at + 8) 8 bs) (k .sequence) and (eqb (field at 2 bs) (k .kind) and
-      (eqb (field (at + 4) 4 bs) (k .channel) and not (areZero (part at slotSize bs)))))
+      eqb (field (at + 4) 4 bs) (k .channel) and not (areZero (part at slotSize bs))))
   unfolding hasKey recordIn
   key-held k =
       held recordIn (part at slotSize bs) (hasKey k) ∙
@@ -55,7 +54,6 @@ module _ (at : ℕ) (bs : List ℕ) where
         field-part 8 8 at slotSize bs (omega arith),
         and-comm (eqb (field at 2 bs) (k .kind) and eqb (field (at + 4) 4 bs) (k .channel)) _,
         and-assoc (eqb (field (at + 8) 8 bs) (k .sequence)) _ _,
-        and-assoc (eqb (field at 2 bs) (k .kind)) _ _,
       )
 
 -- WHAT A SCAN FOUND

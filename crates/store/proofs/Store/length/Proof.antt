@@ -26,6 +26,4 @@ returns-3 c =
 
 pub length-spec : {M : Type 1} → statement M
 length-spec =
-    tie.close
-    (tie.spec
-    returns returns-2 (λ c. search needs) (λ c. search needs) returns-3)
+    tie.close (tie.spec returns returns-2 (λ c. search needs) (λ c. search needs) returns-3)

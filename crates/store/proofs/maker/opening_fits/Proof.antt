@@ -91,5 +91,4 @@ opening-fits-spec =
     tie.close
     (tie.spec
     (λ c κs. search needs) (λ c. search needs) returns (λ c. search needs) (λ c κs. search needs) returns-2
-    (λ c. search needs) (λ c κs. search needs) returns-3 returns-4 (λ c. search needs) (λ c κs. search needs)
-    returns-5)
+    (λ c. search needs) (λ c κs. search needs) returns-3 returns-4 (λ c. search needs) (λ c κs. search needs) returns-5)

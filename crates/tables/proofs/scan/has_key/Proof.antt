@@ -1,10 +1,10 @@
 -- The tests are those of `key-held`. Assumes nothing.
-use mathlib.Core.Path.{sym, ap, _∙_}
-use mathlib.Core.Bool.{not}
+use mathlib.Core.Path.{sym, _∙_}
 use denote.Ref.{now}
 use borrow.Author.Needs.{needs}
+use borrow.Author.Tests.{eq-eqb, ne-eqb}
+use Rattle.wire.specs.Choice.{_and_}
 use Rattle.store.specs.Table.{Key}
-use Rattle.store.proofs.TestLaws.{agree, differ}
 use Rattle.store.proofs.SlotTestLaws.{key-held}
 use Rattle.tables.proofs.scan.has_key.Statement.{statement}
 use Rattle.tables.proofs.scan.has_key.Tie as tie
@@ -13,52 +13,28 @@ abbrev key : tie.Start → Key
 key o = record { kind = o .args .kind; channel = o .args .channel; sequence = o .args .sequence }
 
 returns : tie.Need-returns
+unfolding _and_
 returns c =
     let o = c .before .before .before in
-    rw (
-      key-held (o .args .at) (now (o .args .s)) (key o),
-      differ _ (λ e. c .if1 .taken (c .before .u64-at .ensures ∙ e)),
-    )
+    rw (key-held (o .args .at) (now (o .args .s)) (key o), ← c .before .u64-at .ensures, ne-eqb _ _ (c .if1 .taken))
 
 returns-2 : tie.Need-returns-2
+unfolding _and_
 returns-2 c =
-    let d = c .before .before in
+    let d = c .before .before .before in
     let o = d .before .before .before in
     rw (
       key-held (o .args .at) (now (o .args .s)) (key o),
-      agree _ (sym (d .before .u64-at .ensures) ∙ d .if1 .left),
-      differ _ (λ e. c .if2 .taken (c .before .u16-at .ensures ∙ e)),
+      ← d .before .u64-at .ensures,
+      eq-eqb _ _ (d .if1 .left),
+      ← c .before .before .u16-at .ensures,
+      ← c .before .u32-at .ensures,
+      ← c .are-zero .ensures,
     )
-
-returns-3 : tie.Need-returns-3
-returns-3 c =
-    let e = c .before .before in
-    let d = e .before .before in
-    let o = d .before .before .before in
-    rw (
-      key-held (o .args .at) (now (o .args .s)) (key o),
-      agree _ (sym (d .before .u64-at .ensures) ∙ d .if1 .left),
-      agree _ (sym (e .before .u16-at .ensures) ∙ e .if2 .left),
-      differ _ (λ e. c .if3 .taken (c .before .u32-at .ensures ∙ e)),
-    )
-
-returns-4 : tie.Need-returns-4
-returns-4 c =
-    let f = c .before in
-    let e = f .before .before in
-    let d = e .before .before in
-    let o = d .before .before .before in
-    rw (
-      key-held (o .args .at) (now (o .args .s)) (key o),
-      agree _ (sym (d .before .u64-at .ensures) ∙ d .if1 .left),
-      agree _ (sym (e .before .u16-at .ensures) ∙ e .if2 .left),
-      agree _ (sym (f .before .u32-at .ensures) ∙ f .if3 .left),
-    )
-    (ap not (c .are-zero .ensures))
 
 pub has-key-spec : {M : Type 1} → statement M
 has-key-spec =
     tie.close
     (tie.spec
-    (λ c. search needs) (λ c κs. search needs) returns (λ c κs. search needs) returns-2 (λ c. search needs)
-    (λ c κs. search needs) returns-3 (λ c κs. search needs) returns-4)
+    (λ c. search needs) (λ c κs. search needs) returns (λ c κs. search needs) (λ c. search needs)
+    (λ c κs. search needs) (λ c κs. search needs) returns-2)
