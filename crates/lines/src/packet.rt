@@ -1,0 +1,40 @@
+// Whether a packet fits a channel end.
+use datagram::Packet;
+use store::Channel;
+use store::End;
+ghost use mathlib.Core.Path.{_≡_};
+ghost use Rattle.store.specs.Table.{sameEnd};
+ghost use Rattle.rules.specs.Refusals.{fitsPacket};
+
+fn same_end(a: End, b: End) -> bool
+    ensures { λ r. ⌜ r ≡ sameEnd a b ⌝ }
+{
+    if a.port != b.port {
+        return false;
+    }
+    a.channel == b.channel
+}
+
+// 9, for 2: the end is the packet's destination.
+pub fn fits_destination(c: Channel, p: Packet) -> bool
+    ensures { λ r. ⌜ r ≡ fitsPacket 2 c p ⌝ }
+{
+    if p.destination.port != c.own.port {
+        return false;
+    }
+    let source = p.source;
+    let counterparty = c.counterparty;
+    same_end(source, counterparty)
+}
+
+// 9, for 4 and 5: the end is the packet's source.
+pub fn fits_source(c: Channel, p: Packet) -> bool
+    ensures { λ r. ⌜ (r ≡ fitsPacket 4 c p) × (r ≡ fitsPacket 5 c p) ⌝ }
+{
+    if p.source.port != c.own.port {
+        return false;
+    }
+    let destination = p.destination;
+    let counterparty = c.counterparty;
+    same_end(destination, counterparty)
+}
