@@ -4,21 +4,29 @@ use store::Counters;
 use store::ordering::is_ordered;
 ghost use mathlib.Core.Path.{_≡_};
 ghost use mathlib.Core.Bool.{true, false};
-ghost use Prim.Native.Nat.{_<_};
+ghost use Prim.Native.Nat.{_+_};
+ghost use lib.Dec.{eqb};
+ghost use Rattle.wire.specs.Choice.{_and_, pick};
 ghost use Rattle.store.specs.Limits.{top};
 ghost use Rattle.rules.specs.Ordering.{counted, closed, raisedSend, raisesReceive, raisesAcknowledge};
 ghost use Rattle.rules.specs.Ordering.{receivedEnd, acknowledgedEnd, timedOutEnd, isAtTop};
 
-pub(crate) fn raises_receive(c: Channel) -> bool
-    ensures { λ r. ⌜ r ≡ raisesReceive c ⌝ }
+// On an ordered channel a receive and an acknowledge raise their counter.
+pub(crate) fn raises_counter(c: Channel) -> bool
+    ensures { λ r. ⌜ (r ≡ raisesReceive c) × (r ≡ raisesAcknowledge c) ⌝ }
 {
     is_ordered(c)
 }
 
-fn raises_acknowledge(c: Channel) -> bool
-    ensures { λ r. ⌜ r ≡ raisesAcknowledge c ⌝ }
+// A counter that rises is below 2^64 - 1: the table's line 19 refused it otherwise.
+fn raised(counter: u64, rises: bool) -> u64
+    requires { ⌜ (rises and eqb counter top) ≡ false ⌝ }
+    ensures { λ r. ⌜ r ≡ pick rises (counter + 1) counter ⌝ }
 {
-    is_ordered(c)
+    if rises {
+        return counter + 1;
+    }
+    counter
 }
 
 fn with_counters(c: Channel, next: Counters) -> Channel
@@ -35,7 +43,6 @@ fn with_counters(c: Channel, next: Counters) -> Channel
     }
 }
 
-// The counter that rises is below 2^64 - 1: the table's line 19 refused it otherwise.
 pub(crate) fn sent_end(c: Channel) -> Channel
     requires { ⌜ isAtTop 1 c ≡ false ⌝ }
     ensures { λ r. ⌜ r ≡ counted c (raisedSend (c .next)) ⌝ }
@@ -52,12 +59,10 @@ pub(crate) fn received_end(c: Channel) -> Channel
     requires { ⌜ isAtTop 2 c ≡ false ⌝ }
     ensures { λ r. ⌜ r ≡ receivedEnd c ⌝ }
 {
-    if !raises_receive(c) {
-        return c;
-    }
+    let receive = raised(c.next.receive, raises_counter(c));
     let next = Counters {
         send: c.next.send,
-        receive: c.next.receive + 1,
+        receive: receive,
         acknowledge: c.next.acknowledge,
     };
     with_counters(c, next)
@@ -67,13 +72,11 @@ pub(crate) fn acknowledged_end(c: Channel) -> Channel
     requires { ⌜ isAtTop 4 c ≡ false ⌝ }
     ensures { λ r. ⌜ r ≡ acknowledgedEnd c ⌝ }
 {
-    if !raises_acknowledge(c) {
-        return c;
-    }
+    let acknowledge = raised(c.next.acknowledge, raises_counter(c));
     let next = Counters {
         send: c.next.send,
         receive: c.next.receive,
-        acknowledge: c.next.acknowledge + 1,
+        acknowledge: acknowledge,
     };
     with_counters(c, next)
 }

@@ -1,5 +1,5 @@
 // What acceptance does to the packet records: a new one takes the free slot of lowest index, a commitment becomes free.
-use super::effect_end::raises_receive;
+use super::effect_end::raises_counter;
 use store::Channel;
 use store::Found;
 use store::Record;
@@ -53,7 +53,7 @@ pub(crate) fn write_receipt(store: &mut [u8], c: Channel, sequence: u64)
         now (store .exit) ≡ bytesOf (withEdit (storeIn (now (store .entry))) (receivedEdit c sequence))
         ⌝ }
 {
-    if raises_receive(c) {
+    if raises_counter(c) {
         return;
     }
     let receipt = plain_record(2, c.own.channel, sequence, [0; 32]);

@@ -36,6 +36,7 @@ ghost use Rattle.answer.specs.Lines.{numberBehind, Known};
 
 const OPEN: u8 = 3;
 
+// Lines 1 to 3: a fit store, room for every record that is emitted, a sound datagram.
 pub fn answer(store: &[u8], room: usize, datagram: &[u8]) -> u8
     ensures { λ r. ⌜
         r ≡
@@ -92,7 +93,7 @@ fn answer_on(store: &[u8], count: usize, datagram: &[u8], kind: u16, x: Context,
     answer_by_kind(store, count, datagram, kind, x, c)
 }
 
-// The lines of the datagram's own kind. Unknown kinds were refused with 3.
+// Lines 8 to 20: those of the datagram's own kind. Unknown kinds were refused with 3.
 fn answer_by_kind(
     store: &[u8],
     count: usize,

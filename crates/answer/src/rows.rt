@@ -37,6 +37,7 @@ ghost use Rattle.datagram.specs.Datagram.{Datagram};
 ghost use Rattle.rules.specs.Ordering.{needsRecord};
 ghost use Rattle.answer.specs.Lines.{numberBehind};
 
+// Send (1): lines 10, 11, 19 and 20.
 pub fn send_row(store: &[u8], count: usize, x: Context, t: Timeout, c: Channel) -> u8
     requires { ⌜ length (now store) ≡ sizeFor count ⌝ }
     ensures { λ r. ⌜
@@ -59,6 +60,7 @@ pub fn send_row(store: &[u8], count: usize, x: Context, t: Timeout, c: Channel) 
     0
 }
 
+// Receive (2): lines 8, 9, 11 and 14, then those of `delivery_row`.
 pub fn receive_row(store: &[u8], count: usize, x: Context, p: Packet, v: Verdict, c: Channel) -> u8
     requires { ⌜ length (now store) ≡ sizeFor count ⌝ }
     ensures { λ r. ⌜
@@ -82,7 +84,7 @@ pub fn receive_row(store: &[u8], count: usize, x: Context, p: Packet, v: Verdict
     delivery_row(store, count, p, c)
 }
 
-// A receipt is needed, and there is no room for it.
+// 20, for 2: a receipt is needed, and there is no room for it.
 fn lacks_record(store: &[u8], count: usize, c: Channel) -> bool
     requires { ⌜ length (now store) ≡ sizeFor count ⌝ }
     ensures { λ r. ⌜ r ≡ (needsRecord 2 c and not (hasFree (storeIn (now (store .entry)) .records))) ⌝ }
@@ -93,7 +95,7 @@ fn lacks_record(store: &[u8], count: usize, c: Channel) -> bool
     !has_free(store, count)
 }
 
-// Behind the verdict, what the channel end and the packet records say.
+// Lines 15, 16, 19 and 20 of a receive: behind the verdict, what the channel end and the packet records say.
 fn delivery_row(store: &[u8], count: usize, p: Packet, c: Channel) -> u8
     requires { ⌜ length (now store) ≡ sizeFor count ⌝ }
     ensures { λ r. ⌜ ((d : Datagram) → d .packet ≡ p → r ≡ numberBehind 14 2 (storeIn (now (store .entry))) d c) ⌝ }
@@ -113,6 +115,7 @@ fn delivery_row(store: &[u8], count: usize, p: Packet, c: Channel) -> u8
     0
 }
 
+// Write acknowledgement (3): lines 16, 17, 18 and 20.
 pub fn write_row(store: &[u8], count: usize, sequence: u64, digest: [u8; 32], c: Channel) -> u8
     requires { ⌜ length (now store) ≡ sizeFor count ⌝ }
     ensures { λ r. ⌜
@@ -135,6 +138,7 @@ pub fn write_row(store: &[u8], count: usize, sequence: u64, digest: [u8; 32], c:
     0
 }
 
+// Acknowledge (4): lines 8, 9, 13 and 14, then those of `acknowledgement_row`.
 pub fn acknowledge_row(
     store: &[u8],
     count: usize,
@@ -165,7 +169,7 @@ pub fn acknowledge_row(
     acknowledgement_row(p, c)
 }
 
-// Behind the verdict, what the channel end says.
+// Lines 15 and 19 of an acknowledge: behind the verdict, what the channel end says.
 fn acknowledgement_row(p: Packet, c: Channel) -> u8
     ensures { λ r. ⌜ ((s : Store) (d : Datagram) → d .packet ≡ p → r ≡ numberBehind 14 4 s d c) ⌝ }
 {
@@ -178,6 +182,7 @@ fn acknowledgement_row(p: Packet, c: Channel) -> u8
     0
 }
 
+// Time out (5): lines 9, 12, 13, 14 and 15.
 pub fn time_out_row(store: &[u8], count: usize, p: Packet, v: Verdict, c: Channel) -> u8
     requires { ⌜ length (now store) ≡ sizeFor count ⌝ }
     ensures { λ r. ⌜

@@ -1,4 +1,4 @@
-// The store's packet records, asked for one or for room.
+// The store's packet records, asked for one (13) or for room (20).
 use super::height::same_timeout;
 use datagram::Packet;
 use store::Found;
@@ -18,6 +18,7 @@ ghost use Rattle.store.specs.Layout.{sizeFor, storeIn};
 ghost use Rattle.rules.specs.Verdict.{hasValues};
 ghost use Rattle.rules.specs.Refusals.{isCommitted};
 
+// 20: a packet record is free.
 pub fn has_free(store: &[u8], count: usize) -> bool
     requires { ⌜ length (now store) ≡ sizeFor count ⌝ }
     ensures { λ r. ⌜ r ≡ hasFree (storeIn (now (store .entry)) .records) ⌝ }

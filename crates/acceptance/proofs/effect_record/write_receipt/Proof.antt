@@ -9,23 +9,23 @@ use Rattle.acceptance.proofs.effect_record.write_receipt.Tie as tie
 returns : tie.Need-returns
 unfolding receivedEdit edited
 returns c =
-    let r = c .before .raises-receive in
+    let r = c .before .raises-counter in
     let o = c .before .before .before in
-    rw (← r .ensures, c .if1 .taken) (sym (o .pre .0 .laid))
+    rw (← r .ensures .0, c .if1 .taken) (sym (o .pre .0 .laid))
 
 write-record-requires : tie.Need-write-record-requires
 write-record-requires c κs =
     let e = c .before .before in
     let o = e .before .before .before in
-    (o .pre .0, o .pre .1 (sym (e .before .raises-receive .ensures) ∙ e .if1 .left))
+    (o .pre .0, o .pre .1 (sym (e .before .raises-counter .ensures .0) ∙ e .if1 .left))
 
 returns-2 : tie.Need-returns-2
 unfolding receivedEdit
 returns-2 c =
     let w = c .before .before in
     let e = w .before .before .before in
-    let r = e .before .raises-receive in
-    rw (← r .ensures, e .if1 .left, ← w .before .before .plain-record .ensures) (w .write-record .ensures)
+    let r = e .before .raises-counter in
+    rw (← r .ensures .0, e .if1 .left, ← w .before .before .plain-record .ensures) (w .write-record .ensures)
 
 pub write-receipt-spec : {M : Type 1} → statement M
 write-receipt-spec =

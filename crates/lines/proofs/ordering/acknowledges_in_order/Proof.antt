@@ -1,19 +1,12 @@
 -- By the ordering. Assumes nothing.
-use Rattle.rules.specs.Ordering.{acknowledgesInOrder}
 use borrow.Author.Needs.{needs}
+use Rattle.rules.specs.Ordering.{acknowledgesInOrder}
 use Rattle.lines.proofs.ordering.acknowledges_in_order.Statement.{statement}
 use Rattle.lines.proofs.ordering.acknowledges_in_order.Tie as tie
 
 returns : tie.Need-returns
 unfolding acknowledgesInOrder
-returns c = rw (← c .before .before .is-ordered .ensures, c .before .if1 .taken)
-
-returns-2 : tie.Need-returns-2
-unfolding acknowledgesInOrder
-returns-2 c = rw (← c .before .is-ordered .ensures, c .if1 .left)
+returns c = c .is-next .ensures
 
 pub acknowledges-in-order-spec : {M : Type 1} → statement M
-acknowledges-in-order-spec =
-    tie.close
-    (tie.spec
-    (λ c κs. search needs) returns returns-2)
+acknowledges-in-order-spec = tie.close (tie.spec (λ c κs. search needs) returns)
