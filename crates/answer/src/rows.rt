@@ -17,6 +17,7 @@ use lines::ordering::receives_in_order;
 use lines::ordering::times_out_in_order;
 use lines::packet::fits_destination;
 use lines::packet::fits_source;
+use lines::packet::lacks_connection;
 use lines::records::has_free;
 use lines::records::is_committed;
 use lines::verdict::absence_difference;
@@ -68,7 +69,7 @@ pub fn receive_row(store: &[u8], count: usize, x: Context, p: Packet, v: Verdict
         r ≡ numberBehind 7 2 (storeIn (now (store .entry))) d c)
         ⌝ }
 {
-    if !x.connected {
+    if lacks_connection(x) {
         return 8;
     }
     if !fits_destination(c, p) {
@@ -154,7 +155,7 @@ pub fn acknowledge_row(
         r ≡ numberBehind 7 4 (storeIn (now (store .entry))) d c)
         ⌝ }
 {
-    if !x.connected {
+    if lacks_connection(x) {
         return 8;
     }
     if !fits_source(c, p) {

@@ -1,8 +1,10 @@
-// Whether a packet fits a channel end.
+// Whether a packet can have come: over an open connection, and to an end that it fits.
+use datagram::Context;
 use datagram::Packet;
 use store::Channel;
 use store::End;
 ghost use mathlib.Core.Path.{_≡_};
+ghost use mathlib.Core.Bool.{not};
 ghost use Rattle.store.specs.Table.{sameEnd};
 ghost use Rattle.rules.specs.Refusals.{fitsPacket};
 
@@ -13,6 +15,13 @@ fn same_end(a: End, b: End) -> bool
         return false;
     }
     a.channel == b.channel
+}
+
+// 8: the connection is not open.
+pub fn lacks_connection(x: Context) -> bool
+    ensures { λ r. ⌜ r ≡ not (x .connected) ⌝ }
+{
+    !x.connected
 }
 
 // 9, for 2: the end is the packet's destination.

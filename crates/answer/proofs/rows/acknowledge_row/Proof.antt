@@ -3,13 +3,12 @@ use mathlib.Core.Path.{_≡_, sym, _∙_}
 use Prim.Native.Nat.{ℕ}
 use denote.Ref.{now}
 use borrow.Author.Needs.{needs}
-use borrow.Author.Tests.{not-true, not-false}
 use Rattle.wire.specs.Choice.{_or_}
 use Rattle.store.specs.Layout.{storeIn}
 use Rattle.datagram.specs.Datagram.{Datagram}
 use Rattle.rules.specs.Refusals.{only, lowest, table, verdictDifference}
 use Rattle.answer.specs.Lines.{numberBehind}
-use Rattle.lines.proofs.TestedLaws.{holds, fails, is-zero, is-not-zero}
+use Rattle.lines.proofs.TestedLaws.{came, holds, fails, is-zero, is-not-zero}
 use Rattle.answer.proofs.rows.acknowledge_row.Statement.{statement}
 use Rattle.answer.proofs.rows.acknowledge_row.Tie as tie
 
@@ -22,11 +21,11 @@ Left n o =
 
 returns : tie.Need-returns
 unfolding numberBehind table lowest only _or_ verdictDifference
-returns c = λ d x p a v. rw (x, not-true (c .before .before .before .args .x .connected) (c .if1 .taken))
+returns c = λ d x p a v. rw (x, came (c .before .lacks-connection .ensures) (c .if1 .taken))
 
 past-8 : (e : tie.Else1) → Left 8 (e .before .before .before)
 unfolding numberBehind table lowest only _or_ verdictDifference
-past-8 e d x p a v = rw (x, not-false (e .before .before .before .args .x .connected) (e .if1 .left))
+past-8 e d x p a v = rw (x, came (e .before .lacks-connection .ensures) (e .if1 .left))
 
 returns-2 : tie.Need-returns-2
 unfolding numberBehind table lowest only _or_ verdictDifference
@@ -72,5 +71,5 @@ pub acknowledge-row-spec : {M : Type 1} → statement M
 acknowledge-row-spec =
     tie.close
     (tie.spec
-    returns (λ c κs. search needs) returns-2 (λ c κs. search needs) returns-3 (λ c κs. search needs) returns-4
-    (λ c κs. search needs) returns-5)
+    (λ c κs. search needs) returns (λ c κs. search needs) returns-2 (λ c κs. search needs) returns-3
+    (λ c κs. search needs) returns-4 (λ c κs. search needs) returns-5)
