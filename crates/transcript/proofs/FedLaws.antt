@@ -45,7 +45,8 @@ view bs =
     cases (ltb (length bs) 4) (λ e. short (rw e))
     (λ e. let l : 4 ≤ length bs = ltb-false (length bs) 4 e in
     cases (Good bs)
-    (λ g. cases (ltb (length bs) (field 0 4 bs)) (λ f. short (rw (e, g, f))) (λ f. whole l g (ltb-false (length bs) (field 0 4 bs) f)))
+    (λ g. cases (ltb (length bs) (field 0 4 bs)) (λ f. short (rw (e, g, f)))
+    (λ f. whole l g (ltb-false (length bs) (field 0 4 bs) f)))
     (λ g. torn l g))
 
 pub good-room : (bs : List ℕ) → Good bs ≡ true → leastRecord ≤ field 0 4 bs
@@ -99,7 +100,8 @@ unfolding fed
 fed-over zero night room bs e = refl
 fed-over (suc n) night room bs e = rw e
 
-pub fed-short : (n : ℕ) (night : Night) (room bs : List ℕ) → frontOf bs ≡ Short → fed n night room bs ≡ stays night room bs
+pub fed-short : (n : ℕ) (night : Night) (room bs : List ℕ) → frontOf bs ≡ Short
+    → fed n night room bs ≡ stays night room bs
 unfolding fed
 fed-short zero night room bs h = refl
 fed-short (suc n) night room bs h = cases (isOver (night .phase)) (λ e. rw e) (λ e. rw (e, h))
@@ -194,9 +196,11 @@ fed-enough zero m night room bs p q = sym (none-at-all m night room bs p (turn-o
 fed-enough (suc n) zero night room bs p q = none-at-all (suc n) night room bs q (turn-of night room bs)
 fed-enough (suc n) (suc m) night room bs p q =
     by-turn (turn-of night room bs)
-    (λ k l after room′. fed-enough n m after room′ (drop k bs) (omega (arith, length-drop k bs)) (omega (arith, length-drop k bs))) where
+    (λ k l after room′. let d = length-drop k bs in
+    fed-enough n m after room′ (drop k bs) (omega (arith, d)) (omega (arith, d))) where
       by-turn : Turn night room bs
-          → ((k : ℕ) → leastRecord ≤ k → (after : Night) (room′ : List ℕ) → fed n after room′ (drop k bs) ≡ fed m after room′ (drop k bs))
+          → ((k : ℕ) → leastRecord ≤ k → (after : Night) (room′ : List ℕ)
+          → fed n after room′ (drop k bs) ≡ fed m after room′ (drop k bs))
           → fed (suc n) night room bs ≡ fed (suc m) night room bs
       by-turn (idle h) rest = rw (h (suc n), h (suc m))
       by-turn (tears l h more) rest = rw (h n, h m)

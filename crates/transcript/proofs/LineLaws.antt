@@ -23,7 +23,8 @@ length-decimal (suc k) n =
     let last : List ℕ = (48 + n % 10) ∷ [] in
     let l = length-append (decimal k (n / 10)) last in
     let h = length-decimal k (n / 10) in
-    of-pick (λ (ds : List ℕ). length (ds ++ last) ≤ suc k) (ltb n 10) [] (decimal k (n / 10)) (λ _. omega arith) (λ _. omega arith)
+    of-pick (λ (ds : List ℕ). length (ds ++ last) ≤ suc k) (ltb n 10) [] (decimal k (n / 10)) (λ _. omega arith)
+    (λ _. omega arith)
 
 pub length-tail : (n : ℕ) → length (tailOf n) ≤ 22
 length-tail n =
@@ -38,7 +39,8 @@ pow-pos (suc k) =
     omega (arith, pow-succ' 10 k)
 
 -- the fewest digits that hold a number are its decimal ones
-pub digits-decimal : (k j n : ℕ) → k ≤ j → n < 10 ^ suc k → (1 ≤ k → 10 ^ k ≤ n) → digits 10 (suc k) n ≡ decimal (suc j) n
+pub digits-decimal : (k j n : ℕ) → k ≤ j → n < 10 ^ suc k → (1 ≤ k → 10 ^ k ≤ n)
+    → digits 10 (suc k) n ≡ decimal (suc j) n
 unfolding decimal
 digits-decimal zero j n room below least =
     let one : n < 10 = omega arith in

@@ -8,7 +8,7 @@ use lib.Seq.{take-append-le, drop-append-le}
 use Rattle.transcript.specs.declared.Night.{Night}
 use Rattle.transcript.specs.Line.{lineOf, tornWord}
 use Rattle.transcript.specs.Night.{over, stepped}
-use Rattle.transcript.specs.Transcript.{Fed, stays, fed, finished, freshNight, freshRoom, lastLine, textFrom, transcriptOf}
+use Rattle.transcript.specs.Transcript.{Fed, fed, finished, freshNight, freshRoom, lastLine, textFrom}
 use Rattle.transcript.specs.Pieces.{Piece, fedPiece, fedPieces, joined, Done, PiecesHold}
 use Rattle.transcript.proofs.FedLaws.{Turn, idle, tears, reads, tornAt, readAt, fed-over, turn-of, fed-enough}
 
@@ -29,7 +29,8 @@ text-read : (k : ℕ) (night : Night) (room bs : List ℕ) → let s = stepped n
 unfolding textFrom
 text-read k night room bs h =
     let s = stepped night room (take k bs) in
-    let e = fed-enough (length bs) (length (drop k bs)) (s .night) (s .room) (drop k bs) (omega (arith, length-drop k bs)) (omega arith) in
+    let d : length (drop k bs) ≤ length bs = omega (arith, length-drop k bs) in
+    let e = fed-enough (length bs) (length (drop k bs)) (s .night) (s .room) (drop k bs) d (omega arith) in
     let f = fed (length (drop k bs)) (s .night) (s .room) (drop k bs) in
     text-more night room bs ∙ rw (h, e) (append-assoc (s .text) (f .text) (lastLine (f .night) (length (f .rest))))
 
@@ -46,7 +47,8 @@ text-fed zero night room bs cs = refl
 text-fed (suc n) night room bs cs =
     by-turn (turn-of night room bs) (λ k after room′. text-fed n after room′ (drop k bs) cs) where
       by-turn : Turn night room bs
-          → ((k : ℕ) (after : Night) (room′ : List ℕ) → GoesOn n after room′ (drop k bs) cs) → GoesOn (suc n) night room bs cs
+          → ((k : ℕ) (after : Night) (room′ : List ℕ) → GoesOn n after room′ (drop k bs) cs)
+          → GoesOn (suc n) night room bs cs
       by-turn (idle h) rest = rw (h (suc n))
       by-turn (tears l h more) rest =
           let torn = more (length (bs ++ cs)) cs in

@@ -76,7 +76,8 @@ length-answers night room d =
     let t = callTold (take (night .size) room) freshOutput d .number in
     omega (arith, length-line (decimalOf n) t, length-decimal 20 n)
 
-length-stepped : (phase : Phase) (night : Night) (room r : List ℕ) → length (steppedIn phase night room r .text) ≤ lineRoom
+length-stepped : (phase : Phase) (night : Night) (room r : List ℕ)
+    → length (steppedIn phase night room r .text) ≤ lineRoom
 length-stepped Before night room r = length-opens room r
 length-stepped Running night room r = length-answers night room r
 length-stepped Over night room r = omega arith

@@ -46,7 +46,8 @@ turned go Short night room bs = stays night room bs
 -- at most so many records; nothing is read behind the end of the night
 unfoldable pub fed : (records : ℕ) → Night → (room bytes : List ℕ) → Fed
 fed zero night room bs = stays night room bs
-fed (suc n) night room bs = pick (isOver (night .phase)) (stays night room bs) (turned (fed n) (frontOf bs) night room bs)
+fed (suc n) night room bs =
+    pick (isOver (night .phase)) (stays night room bs) (turned (fed n) (frontOf bs) night room bs)
 
 -- the last line, where the input has ended: `end`, or `torn` where bytes are left that are no whole record
 abbrev pub lastIn : Phase → (count left : ℕ) → List ℕ

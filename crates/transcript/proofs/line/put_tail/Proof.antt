@@ -21,23 +21,25 @@ put-u8-requires-2 c κs =
 
 add-result : tie.Need-add-result
 add-result c =
-    let n = c .before .before .before .before .before .before .put-number in
-    let a = c .before .before .before .before .before .before .before .before .before .before .before .before .before .args in
-    omega (arith, n .ensures .0, length-decimal 20 (a .n))
+    let n = c .before .before .before .before .before .before in
+    let a = n .before .before .before .before .before .before .before .args in
+    omega (arith, n .put-number .ensures .0, length-decimal 20 (a .n))
 
 returns : tie.Need-returns
 unfolding little
 returns c =
-    let n = c .before .before .before .before .before .before .put-number in
-    let p = c .before .before .before .before .before .before .before .before .before .before .put-u8 in
     let q = c .before .before .put-u82 in
-    let a = c .before .before .before .before .before .before .before .before .before .before .before .before .before .args in
+    let n = c .before .before .before .before .before .before .put-number in
+    let first = c .before .before .before .before .before .before .before .before .before .before in
+    let p = first .put-u8 in
+    let a = first .before .before .before .args in
+    let two : List ℕ = (32 ∷ []) ++ decimalOf (a .n) in
     let l = length-append (decimalOf (a .n)) (10 ∷ []) in
     let m = length-append (32 ∷ []) (decimalOf (a .n)) in
-    let z : n .result ≡ a .at + length ((32 ∷ []) ++ decimalOf (a .n)) = omega (arith, n .ensures .0) in
-    let two = patch-then (a .at) 1 (32 ∷ []) (decimalOf (a .n)) (now (a .text)) refl in
-    let three = patch-then (a .at) (length ((32 ∷ []) ++ decimalOf (a .n))) ((32 ∷ []) ++ decimalOf (a .n)) (10 ∷ []) (now (a .text)) refl in
-    (omega (arith, n .ensures .0), rw (q .ensures, n .ensures .1, p .ensures, two, z) three)
+    let z : n .result ≡ a .at + length two = omega (arith, n .ensures .0) in
+    let after-two = patch-then (a .at) 1 (32 ∷ []) (decimalOf (a .n)) (now (a .text)) refl in
+    let after-three = patch-then (a .at) (length two) two (10 ∷ []) (now (a .text)) refl in
+    (omega (arith, n .ensures .0), rw (q .ensures, n .ensures .1, p .ensures, after-two, z) after-three)
 
 pub put-tail-spec : {M : Type 1} → statement M
 put-tail-spec =

@@ -9,7 +9,8 @@ returns : tie.Need-returns
 returns c =
     let first = c .before .before .before .before .before .before in
     let a = first .before .before .before .before .args in
-    tail-behind (a .at) (a .n) (now (a .word)) (now (a .text)) (first .put-bytes .ensures) (c .before .before .put-tail .ensures)
+    tail-behind (a .at) (a .n) (now (a .word)) (now (a .text)) (first .put-bytes .ensures)
+    (c .before .before .put-tail .ensures)
 
 pub put-word-line-spec : {M : Type 1} → statement M
 put-word-line-spec =

@@ -12,7 +12,8 @@ use Rattle.transcript.proofs.piece.feed.Tie as tie
 
 abbrev Inv-loop : tie.InvT-loop
 Inv-loop room₀ input text₀ lines p₀ i₀ room text p i =
-    Reached lines (p₀ .night) room₀ input text₀ i p room text × ((length room ≡ length room₀) × (length text ≡ length text₀))
+    Reached lines (p₀ .night) room₀ input text₀ i p room text
+    × ((length room ≡ length room₀) × (length text ≡ length text₀))
 
 abbrev μ-loop : tie.MeasureT-loop
 μ-loop room₀ input text₀ lines p₀ i₀ room text p i = lines - i
@@ -29,7 +30,8 @@ turn-requires c κs =
     (v .inv .0 .inside, omega (arith, v .inv .0 .within, v .inv .1 .1))
 
 -- after a turn
-next : (c : tie.After-turn Inv-loop μ-loop) → let a = c .before .before .before .before .before .before .before .before .args in
+next : (c : tie.After-turn Inv-loop μ-loop) →
+    let a = c .before .before .before .before .before .before .before .before .args in
     Reached (length (now (a .text)) / lineRoom) (a .night) (now (a .room)) (now (a .input)) (now (a .text))
     (c .before .before .before .before .loop .i + 1) (c .turn .result) (c .turn .last .0) (c .turn .last .1 .1 .0)
 next c =
@@ -39,10 +41,14 @@ next c =
     (c .before .before .before .before .loop .inv .0) (c .before .before .before .loop-test .taken) (c .turn .ensures)
 
 same-length : tie.Need-same-length Inv-loop μ-loop
-same-length c = c .before .before .before .before .before .before .before .turn .kept .0 ∙ c .before .before .before .before .before .before .before .before .before .before .before .loop .inv .1 .0
+same-length c =
+    let t = c .before .before .before .before .before .before .before in
+    t .turn .kept .0 ∙ t .before .before .before .before .loop .inv .1 .0
 
 same-length-2 : tie.Need-same-length-2 Inv-loop μ-loop
-same-length-2 c = c .before .before .before .before .before .before .before .turn .kept .1 .1 .0 ∙ c .before .before .before .before .before .before .before .before .before .before .before .loop .inv .1 .1
+same-length-2 c =
+    let t = c .before .before .before .before .before .before .before in
+    t .turn .kept .1 .1 .0 ∙ t .before .before .before .before .loop .inv .1 .1
 
 returns : tie.Need-returns Inv-loop μ-loop
 returns c =
@@ -50,8 +56,9 @@ returns c =
     let a = t .before .before .before .before .before .before .before .before .args in
     let text = now (a .text) in
     let n = length text / lineRoom in
-    let still = reached-still n (a .night) (now (a .room)) (now (a .input)) text (t .before .before .before .before .loop .inv .0)
-    (t .before .before .before .loop-test .taken) (t .turn .ensures) (c .if1 .taken) in
+    let still = reached-still n (a .night) (now (a .room)) (now (a .input)) text
+    (t .before .before .before .before .loop .inv .0) (t .before .before .before .loop-test .taken) (t .turn .ensures)
+    (c .if1 .taken) in
     reached-done n (a .night) (now (a .room)) (now (a .input)) text (next t) still
 
 loop-again : tie.Need-loop-again Inv-loop μ-loop

@@ -34,7 +34,8 @@ returns-2 c =
     let t = c .before .before .before .before .before in
     let a = t .before .before .before .before .before .args in
     let zero = eq-eqb (a .left) 0 (t .if2 .taken) in
-    let e : lastLine (a .night) (a .left) ≡ lineOf endWord (a .night .count) = rw (t .before .enum-told2 .given .1, zero) in
+    let e : lastLine (a .night) (a .left) ≡ lineOf endWord (a .night .count) =
+    rw (t .before .enum-told2 .given .1, zero) in
     stored (now (a .text)) (a .night) (a .left) (omega arith) e (c .before .before .put-word-line2 .ensures)
 
 returns-3 : tie.Need-returns-3
@@ -49,7 +50,8 @@ returns-4 c =
     let t = c .before .before .before .before .before in
     let a = t .before .before .before .before .before .args in
     let some = ne-eqb (a .left) 0 (t .if2 .left) in
-    let e : lastLine (a .night) (a .left) ≡ lineOf tornWord (a .night .count) = rw (t .before .enum-told2 .given .1, some) in
+    let e : lastLine (a .night) (a .left) ≡ lineOf tornWord (a .night .count) =
+    rw (t .before .enum-told2 .given .1, some) in
     stored (now (a .text)) (a .night) (a .left) (omega arith) e (c .before .before .put-word-line3 .ensures)
 
 returns-5 : tie.Need-returns-5

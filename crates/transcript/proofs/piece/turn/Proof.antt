@@ -20,24 +20,27 @@ goes-on : (c : tie.Else1) → isOver (c .before .before .before .before .before 
 goes-on c = sym (c .before .is-over .ensures) ∙ c .if1 .left
 
 -- a whole record stands at the place, and is there whole
-whole : (c : tie.After-size) → let a = c .before .before .before .before .before .before .before .before .before .args in
+whole : (c : tie.After-size) →
+    let a = c .before .before .before .before .before .before .before .before .before .args in
     frontOf (drop (a .p .read) (now (a .input))) ≡ Whole (c .size .given .0 .0)
 whole c = sym (c .before .before .record-at .ensures) ∙ c .size .given .1
 
-room-for : (c : tie.After-size) → let a = c .before .before .before .before .before .before .before .before .before .args in
+room-for : (c : tie.After-size) →
+    let a = c .before .before .before .before .before .before .before .before .before .args in
     a .p .read + c .size .given .0 .0 ≤ length (now (a .input))
 room-for c =
-    let a = c .before .before .before .before .before .before .before .before .before .args in
-    let k = c .size .given .0 .0 in
-    let rest = drop (a .p .read) (now (a .input)) in
-    omega (arith, front-room rest k (whole c), length-drop (a .p .read) (now (a .input)), c .before .before .before .before .before .before .before .before .before .pre .0)
+    let s = c .before .before .before .before .before .before .before .before .before in
+    let input = now (s .args .input) in
+    let from = s .args .p .read in
+    omega (arith, front-room (drop from input) (c .size .given .0 .0) (whole c), length-drop from input, s .pre .0)
 
 returns : tie.Need-returns
 returns c =
     let s = c .before .before .before .before .before .before in
     let a = s .args in
     let e = sym (c .before .is-over .ensures) ∙ c .if1 .taken in
-    feeds-stays (a .p) (now (a .room)) (now (a .input)) (now (a .text)) (s .pre .0) (fed-over 1 (a .p .night) (now (a .room)) (drop (a .p .read) (now (a .input))) e)
+    feeds-stays (a .p) (now (a .room)) (now (a .input)) (now (a .text)) (s .pre .0)
+    (fed-over 1 (a .p .night) (now (a .room)) (drop (a .p .read) (now (a .input))) e)
 
 add-end : tie.Need-add-end
 add-end c = omega (arith, room-for (c .before))
@@ -48,14 +51,15 @@ part-step-end c = room-for (c .before .before)
 returns-2 : tie.Need-returns-2
 returns-2 c =
     let w = c .before .before .before .before .before .before .before .before .before .before in
-    let a = w .before .before .before .before .before .before .before .before .before .args in
+    let s = w .before .before .before .before .before .before .before .before .before in
+    let a = s .args in
     let k = w .size .given .0 .0 in
     let rest = drop (a .p .read) (now (a .input)) in
     let size : a .p .read + k - a .p .read ≡ k = omega arith in
     let left = c .before .before .before .before .before .step in
     let leaves = subst (λ (n : ℕ). Leaves (stepped (a .p .night) (now (a .room)) (take n rest)) (a .p .size)
     (now (a .text)) (left .result) (left .last .0) (left .last .1 .1 .0)) size (left .ensures) in
-    feeds-read (a .p) (now (a .room)) (now (a .input)) (now (a .text)) (w .before .before .before .before .before .before .before .before .before .pre .0) k (room-for w)
+    feeds-read (a .p) (now (a .room)) (now (a .input)) (now (a .text)) (s .pre .0) k (room-for w)
     (fed-whole 0 k (a .p .night) (now (a .room)) rest (goes-on (w .before .before .before)) (whole w)) leaves
 
 returns-3 : tie.Need-returns-3
@@ -66,7 +70,8 @@ returns-3 c =
     let rest = drop (a .p .read) (now (a .input)) in
     let torn = sym (m .before .before .record-at .ensures) ∙ m .enum-told .given .1 in
     rw (c .over .ensures) (feeds-torn (a .p) (now (a .room)) (now (a .input)) (now (a .text)) (s .pre .0)
-    (fed-torn 0 (a .p .night) (now (a .room)) rest (goes-on (m .before .before .before)) torn) (c .before .before .before .put-word-line .ensures))
+    (fed-torn 0 (a .p .night) (now (a .room)) rest (goes-on (m .before .before .before)) torn)
+    (c .before .before .before .put-word-line .ensures))
 
 returns-4 : tie.Need-returns-4
 returns-4 c =

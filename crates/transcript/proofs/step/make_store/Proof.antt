@@ -19,8 +19,10 @@ returns : tie.Need-returns
 returns c =
     let m = c .before .before .make in
     let e = c .before .before .before .before .end-within in
-    let a = c .before .before .before .before .before .before .before .before .args in
-    (rw (← e .ensures .1) (m .ensures .0), rw (← e .ensures .1) (front-back (e .result) (now (a .room)) (e .ensures .0) (m .kept .0) (m .ensures .1)))
+    let a = c .before .before .before .before .before .before .before .before .args in (
+      rw (← e .ensures .1) (m .ensures .0),
+      rw (← e .ensures .1) (front-back (e .result) (now (a .room)) (e .ensures .0) (m .kept .0) (m .ensures .1)),
+    )
 
 pub make-store-spec : {M : Type 1} → statement M
 make-store-spec =

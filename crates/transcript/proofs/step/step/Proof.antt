@@ -21,7 +21,8 @@ returns-2 c =
     let g = c .before .before .before .before .before .before .before .enum-told2 .given in
     let x = c .before .before .before .before .answer-line in
     let a = c .before .before .before .before .before .before .before .before .before .before .before .before .args in
-    subst (λ (p : Phase). Leaves (steppedIn p (a .night) (now (a .room)) (now (a .bytes))) (a .at) (now (a .text)) (x .result) (x .last .0) (x .last .1 .1 .0)) (sym (g .1)) (x .ensures)
+    subst (λ (p : Phase). Leaves (steppedIn p (a .night) (now (a .room)) (now (a .bytes))) (a .at) (now (a .text))
+    (x .result) (x .last .0) (x .last .1 .1 .0)) (sym (g .1)) (x .ensures)
 
 returns-3 : tie.Need-returns-3
 unfolding patch
