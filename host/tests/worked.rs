@@ -12,12 +12,12 @@ fn at(height: u64) -> Timeout {
 #[test]
 fn cases_01_to_06_sends() {
     let mut store = fresh();
-    assert_eq!(store.handle(&send(60)), Ok(Emitted::Sent(sent())));
-    assert_eq!(store.handle(&send(60)), Ok(Emitted::Sent(Packet { sequence: 2, ..sent() })));
-    assert_eq!(store.handle(&send(60)), Err(Refusal::NoFreeRecord));
-    assert_eq!(fresh().handle(&send(0)), Err(Refusal::NoTimeout));
-    assert_eq!(fresh().handle(&send(50)), Err(Refusal::TimeoutPassed));
-    assert!(fresh().handle(&send(51)).is_ok());
+    assert_eq!(store.handle(send(60)), Ok(Emitted::Sent(sent())));
+    assert_eq!(store.handle(send(60)), Ok(Emitted::Sent(Packet { sequence: 2, ..sent() })));
+    assert_eq!(store.handle(send(60)), Err(Refusal::NoFreeRecord));
+    assert_eq!(fresh().handle(send(0)), Err(Refusal::NoTimeout));
+    assert_eq!(fresh().handle(send(50)), Err(Refusal::TimeoutPassed));
+    assert!(fresh().handle(send(51)).is_ok());
     let by_other = Datagram::send(&Context { port: 6, ..CONTEXT }, 7, at(60), DIGEST);
     assert_eq!(fresh().handle(by_other), Err(Refusal::NotOwner));
 }
