@@ -25,8 +25,8 @@ extern "C" {
     ///
     /// # Safety
     ///
-    /// `store` is valid for reads and writes of `store_len` bytes and `openings` for reads of `openings_len` bytes. They
-    /// do not overlap, and nobody else reads or writes them meanwhile. A pointer with the length 0 may be null.
+    /// `store` is valid for reads and writes of `store_len` bytes and `openings` for reads of `openings_len` bytes.
+    /// They do not overlap, and nobody else reads or writes them meanwhile. A pointer with the length 0 may be null.
     pub fn route_make_store(store: *mut u8, store_len: usize, openings: *const u8, openings_len: usize) -> u8;
 
     /// The length of a store with so many packet records, 0 where no store has so many.

@@ -58,7 +58,8 @@ pub struct Block {
 
 /// When a packet is late: from a height of the receiving ledger on, from a time on, or from either.
 ///
-/// Whose height it is depends on who asks: at the packet's sender it is the other ledger's, at its receiver the own one.
+/// Whose height it is depends on who asks: at the packet's sender it is the other ledger's, at its receiver the own
+/// one.
 ///
 /// ```
 /// use route::{OtherHeight, OwnHeight, Timeout};

@@ -32,8 +32,8 @@ impl Claim {
 
 /// What the light client found, at a block of the other ledger to which no more calls are added.
 ///
-/// The four functions make the verdicts that the datagrams need. Whether a verdict is true is the light client's to say;
-/// [`Store::holds`](crate::Store::holds) tells it of a store that is at hand.
+/// The four functions make the verdicts that the datagrams need. Whether a verdict is true is the light client's to
+/// say; [`Store::holds`](crate::Store::holds) tells it of a store that is at hand.
 #[derive(Clone, Copy, Debug, PartialEq, Eq, Hash)]
 pub struct Verdict {
     /// What it says.

@@ -92,8 +92,10 @@ impl History {
         if left.number != 0 {
             return;
         }
-        if length < OUTPUT || !fit(&left.store) {
-            outcome.broken.push(format!("{place}: accepted with a short output, or the store is not fit any more"));
+        if length < OUTPUT || !fit(&left.store) || read(&datagram).is_none() {
+            outcome
+                .broken
+                .push(format!("{place}: accepted with a short output or malformed, or the store is unfit now"));
             return;
         }
         self.tally.take(at, &left.output, &left.store);

@@ -93,9 +93,10 @@ fn wrong_histories_break_promises() {
 fn workload_is_mixed() {
     for records in [8, 64] {
         let workload = workload(SEED, records, 4_000);
-        println!("{records}: {:?}", workload.answers);
+        println!("{records}: {:?}, free {}", workload.answers, workload.free);
         let refusals = workload.answers[1..].iter().filter(|count| **count > 0).count();
         assert!(workload.answers[0] > 2_000 && refusals >= 12 && workload.answers[1] == 0);
+        assert!(workload.answers[20] > 20 && workload.free < 2 * 4_000);
         assert_eq!(kinds_accepted(&workload), BTreeSet::from([1, 2, 3, 4, 5]));
     }
 }
