@@ -1,7 +1,7 @@
 -- What a slot holds, tested on its bytes. Assumes nothing.
-use mathlib.Core.Path.{_≡_, refl, sym, ap, _∙_}
-use mathlib.Core.Bool.{Bool, true, false, not}
-use mathlib.Core.List.{List, [], _∷_, map}
+use mathlib.Core.Path.{_≡_, refl, _∙_}
+use mathlib.Core.Bool.{Bool, not}
+use mathlib.Core.List.{List, [], _∷_}
 use mathlib.Core.Option.{Option, none, some}
 use Prim.Native.Nat.{ℕ, suc, _+_, _<_}
 use native.Mathlib.Nat.{add-zero}
@@ -15,13 +15,12 @@ use Rattle.wire.proofs.PartLaws.{and-assoc}
 use Rattle.store.specs.declared.Channel.{Channel}
 use Rattle.store.specs.declared.Record.{Record}
 use Rattle.store.specs.declared.Found.the-variants.{At}
-use Rattle.store.specs.Table.{find, all, distinct, isNumbered, Key, hasKey}
+use Rattle.store.specs.Table.{find, isNumbered, Key, hasKey}
 use Rattle.store.specs.Limits.{channelLimit}
 use Rattle.store.specs.Layout.{headerSize, slotSize, recordsFrom, sizeFor, roomIn}
 use Rattle.store.specs.Layout.{channelIn, recordIn, slotIn, storeIn}
-use Rattle.store.specs.Scan.{indexWhere, isFree, holds}
-use Rattle.store.specs.SlotTest.{everySlot, fitsBefore, isAt}
-use Rattle.store.proofs.TestLaws.{and-true, and-false, and-comm, and-swap, holds-then, fails-then}
+use Rattle.store.specs.Scan.{indexWhere, isAt, isFree, holds}
+use Rattle.store.proofs.TestLaws.{and-true, and-false, and-comm}
 use Rattle.store.proofs.FitLaws.{length-read}
 use Rattle.store.proofs.SlotLaws.{field-part}
 use Rattle.store.proofs.ScanLaws.{found-below}
@@ -68,42 +67,6 @@ module _ {A : Type 0} where
   find-at t n (none ∷ xs) = find-at t (suc n) xs
   find-at t n (some x ∷ xs) =
       cases (t x) (λ e. rw (find, e)) (λ e. rw (find, e) (find-at t (suc n) xs))
-
-  -- ALL AND DISTINCT, of a table that is read, in one scan
-  module _ (t : A → Bool) (u : A → A → Bool) (g : List ℕ → A) where
-    abbrev pub slotFits : List ℕ → List (List ℕ) → Bool
-    slotFits p behind = fitsBefore t u (slotIn g p) (map (slotIn g) behind)
-
-    fits-cons : (x : Option A) (xs : List (Option A)) →
-        (all t (x ∷ xs) and distinct u (x ∷ xs)) ≡ (fitsBefore t u x xs and (all t xs and distinct u xs))
-    unfolding all distinct fitsBefore _and_
-    fits-cons none xs = refl
-    fits-cons (some x) xs = and-swap (t x) (all t xs) (not (isSome (find (u x) xs))) (distinct u xs)
-
-    pub fits-table : (ps : List (List ℕ)) →
-        (all t (map (slotIn g) ps) and distinct u (map (slotIn g) ps)) ≡ everySlot slotFits ps
-    unfolding all distinct everySlot _and_
-    fits-table [] = refl
-    fits-table (p ∷ ps) = fits-cons (slotIn g p) (map (slotIn g) ps) ∙ rw (fits-table ps)
-
-    -- A SLOT, tested: its bytes are zero; or x is read there and fails; or x passes, and f tells of another of its name
-    module _ (p : List ℕ) (xs : List (Option A)) {zero : Bool} (bytes : zero ≡ areZero p) where
-      pub slot-free : zero ≡ true → true ≡ fitsBefore t u (slotIn g p) xs
-      unfolding fitsBefore slotIn
-      slot-free h = let e = sym bytes ∙ h in rw (slotIn, e)
-
-      module _ (held : zero ≡ false) {x : A} {r : Bool} (read : x ≡ g p) (tested : r ≡ t x) where
-        slot-held : fitsBefore t u (slotIn g p) xs ≡ (t x and not (isSome (find (u x) xs)))
-        unfolding fitsBefore slotIn
-        slot-held = let e = sym bytes ∙ held in rw (slotIn, e, read)
-
-        pub slot-unfit : not r ≡ true → false ≡ fitsBefore t u (slotIn g p) xs
-        slot-unfit h = rw (slot-held, fails-then (not (isSome (find (u x) xs))) tested h)
-
-        pub slot-fit : not r ≡ false → (n : ℕ) {f : Bool} → f ≡ isAt (indexWhere (holds (u x)) n xs) →
-            not f ≡ fitsBefore t u (slotIn g p) xs
-        slot-fit h n found =
-            rw (slot-held, holds-then (not (isSome (find (u x) xs))) tested h, find-at (u x) n xs, found)
 
 -- AN INDEX that a scan of a store's table found is one of the table's
 module _ (i : ℕ) (bs : List ℕ) where

@@ -1,0 +1,32 @@
+-- By the tests that led to each answer. Assumes nothing.
+use native.Mathlib.Omega.{arith}
+use borrow.Author.Needs.{needs}
+use borrow.Author.Tests.{le-leb, lt-leb}
+use Rattle.wire.specs.Choice.{_and_}
+use Rattle.store.specs.Limits.{recordLimit}
+use Rattle.store.specs.Layout.{sizeFor}
+use Rattle.store.specs.Fit.{sizeFits}
+use Rattle.store.proofs.size.size_fits.Statement.{statement}
+use Rattle.store.proofs.size.size_fits.Tie as tie
+
+returns : tie.Need-returns
+unfolding sizeFits _and_
+returns c = rw (lt-leb (sizeFor 1) (c .before .args .size) (omega arith))
+
+returns-2 : tie.Need-returns-2
+unfolding sizeFits _and_
+returns-2 c =
+    let n = c .before .before .args .size in
+    rw (le-leb (sizeFor 1) n (omega arith), lt-leb n (sizeFor recordLimit) (omega arith))
+
+returns-3 : tie.Need-returns-3
+unfolding sizeFits _and_
+returns-3 c =
+    let n = c .before .before .args .size in
+    rw (le-leb (sizeFor 1) n (omega arith), le-leb n (sizeFor recordLimit) (omega arith))
+
+pub size-fits-spec : {M : Type 1} → statement M
+size-fits-spec =
+    tie.close
+    (tie.spec
+    (λ c. search needs) returns (λ c. search needs) (λ c. search needs) returns-2 (λ c. search needs) returns-3)
