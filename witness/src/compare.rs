@@ -4,6 +4,7 @@ use crate::coverage::Coverage;
 use crate::fit::fit;
 use crate::generate::{Call, Generator, Task};
 use crate::subject::{witness_handle, witness_make_store, Left, Subject};
+use crate::table::applying;
 
 /// Differences beyond this many are counted and not kept.
 const KEPT: usize = 20;
@@ -48,13 +49,22 @@ fn compare_call(subject: &Subject, call: &Call, index: u64, report: &mut Report)
             return;
         }
     };
-    report.coverage.count(call, expected.number);
+    let applying = applying_to(call, &expected);
+    report.coverage.count(call, expected.number, &applying);
     let found = differences(&expected, &given);
     if !found.is_empty() {
         note(report, call, index, found);
     }
-    if let Some(fault) = witness_fault(call, &expected) {
+    if let Some(fault) = witness_fault(call, &expected, &applying) {
         report.witness_faults.push(format!("call {index}, {:?}: {fault}", call.origin));
+    }
+}
+
+/// The refusals that apply, by the table; those of the maker have none and are taken from the answer.
+fn applying_to(call: &Call, expected: &Left) -> Vec<u8> {
+    match &call.task {
+        Task::Handle { store, output, datagram } => applying(store, output.len(), datagram),
+        _ => Some(expected.number).filter(|number| *number != 0).into_iter().collect(),
     }
 }
 
@@ -97,9 +107,12 @@ fn first_difference(expected: &[u8], given: &[u8]) -> Option<usize> {
     differs.or((expected.len() != given.len()).then_some(expected.len().min(given.len())))
 }
 
-/// Three laws that are independent of how the witness decides: a call made for an answer gets it, a refusal
-/// changes nothing, an acceptance leaves a fit store and nothing behind what it emits.
-fn witness_fault(call: &Call, left: &Left) -> Option<String> {
+/// Laws that are independent of how the witness decides: a call made for an answer gets it, the lowest refusal of the
+/// table is given, a refusal changes nothing, an acceptance leaves a fit store and nothing behind what it emits.
+fn witness_fault(call: &Call, left: &Left, applying: &[u8]) -> Option<String> {
+    if left.number != applying.first().copied().unwrap_or(0) {
+        return Some(format!("{applying:?} apply, got {}", left.number));
+    }
     if call.intended.is_some_and(|intended| intended != left.number) {
         return Some(format!("made for {:?}, got {}", call.intended, left.number));
     }

@@ -1,20 +1,24 @@
-//! How often each answer came for each kind of datagram, and what the calls were made for.
+//! How often each answer came for each kind of datagram, and which cells were reached.
 
-use std::collections::{BTreeMap, BTreeSet};
+pub mod cell;
+
+use std::collections::BTreeMap;
 use std::fmt;
 
 use crate::bytes::get_u16;
-use crate::generate::{damage, fault, malform, Call, Origin, Task};
+use crate::generate::{Call, Origin, Row, Task};
 use crate::places::frame;
+use crate::refusal::*;
+use cell::{Cell, KINDS, SORTS};
 
-const COLUMNS: [&str; 7] = ["send", "receive", "write", "acknow.", "time out", "other", "maker"];
-const OTHER: usize = 5;
-const MAKER: usize = 6;
+const COLUMNS: usize = KINDS.len() + 2;
+const OTHER: usize = KINDS.len();
+const MAKER: usize = KINDS.len() + 1;
 const ANSWERS: usize = 25;
 
 /// A count for each answer and each kind of datagram.
 #[derive(Default)]
-pub struct Table([[u64; COLUMNS.len()]; ANSWERS]);
+pub struct Table([[u64; COLUMNS]; ANSWERS]);
 
 impl Table {
     fn add(&mut self, column: usize, number: u8) {
@@ -32,7 +36,7 @@ impl Table {
 impl fmt::Display for Table {
     fn fmt(&self, out: &mut fmt::Formatter) -> fmt::Result {
         write!(out, "{:>6}", "No.")?;
-        COLUMNS.iter().try_for_each(|name| write!(out, "{name:>10}"))?;
+        KINDS.iter().chain(&["other", "maker"]).try_for_each(|name| write!(out, "{name:>10}"))?;
         writeln!(out)?;
         for (number, row) in self.0.iter().enumerate().filter(|(_, row)| row.iter().any(|count| *count > 0)) {
             write!(out, "{number:>6}")?;
@@ -50,51 +54,60 @@ impl fmt::Display for Table {
 #[derive(Default)]
 pub struct Coverage {
     answers: Table,
-    /// Calls at which this refusal was aimed and no other.
-    alone: Table,
-    pairs: BTreeMap<(u16, u8, u8), u64>,
-    damages: [u64; damage::KINDS.len()],
-    ways: [u64; malform::WAYS.len()],
-    lengths: u64,
+    cells: BTreeMap<Cell, u64>,
 }
 
 impl Coverage {
-    pub fn count(&mut self, call: &Call, number: u8) {
-        let column = match &call.task {
-            Task::Handle { datagram, .. } => column_of(datagram),
-            _ => MAKER,
-        };
-        self.answers.add(column, number);
+    fn reach(&mut self, cell: Cell) {
+        *self.cells.entry(cell).or_default() += 1;
+    }
+
+    /// Counts a call with its answer and all refusals that applied to it: what it was aimed at counts only where
+    /// it was hit.
+    pub fn count(&mut self, call: &Call, number: u8, applying: &[u8]) {
+        match &call.task {
+            Task::Handle { datagram, .. } => {
+                let column = column_of(datagram);
+                self.answers.add(column, number);
+                if column < OTHER {
+                    self.reach(Cell::Answer(column as u16 + 1, number));
+                }
+            }
+            _ => {
+                self.answers.add(MAKER, number);
+                self.reach(Cell::Maker(number));
+            }
+        }
         match call.origin {
-            // By the kind that the datagram was made as: malformed bytes may say another.
-            Origin::Fault(kind, number) => self.alone.add(usize::from(kind) - 1, number),
-            Origin::Pair(kind, low, high) => *self.pairs.entry((kind, low, high)).or_default() += 1,
-            Origin::Damaged(kind) => self.damages[kind] += 1,
-            Origin::Malformed(way) => self.ways[way] += 1,
+            Origin::Fault(row, aim) if applying == [aim] => self.reach(Cell::Alone(row, aim)),
+            Origin::Pair(row, low, high) if both_hit(applying, low, high) => self.reach(Cell::Pair(row, low, high)),
+            Origin::Damaged(way) => self.reach(Cell::Damage(way)),
+            Origin::Malformed(kind, way) => self.reach(Cell::Way(kind, way)),
             _ => {}
         }
     }
 
     pub fn count_length(&mut self) {
-        self.lengths += 1;
+        self.reach(Cell::Length);
     }
 
-    /// How many kinds of damage and ways of malforming were never tried.
-    pub fn untried(&self) -> usize {
-        self.damages.iter().chain(&self.ways).filter(|count| **count == 0).count()
+    /// The cells that can be reached and were not.
+    pub fn unmet(&self) -> Vec<Cell> {
+        cell::possible().into_iter().filter(|cell| !self.cells.contains_key(cell)).collect()
     }
 
-    /// Pairs tried and pairs possible for one kind of datagram.
-    pub fn pairs(&self, kind: u16) -> (usize, usize) {
-        let possible = possible_pairs(kind);
-        let tried = possible.iter().filter(|(low, high)| self.pairs.contains_key(&(kind, *low, *high)));
-        (tried.count(), possible.len())
+    /// Cells reached and cells possible, of this sort, and the rarest one that was reached.
+    fn of_sort(&self, sort: usize) -> (usize, usize, Option<(Cell, u64)>) {
+        let possible: Vec<Cell> = cell::possible().into_iter().filter(|cell| cell.sort() == sort).collect();
+        let reached = possible.iter().filter_map(|cell| Some((*cell, *self.cells.get(cell)?)));
+        (reached.clone().count(), possible.len(), reached.min_by_key(|(_, count)| *count))
     }
+}
 
-    fn rarest_pair(&self, kind: u16) -> Option<(u8, u8, u64)> {
-        let own = self.pairs.iter().filter(|((of, ..), _)| *of == kind);
-        own.map(|((_, low, high), count)| (*low, *high, *count)).min_by_key(|(.., count)| *count)
-    }
+/// Behind an unfit store, malformed bytes or a missing channel no line can be asked, so the higher one is as aimed.
+fn both_hit(applying: &[u8], low: u8, high: u8) -> bool {
+    let hidden = low == NO_CHANNEL || matches!(low, STORE_NOT_FIT | MALFORMED) && high > MALFORMED;
+    applying.contains(&low) && (hidden || applying.contains(&high))
 }
 
 fn column_of(datagram: &[u8]) -> usize {
@@ -107,38 +120,41 @@ fn column_of(datagram: &[u8]) -> usize {
     }
 }
 
-/// The pairs that can apply together on a channel of either order.
-fn possible_pairs(kind: u16) -> BTreeSet<(u8, u8)> {
-    let mut pairs = BTreeSet::new();
-    for ordered in [false, true] {
-        let numbers: Vec<u8> = [1, 2, 3].iter().chain(fault::possible(kind, ordered)).copied().collect();
-        for low in &numbers {
-            let higher = numbers.iter().filter(|high| *high > low && !fault::exclude_each_other(*low, **high));
-            pairs.extend(higher.map(|high| (*low, *high)));
-        }
-    }
-    pairs
-}
-
 impl fmt::Display for Coverage {
     fn fmt(&self, out: &mut fmt::Formatter) -> fmt::Result {
         writeln!(out, "Answers by kind of datagram\n{}", self.answers)?;
-        writeln!(out, "Aimed at alone\n{}", self.alone)?;
-        writeln!(out, "Pairs of refusals that apply together")?;
+        writeln!(out, "Refusals that applied alone, and pairs that applied together")?;
+        for row in cell::rows() {
+            let counts: Vec<String> = self.alone(row).map(|(number, count)| format!("{number}:{count}")).collect();
+            let of_row = |cell: &&Cell| matches!(cell, Cell::Pair(of, ..) if *of == row);
+            let pairs = self.cells.keys().filter(of_row).count();
+            writeln!(out, "{:>20}  {}; {pairs} pairs", row.to_string(), counts.join(" "))?;
+        }
+        writeln!(out, "\nCoverage")?;
         for kind in 1..=5 {
-            let (tried, possible) = self.pairs(kind);
-            let (low, high, count) = self.rarest_pair(kind).unwrap_or_default();
-            let name = COLUMNS[usize::from(kind) - 1];
-            writeln!(out, "{name:>10}: {tried} of {possible} tried, the rarest ({low} with {high}) {count} times")?;
+            let (met, unmet): (Vec<u8>, Vec<u8>) =
+                cell::answers(kind).iter().partition(|number| self.cells.contains_key(&Cell::Answer(kind, **number)));
+            let missed = if unmet.is_empty() { "all of its row".to_string() } else { format!("NOT {}", list(&unmet)) };
+            writeln!(out, "{:>20}  meets {}: {missed}", cell::name(kind), list(&met))?;
         }
-        writeln!(out, "\nDamage to the store")?;
-        for ((name, _), count) in damage::KINDS.iter().zip(self.damages) {
-            writeln!(out, "{count:>10}  {name}")?;
+        for (sort, name) in SORTS.iter().enumerate() {
+            let (reached, possible, rarest) = self.of_sort(sort);
+            let rarest = rarest.map_or(String::new(), |(cell, count)| format!(", the rarest {count} times ({cell})"));
+            writeln!(out, "{name:>20}  {reached} of {possible}{rarest}")?;
         }
-        writeln!(out, "\nWays of malforming")?;
-        for ((name, _), count) in malform::WAYS.iter().zip(self.ways) {
-            writeln!(out, "{count:>10}  {name}")?;
-        }
-        writeln!(out, "\nStore lengths compared: {}", self.lengths)
+        Ok(())
     }
+}
+
+impl Coverage {
+    fn alone(&self, row: Row) -> impl Iterator<Item = (u8, u64)> + '_ {
+        self.cells.iter().filter_map(move |(cell, count)| match cell {
+            Cell::Alone(of, number) if *of == row => Some((*number, *count)),
+            _ => None,
+        })
+    }
+}
+
+fn list(numbers: &[u8]) -> String {
+    numbers.iter().map(u8::to_string).collect::<Vec<_>>().join(" ")
 }

@@ -72,5 +72,5 @@ fn record_allowed(store: &[u8], record: &Record, end: &Channel) -> bool {
 
 /// No record before this one has its kind, channel and sequence.
 fn record_is_first(store: &[u8], index: usize, own: u128) -> bool {
-    records(&store[..record_place(index)]).all(|before| key_of(before) != own)
+    records(&store[..record_place(index)]).all(|before| !has_key(before, own))
 }

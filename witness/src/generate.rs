@@ -12,10 +12,11 @@ pub mod malform;
 pub mod rng;
 pub mod shape;
 
-use crate::datagram::ACKNOWLEDGE;
-use crate::places::OUTPUT;
+use crate::bytes::get_u16;
+use crate::datagram::*;
+use crate::places::{frame, OUTPUT};
 use crate::refusal::*;
-pub use call::{Call, Origin, Task};
+pub use call::{Call, Origin, Row, Task};
 use draft::Draft;
 use rng::Rng;
 
@@ -56,6 +57,15 @@ impl Generator {
         (0..12).find_map(|_| grow::any_accepted(&mut self.rng, &self.store))
     }
 
+    /// A draft to be spoiled: it closes nothing, so all kinds come alike on channels of both orders.
+    fn draft_to_spoil(&mut self) -> Option<Draft> {
+        let kind = self.rng.pick(&[SEND, RECEIVE, WRITE, ACKNOWLEDGE, TIME_OUT]);
+        let ordered = self.rng.one_in(2);
+        (0..12).find_map(|_| {
+            accept::accepted(&mut self.rng, &self.store, kind).filter(|draft| draft.row().ordered == ordered)
+        })
+    }
+
     /// A call made for the answer 0; the store goes on with what it leaves.
     fn accepted(&mut self) -> Call {
         if self.rng.one_in(4) {
@@ -74,8 +84,8 @@ impl Generator {
     /// A call at which one refusal is aimed, or two.
     fn with_faults(&mut self, two: bool) -> Call {
         for _ in 0..20 {
-            let Some(draft) = self.draft() else {
-                break;
+            let Some(draft) = self.draft_to_spoil() else {
+                continue;
             };
             let mut numbers = vec![self.fault(&draft)];
             if two {
@@ -89,17 +99,17 @@ impl Generator {
     }
 
     fn fault(&mut self, draft: &Draft) -> u8 {
-        let possible = fault::possible(draft.kind, draft.end().is_ordered());
-        let number = self.rng.index(possible.len() + 3);
-        possible.get(number).copied().unwrap_or_else(|| 1 + (number - possible.len()) as u8)
+        let numbers = fault::aims(draft.row());
+        self.rng.pick(&numbers)
     }
 
     fn spoiled(&mut self, mut draft: Draft, mut numbers: Vec<u8>) -> Option<Call> {
         numbers.sort_unstable();
         let (low, high) = (numbers[0], numbers[numbers.len() - 1]);
-        // No counter alone keeps an acknowledge out: see `fault::counter_at_end`.
-        let never_alone = draft.kind == ACKNOWLEDGE && low == COUNTER_AT_END;
-        if never_alone || numbers.len() == 2 && (low == high || fault::exclude_each_other(low, high)) {
+        let row = draft.row();
+        let possible =
+            if numbers.len() == 2 { fault::pair_possible(low, high) } else { fault::alone_possible(row, low) };
+        if !possible {
             return None;
         }
         let from_table = numbers.iter().rev().filter(|number| **number >= BEFORE_LAST && **number != OTHER_VERDICT);
@@ -120,10 +130,9 @@ impl Generator {
         if numbers.contains(&STORE_NOT_FIT) {
             damage::damage(&mut self.rng, &mut draft.store);
         }
-        let also_out_of_order = draft.kind == ACKNOWLEDGE && high == COUNTER_AT_END;
+        let also_out_of_order = row.kind == ACKNOWLEDGE && high == COUNTER_AT_END;
         let intended = if also_out_of_order { low.min(OUT_OF_ORDER) } else { low };
-        let kind = draft.kind;
-        let origin = if numbers.len() == 2 { Origin::Pair(kind, low, high) } else { Origin::Fault(kind, low) };
+        let origin = if numbers.len() == 2 { Origin::Pair(row, low, high) } else { Origin::Fault(row, low) };
         let task = Task::Handle { store: draft.store, output, datagram };
         Some(Call { origin, task, intended: Some(intended) })
     }
@@ -144,7 +153,8 @@ impl Generator {
         let mut call = self.accepted();
         match &mut call.task {
             Task::Handle { datagram, .. } if call.origin == Origin::Accepted => {
-                call.origin = Origin::Malformed(malform::malform(&mut self.rng, datagram));
+                let kind = get_u16(datagram, frame::KIND);
+                call.origin = Origin::Malformed(kind, malform::malform(&mut self.rng, datagram));
                 call.intended = Some(MALFORMED);
             }
             _ => {}

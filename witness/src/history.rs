@@ -14,7 +14,7 @@ use crate::generate::rng::Rng;
 use crate::generate::shape::channels;
 use crate::places::{frame, OUTPUT};
 use crate::store::*;
-use crate::subject::{witness_handle, Subject};
+use crate::subject::{witness_handle, witness_make_store, Subject};
 use ledger::Ledger;
 use tally::Tally;
 
@@ -37,7 +37,7 @@ pub fn run(subject: &Subject, histories: u64, seed: u64, truthful: bool) -> Outc
     let mut outcome = Outcome::default();
     for number in 0..histories {
         let rng = Rng::new(seed ^ Rng::new(number).draw());
-        let mut history = History::new(rng, truthful);
+        let mut history = History::new(subject, rng, truthful, &mut outcome);
         for step in 0..STEPS {
             history.step(subject, &mut outcome, &format!("history {number}, step {step}"));
         }
@@ -58,10 +58,18 @@ struct History {
 }
 
 impl History {
-    fn new(mut rng: Rng, truthful: bool) -> History {
-        let (stores, paired) = opening::two_stores(&mut rng);
-        let tally = Tally::new(truthful, paired);
-        History { rng, truthful, ledgers: stores.map(Ledger::new), sent: Vec::new(), tally }
+    /// Both stores are made by the subject, over bytes that were something else before.
+    fn new(subject: &Subject, mut rng: Rng, truthful: bool, outcome: &mut Outcome) -> History {
+        let (lists, ends) = opening::two_lists(&mut rng);
+        let ledgers = lists.map(|list| {
+            let length = store_length(4 + rng.index(60));
+            let slice = rng.bytes(length);
+            let left = subject.make_store(&slice, &list, 0);
+            let found = differences(&witness_make_store(&slice, &list), &left);
+            outcome.differences.extend(found.iter().map(|text| format!("maker: {text}")));
+            Ledger::new(left.store)
+        });
+        History { rng, truthful, ledgers, sent: Vec::new(), tally: Tally::new(truthful, ends) }
     }
 
     /// Tries one call on one of the ledgers; in a truthful history a lie is not told.
@@ -84,8 +92,10 @@ impl History {
         if left.number != 0 {
             return;
         }
-        if length < OUTPUT || !fit(&left.store) {
-            outcome.broken.push(format!("{place}: accepted with a short output, or the store is not fit any more"));
+        if length < OUTPUT || !fit(&left.store) || read(&datagram).is_none() {
+            outcome
+                .broken
+                .push(format!("{place}: accepted with a short output or malformed, or the store is unfit now"));
             return;
         }
         self.tally.take(at, &left.output, &left.store);

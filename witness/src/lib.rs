@@ -15,11 +15,13 @@ pub mod history;
 pub mod maker;
 pub mod places;
 pub mod refusal;
+pub mod replay;
 #[cfg(feature = "route")]
 pub mod route;
 pub mod rules;
 pub mod store;
 pub mod subject;
+pub mod table;
 pub mod workload;
 
 #[cfg(test)]

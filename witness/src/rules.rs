@@ -157,7 +157,7 @@ impl Call<'_> {
 }
 
 /// A timeout of 0 is none; any other is passed from the moment that equals it.
-fn reached(now: u64, timeout: u64) -> bool {
+pub fn reached(now: u64, timeout: u64) -> bool {
     timeout != 0 && now >= timeout
 }
 
@@ -165,7 +165,7 @@ fn raised(counter: u64) -> Result<u64, u8> {
     counter.checked_add(1).ok_or(COUNTER_AT_END)
 }
 
-fn shows_commitment(verdict: &Verdict, packet: &Packet) -> bool {
+pub fn shows_commitment(verdict: &Verdict, packet: &Packet) -> bool {
     verdict.claim == COMMITMENT_PRESENT
         && verdict.port == packet.source_port
         && verdict.channel == packet.source_channel
@@ -183,7 +183,7 @@ fn about_destination(verdict: &Verdict, packet: &Packet) -> bool {
         && verdict.timeout_timestamp == 0
 }
 
-fn shows_acknowledgement(verdict: &Verdict, packet: &Packet, acknowledgement: &Digest) -> bool {
+pub fn shows_acknowledgement(verdict: &Verdict, packet: &Packet, acknowledgement: &Digest) -> bool {
     verdict.claim == ACKNOWLEDGEMENT_PRESENT
         && about_destination(verdict, packet)
         && verdict.sequence == packet.sequence
@@ -191,7 +191,7 @@ fn shows_acknowledgement(verdict: &Verdict, packet: &Packet, acknowledgement: &D
 }
 
 /// On an ordered channel any sequence will do here: whether it is the packet's is a matter of order.
-fn shows_not_received(verdict: &Verdict, packet: &Packet, ordered: bool) -> bool {
+pub fn shows_not_received(verdict: &Verdict, packet: &Packet, ordered: bool) -> bool {
     let claimed = if ordered {
         verdict.claim == NEXT_RECV_EQUALS
     } else {

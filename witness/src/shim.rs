@@ -11,12 +11,14 @@ use crate::subject::{Handle, Subject};
 pub const RIGHT: Subject = with(right);
 
 /// Handlers that each break one rule.
-pub const WRONG: [(&str, Handle); 8] = [
+pub const WRONG: [(&str, Handle); 10] = [
     ("refuses always", refuses_always),
+    ("answers 0 always", answers_zero),
     ("accepts and stores nothing", stores_nothing),
     ("delivers without a receipt", WITHOUT_RECEIPT),
     ("frees every commitment at an acknowledgement", FREES_ALL),
     ("receives at the very timeout", AT_TIMEOUT),
+    ("receives out of order", OUT_OF_TURN),
     ("gives 7 before 6", seven_before_six),
     ("changes the last height on refusal 20", changes_on_refusal),
     ("writes behind the output", writes_behind),
@@ -25,6 +27,7 @@ pub const WRONG: [(&str, Handle); 8] = [
 pub const WITHOUT_RECEIPT: Handle = without_receipt;
 pub const FREES_ALL: Handle = frees_all;
 pub const AT_TIMEOUT: Handle = at_timeout;
+pub const OUT_OF_TURN: Handle = out_of_turn;
 
 pub const fn with(handle: Handle) -> Subject {
     Subject { handle, make_store, store_length }
@@ -73,6 +76,8 @@ behind_c!(refuses_always, |store, output, datagram| match crate::handle(
 
 const NO_REASON: u8 = 20;
 
+behind_c!(answers_zero, |store, output, datagram| (0, crate::handle(store, output, datagram).1));
+
 behind_c!(stores_nothing, |store, output, datagram| crate::handle(&mut store.to_vec(), output, datagram));
 
 behind_c!(without_receipt, |store, output, datagram| {
@@ -118,6 +123,23 @@ behind_c!(at_timeout, |store, output, datagram| {
     let answer = crate::handle(store, output, &untimed);
     if answer.0 == 0 {
         output[frame::BODY..answer.1 as usize].copy_from_slice(&datagram[38..106]);
+    }
+    answer
+});
+
+// Takes the packet that came for the one whose turn it is.
+behind_c!(out_of_turn, |store, output, datagram| {
+    let answer = crate::handle(store, output, datagram);
+    let Some(Body::Receive { packet, .. }) = datagram::read(datagram).filter(|_| answer.0 == 15).map(|read| read.body)
+    else {
+        return answer;
+    };
+    let (index, end) = find_channel(store, packet.dest_channel).expect("15 is given behind 5");
+    let turned = Channel { next_sequence_recv: packet.sequence, ..end };
+    turned.write(&mut store[channel_place(index)..]);
+    let answer = crate::handle(store, output, datagram);
+    if answer.0 != 0 {
+        end.write(&mut store[channel_place(index)..]);
     }
     answer
 });

@@ -13,25 +13,20 @@ const SEED: u64 = 20_240_601;
 /// No difference, nothing missed, and each part of the table reached.
 #[test]
 fn right_handler_passes() {
-    let report = compare(&shim::RIGHT, 20_000, SEED);
+    let report = compare(&shim::RIGHT, 60_000, SEED);
     println!("{}", report.coverage);
     assert_eq!(report.differences, Vec::<String>::new());
     assert_eq!(report.witness_faults, Vec::<String>::new());
-    assert_eq!(report.coverage.untried(), 0);
+    assert_eq!(report.coverage.unmet(), []);
 }
 
-/// The long run, for its coverage table: `cargo test --release -- --ignored --nocapture long_run`.
+/// A short run does not reach everything, and says so.
 #[test]
-#[ignore = "long"]
-fn long_run() {
-    let report = compare(&shim::RIGHT, 200_000, SEED);
-    println!("seed {SEED}\n{}", report.coverage);
-    println!("{} different calls, {:?}", report.different_calls, report.witness_faults);
-    assert!(report.different_calls == 0 && report.witness_faults.is_empty());
-    for kind in 1..=5 {
-        let (tried, possible) = report.coverage.pairs(kind);
-        assert_eq!(tried, possible, "pairs of kind {kind}");
-    }
+fn unmet_cells_are_told() {
+    let report = compare(&shim::RIGHT, 200, SEED);
+    let unmet = report.coverage.unmet();
+    println!("{} unmet, the first: {}", unmet.len(), unmet[0]);
+    assert!(unmet.len() > 20);
 }
 
 #[test]
@@ -78,14 +73,18 @@ fn right_histories_keep_all_promises() {
 /// Counting alone finds these, without the witness beside them.
 #[test]
 fn wrong_histories_break_promises() {
-    for (name, handle) in [
-        ("without receipt", shim::WITHOUT_RECEIPT),
-        ("frees all", shim::FREES_ALL),
-        ("at the very timeout", shim::AT_TIMEOUT),
+    for (name, handle, truthful, promise) in [
+        ("without receipt", shim::WITHOUT_RECEIPT, true, "delivered twice"),
+        ("without receipt", shim::WITHOUT_RECEIPT, false, "delivered twice"),
+        ("frees all", shim::FREES_ALL, true, "left"),
+        ("frees all", shim::FREES_ALL, false, "left"),
+        ("at the very timeout", shim::AT_TIMEOUT, true, "timed out after its delivery"),
+        ("out of turn", shim::OUT_OF_TURN, true, "out of order"),
+        ("out of turn", shim::OUT_OF_TURN, false, "out of order"),
     ] {
-        let outcome = history::run(&shim::with(handle), 100, SEED, true);
+        let outcome = history::run(&shim::with(handle), 100, SEED, truthful);
         println!("{name}: {} broken, first {:?}", outcome.broken.len(), outcome.broken.first());
-        assert!(!outcome.broken.is_empty(), "{name}");
+        assert!(outcome.broken.iter().any(|text| text.ends_with(promise)), "{name}, truthful {truthful}");
     }
 }
 
@@ -94,9 +93,10 @@ fn wrong_histories_break_promises() {
 fn workload_is_mixed() {
     for records in [8, 64] {
         let workload = workload(SEED, records, 4_000);
-        println!("{records}: {:?}", workload.answers);
+        println!("{records}: {:?}, free {}", workload.answers, workload.free);
         let refusals = workload.answers[1..].iter().filter(|count| **count > 0).count();
         assert!(workload.answers[0] > 2_000 && refusals >= 12 && workload.answers[1] == 0);
+        assert!(workload.answers[20] > 20 && workload.free < 2 * 4_000);
         assert_eq!(kinds_accepted(&workload), BTreeSet::from([1, 2, 3, 4, 5]));
     }
 }

@@ -1,7 +1,7 @@
-//! Mixed datagrams for one nearly full store, for measuring.
+//! Mixed datagrams for one full store, for measuring.
 
 use crate::datagram::*;
-use crate::generate::accept::{accepted, later, pick_record};
+use crate::generate::accept::{accepted, pick_record};
 use crate::generate::draft::Draft;
 use crate::generate::fault;
 use crate::generate::making::openings;
@@ -11,10 +11,12 @@ use crate::generate::shape::{channels, fill};
 use crate::places::OUTPUT;
 use crate::store::*;
 
-/// After so many calls the store is set back, so that it stays nearly full of the same mixture.
+/// After so many calls the store is set back, so that it stays full of the same mixture.
 pub const SEGMENT: usize = 100;
-/// Records that are free when a segment begins.
-const FREE_AT_START: usize = 2;
+/// Receipts and acknowledgements written in a segment at most: nothing frees them.
+const KEPT: usize = 4;
+/// With more free records than this the next accepted call is a send, so that the store is never far from full.
+const FREE: usize = 2;
 
 /// Datagrams in segments, each made for the store as the segment's earlier ones leave it.
 pub struct Workload {
@@ -22,17 +24,20 @@ pub struct Workload {
     pub datagrams: Vec<Vec<u8>>,
     /// How often each answer comes.
     pub answers: [u64; 25],
+    /// Free records before each call, all calls together.
+    pub free: u64,
 }
 
 /// A workload of that many datagrams for a store with that many records.
 pub fn workload(seed: u64, records: usize, count: usize) -> Workload {
     let mut rng = Rng::new(seed);
-    let store = nearly_full(&mut rng, records);
-    let mut workload = Workload { store, datagrams: Vec::new(), answers: [0; 25] };
+    let store = full(&mut rng, records);
+    let mut workload = Workload { store, datagrams: Vec::new(), answers: [0; 25], free: 0 };
     while workload.datagrams.len() < count {
         let mut segment = Segment { store: workload.store.clone(), kept: 0 };
         for _ in 0..SEGMENT.min(count - workload.datagrams.len()) {
-            let datagram = segment.next(&mut rng, &workload.store);
+            let datagram = segment.next(&mut rng);
+            workload.free += free_count(&segment.store) as u64;
             let (number, _) = crate::handle(&mut segment.store, &mut [0; OUTPUT], &datagram);
             workload.answers[usize::from(number)] += 1;
             workload.datagrams.push(datagram);
@@ -41,16 +46,16 @@ pub fn workload(seed: u64, records: usize, count: usize) -> Workload {
     workload
 }
 
-/// Eight ends of both orders; at least half of the records are commitments, the rest receipts and
+/// Eight ends of both orders and no free record; at least half of the records are commitments, the rest receipts and
 /// acknowledgements.
-fn nearly_full(rng: &mut Rng, records: usize) -> Vec<u8> {
+fn full(rng: &mut Rng, records: usize) -> Vec<u8> {
     loop {
         let mut store = vec![0; store_length(records)];
         crate::make_store(&mut store, &openings(rng, 8));
         for (index, end) in channels(&store) {
             Channel { next_sequence_recv: 1 + records as u64, ..end }.write(&mut store[channel_place(index)..]);
         }
-        let filled = fill(rng, &mut store, FREE_AT_START, None);
+        let filled = fill(rng, &mut store, 0, None);
         for (index, end) in channels(&store) {
             let next = pick_record(rng, &store, COMMITMENT, end.channel).map_or(1, |(_, record)| record.sequence);
             Channel { next_sequence_ack: next, ..end }.write(&mut store[channel_place(index)..]);
@@ -71,7 +76,7 @@ struct Segment {
 
 impl Segment {
     /// Seven of ten are accepted; the others are refused for many reasons.
-    fn next(&mut self, rng: &mut Rng, start: &[u8]) -> Vec<u8> {
+    fn next(&mut self, rng: &mut Rng) -> Vec<u8> {
         loop {
             let made = match rng.below(20) {
                 0..=13 => self.accepted(rng).map(|draft| draft.encode()),
@@ -81,7 +86,7 @@ impl Segment {
                     bytes
                 }),
                 15 => self.again(rng),
-                16 => self.send_anyway(rng, start),
+                16 => self.send_anyway(rng),
                 _ => self.refused(rng),
             };
             if let Some(datagram) = made {
@@ -92,11 +97,12 @@ impl Segment {
 
     /// No ordered time-out, which would close the channel, and few records that stay.
     fn accepted(&mut self, rng: &mut Rng) -> Option<Draft> {
-        let kind = rng.pick(&[SEND, RECEIVE, WRITE, ACKNOWLEDGE, TIME_OUT]);
+        let any = rng.pick(&[SEND, RECEIVE, WRITE, ACKNOWLEDGE, TIME_OUT]);
+        let kind = if free_count(&self.store) > FREE { SEND } else { any };
         let draft = accepted(rng, &self.store, kind)?;
         let ordered = draft.end().is_ordered();
         let stays = kind == WRITE || kind == RECEIVE && !ordered;
-        if kind == TIME_OUT && ordered || stays && self.kept >= FREE_AT_START {
+        if kind == TIME_OUT && ordered || stays && self.kept >= KEPT {
             return None;
         }
         self.kept += usize::from(stays);
@@ -123,11 +129,15 @@ impl Segment {
         Some(draft.encode())
     }
 
-    /// A send, whether a record is free or not.
-    fn send_anyway(&mut self, rng: &mut Rng, start: &[u8]) -> Option<Vec<u8>> {
-        let mut draft = accepted(rng, start, SEND)?;
-        let (height, time) = later(rng, last_height(&self.store), last_time(&self.store));
-        (draft.context.height, draft.context.time) = (height, time);
-        Some(draft.encode())
+    /// A send, whether a record is free or not: it is made for the store with one commitment less.
+    fn send_anyway(&mut self, rng: &mut Rng) -> Option<Vec<u8>> {
+        let mut store = self.store.clone();
+        let index = (0..record_count(&store)).find(|index| record_at(&store, *index).kind == COMMITMENT)?;
+        Record::FREE.write(&mut store[record_place(index)..]);
+        Some(accepted(rng, &store, SEND)?.encode())
     }
+}
+
+fn free_count(store: &[u8]) -> usize {
+    records(store).filter(|bytes| key_of(bytes) == 0).count()
 }

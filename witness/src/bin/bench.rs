@@ -84,8 +84,9 @@ fn measure(records: usize, rounds: usize) {
         }
     }
     let [library, plain] = times.map(summary);
-    let accepted = workload.answers[0];
-    println!("\nP = {records}: {CALLS} calls, {accepted} accepted, {rounds} rounds each, timed by {chunk}");
+    let (accepted, free) = (workload.answers[0], workload.free as f64 / CALLS as f64);
+    println!("\nP = {records}: {CALLS} calls, {accepted} accepted, {free:.1} records free on average");
+    println!("{rounds} rounds each, timed by {chunk}");
     println!("{:>14}{:>16}{:>16}", "ns per call", "best", "median");
     for (name, [best, median]) in [("library", library), ("plain Rust", plain)] {
         println!("{name:>14}{best:>16.0}{median:>16.0}");
@@ -96,12 +97,12 @@ fn measure(records: usize, rounds: usize) {
 fn main() {
     let rounds = env::args().nth(1).and_then(|text| text.parse().ok()).unwrap_or(DEFAULT_ROUNDS).max(1);
     println!("Time of a call with one datagram, from the call to the answer: fitness of the whole store checked,");
-    println!("refusals asked, store and output written. About seven of ten datagrams are accepted, of all five kinds.");
+    println!("refusals asked, store and output written. Two thirds of the datagrams or more are accepted, of all five");
     println!(
-        "The store is nearly full; it is set back every {SEGMENT} calls, which is not measured. Rounds of the two"
+        "kinds. The store is full at first; it is set back every {SEGMENT} calls, which is not measured. Rounds of"
     );
-    println!("take turns. Few calls are timed at once; best is the sum of the best rounds of these, median that of");
-    println!("their median rounds. Ratio: time of the library over time of the plain Rust. Seed {SEED}.");
+    println!("the two take turns. Few calls are timed at once; best is the sum of the best rounds of these, median");
+    println!("that of their median rounds. Ratio: time of the library over time of the plain Rust. Seed {SEED}.");
     for records in [8, 64, 512] {
         measure(records, rounds);
     }

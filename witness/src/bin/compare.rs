@@ -8,7 +8,8 @@ use witness::compare::compare;
 use witness::history;
 use witness::route::ROUTE;
 
-const DEFAULT_CALLS: u64 = 200_000;
+/// The full run. From some 60,000 calls on every cell of the coverage is met; fewer calls fail for that.
+const DEFAULT_CALLS: u64 = 1_000_000;
 /// One history of each sort for so many calls.
 const CALLS_PER_HISTORY: u64 = 500;
 const SHOWN: usize = 20;
@@ -27,7 +28,7 @@ fn main() -> ExitCode {
     for truthful in [true, false] {
         found += run_histories(calls.div_ceil(CALLS_PER_HISTORY), seed, truthful);
     }
-    println!("\n{found} differences and broken promises in all, seed {seed}");
+    println!("\n{found} differences, broken promises and cells not met in all, seed {seed}");
     ExitCode::from(u8::from(found != 0))
 }
 
@@ -42,7 +43,9 @@ fn compare_calls(calls: u64, seed: u64) -> u64 {
     println!("{} calls differ", report.different_calls);
     show(&report.differences, seed);
     show(&report.witness_faults, seed);
-    report.different_calls + report.witness_faults.len() as u64
+    let unmet: Vec<String> = report.coverage.unmet().iter().map(|cell| format!("not met: {cell}")).collect();
+    show(&unmet, seed);
+    report.different_calls + (report.witness_faults.len() + unmet.len()) as u64
 }
 
 fn run_histories(histories: u64, seed: u64, truthful: bool) -> u64 {
@@ -50,15 +53,16 @@ fn run_histories(histories: u64, seed: u64, truthful: bool) -> u64 {
     let verdicts = if truthful { "true" } else { "lying" };
     println!("\n{histories} histories of two ledgers with {verdicts} verdicts, {} calls", outcome.calls);
     let [sent, delivered, acknowledged, timed_out] = outcome.totals;
-    println!("{sent} packets sent, {acknowledged} acknowledged, {timed_out} timed out");
-    if truthful {
-        println!("{delivered} packets delivered at paired ends");
-    }
+    println!(
+        "{sent} packets sent, {delivered} delivered at paired ends, {acknowledged} acknowledged, {timed_out} timed out"
+    );
     println!("{}", outcome.answers);
     println!("{} calls differ, {} promises broken", outcome.differences.len(), outcome.broken.len());
     show(&outcome.differences, seed);
     show(&outcome.broken, seed);
-    (outcome.differences.len() + outcome.broken.len()) as u64
+    // Counting what never happens would show nothing.
+    let never = outcome.totals.iter().filter(|count| **count == 0).count();
+    (outcome.differences.len() + outcome.broken.len() + never) as u64
 }
 
 fn show(texts: &[String], seed: u64) {

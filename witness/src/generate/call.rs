@@ -8,18 +8,26 @@ pub enum Task {
     StoreLength(usize),
 }
 
+/// The kind of a datagram and the order of the channel that it was made for: each such row of the table has its own
+/// refusals.
+#[derive(Clone, Copy, Debug, PartialEq, Eq, PartialOrd, Ord)]
+pub struct Row {
+    pub kind: u16,
+    pub ordered: bool,
+}
+
 /// How a call came about.
 #[derive(Clone, Copy, Debug, PartialEq, Eq, PartialOrd, Ord)]
 pub enum Origin {
     Accepted,
-    /// A datagram of this kind at which one refusal is aimed.
-    Fault(u16, u8),
-    /// A datagram of this kind to which two refusals apply.
-    Pair(u16, u8, u8),
+    /// One refusal is aimed at.
+    Fault(Row, u8),
+    /// Two refusals are aimed at, the lower one first.
+    Pair(Row, u8, u8),
     /// The store is damaged, in the way of this index.
     Damaged(usize),
-    /// The datagram is malformed, in the way of this index.
-    Malformed(usize),
+    /// The datagram, of this kind, is malformed in the way of this index.
+    Malformed(u16, usize),
     Garbage,
     Flipped,
     Maker,

@@ -1,5 +1,6 @@
 //! A call in the making: a store and a datagram in parts, so that single parts can be spoiled.
 
+use super::call::Row;
 use crate::bytes::*;
 use crate::datagram::*;
 use crate::places::{context, frame, packet, send, verdict, write};
@@ -24,6 +25,10 @@ pub struct Draft {
 impl Draft {
     pub fn end(&self) -> Channel {
         Channel::read(&self.store[channel_place(self.index)..])
+    }
+
+    pub fn row(&self) -> Row {
+        Row { kind: self.kind, ordered: self.end().is_ordered() }
     }
 
     pub fn set_end(&mut self, end: Channel) {

@@ -1,6 +1,7 @@
 //! Spoils a call that would be accepted, so that one refusal of the table applies and no lower one begins to.
 
 use super::accept::pick_record;
+use super::call::Row;
 use super::draft::Draft;
 use super::rng::Rng;
 use super::shape::{channels, fill, place};
@@ -24,10 +25,22 @@ pub fn possible(kind: u16, ordered: bool) -> &'static [u8] {
     }
 }
 
-/// Two refusals that exclude each other: a send without timeouts has none to pass, and in a fit store only a
-/// received packet is acknowledged.
-pub fn exclude_each_other(one: u8, other: u8) -> bool {
-    matches!((one.min(other), one.max(other)), (NO_TIMEOUT, TIMEOUT_PASSED) | (ALREADY_THERE, NOT_RECEIVED))
+/// All refusals that can be aimed at in this row: the first three, which any call can get, and those of its kind.
+pub fn aims(row: Row) -> Vec<u8> {
+    let first = [STORE_NOT_FIT, OUTPUT_SHORT, MALFORMED];
+    first.iter().chain(possible(row.kind, row.ordered)).copied().collect()
+}
+
+/// Whether the refusal can apply without another one. No counter alone keeps an acknowledge out: see
+/// `counter_at_end`.
+pub fn alone_possible(row: Row, number: u8) -> bool {
+    row.kind != ACKNOWLEDGE || number != COUNTER_AT_END
+}
+
+/// Whether two refusals can apply together, the lower one first. A send without timeouts has none to pass, and in a
+/// fit store only a received packet is acknowledged.
+pub fn pair_possible(low: u8, high: u8) -> bool {
+    low < high && !matches!((low, high), (NO_TIMEOUT, TIMEOUT_PASSED) | (ALREADY_THERE, NOT_RECEIVED))
 }
 
 /// Brings one refusal about; several are to be brought about from the highest number down. The verdict has to be
@@ -157,6 +170,8 @@ fn out_of_order(rng: &mut Rng, draft: &mut Draft) -> bool {
             draft.packet.sequence = rng.other_than(end.next_sequence_recv);
             draft.packet.sequence != 0
         }
+        // With the counter at its end, the packet is out of order already.
+        ACKNOWLEDGE if end.next_sequence_ack == u64::MAX => true,
         ACKNOWLEDGE => {
             end.next_sequence_ack = rng.other_than(draft.packet.sequence).max(1);
             draft.set_end(end);

@@ -10,24 +10,31 @@ use crate::places::{context, frame, packet, write};
 
 type Way = fn(&mut Rng, &mut Vec<u8>) -> Option<()>;
 
-/// Each way with its name. A way answers nothing when the datagram has no place for it.
-pub const WAYS: [(&str, Way); 9] = [
-    ("under 6 bytes", under_six),
-    ("length field", length_field),
-    ("kind unknown", kind_unknown),
-    ("length wrong for the kind", wrong_length),
-    ("zero byte", |rng, bytes| flip(rng, bytes, frame::BODY + context::ZEROS, context::LENGTH - context::ZEROS)),
-    ("connection", connection),
-    ("own height 0", |_, bytes| zero(bytes, frame::BODY + context::HEIGHT)),
-    ("sequence 0", sequence_zero),
-    ("claim", claim),
+const ALL_KINDS: &[u16] = &[SEND, RECEIVE, WRITE, ACKNOWLEDGE, TIME_OUT];
+const WITH_SEQUENCE: &[u16] = &[RECEIVE, WRITE, ACKNOWLEDGE, TIME_OUT];
+const WITH_VERDICT: &[u16] = &[RECEIVE, ACKNOWLEDGE, TIME_OUT];
+
+/// Each way with its name and the kinds of datagrams that have a place for it. A way answers nothing when the dice
+/// leave the datagram as it was.
+pub const WAYS: [(&str, &[u16], Way); 9] = [
+    ("under 6 bytes", ALL_KINDS, under_six),
+    ("length field", ALL_KINDS, length_field),
+    ("kind unknown", ALL_KINDS, kind_unknown),
+    ("length wrong for the kind", ALL_KINDS, wrong_length),
+    ("zero byte", ALL_KINDS, zero_byte),
+    ("connection", ALL_KINDS, connection),
+    ("own height 0", ALL_KINDS, |_, bytes| zero(bytes, frame::BODY + context::HEIGHT)),
+    ("sequence 0", WITH_SEQUENCE, sequence_zero),
+    ("claim", WITH_VERDICT, claim),
 ];
 
 /// Malforms a well-formed datagram in one way and answers its index among the ways.
 pub fn malform(rng: &mut Rng, bytes: &mut Vec<u8>) -> usize {
+    let kind = get_u16(bytes, frame::KIND);
     loop {
         let way = rng.index(WAYS.len());
-        if WAYS[way].1(rng, bytes).is_some() {
+        let (_, kinds, change) = WAYS[way];
+        if kinds.contains(&kind) && change(rng, bytes).is_some() {
             return way;
         }
     }
@@ -97,6 +104,10 @@ fn wrong_length(rng: &mut Rng, bytes: &mut Vec<u8>) -> Option<()> {
     (length_of(kind) != Some(bytes.len())).then_some(())
 }
 
+fn zero_byte(rng: &mut Rng, bytes: &mut Vec<u8>) -> Option<()> {
+    flip(rng, bytes, frame::BODY + context::ZEROS, context::LENGTH - context::ZEROS)
+}
+
 fn connection(rng: &mut Rng, bytes: &mut Vec<u8>) -> Option<()> {
     bytes[frame::BODY + context::CONNECTION] = rng.pick(&[2, 3, 0x10, 0x80, 0xff]);
     Some(())
@@ -110,7 +121,6 @@ fn zero(bytes: &mut [u8], at: usize) -> Option<()> {
 fn sequence_zero(_: &mut Rng, bytes: &mut Vec<u8>) -> Option<()> {
     let body = frame::BODY + context::LENGTH;
     match get_u16(bytes, frame::KIND) {
-        SEND => None,
         WRITE => zero(bytes, body + write::SEQUENCE),
         _ => zero(bytes, body + packet::SEQUENCE),
     }
@@ -119,9 +129,8 @@ fn sequence_zero(_: &mut Rng, bytes: &mut Vec<u8>) -> Option<()> {
 fn claim(rng: &mut Rng, bytes: &mut Vec<u8>) -> Option<()> {
     let body = frame::BODY + context::LENGTH;
     let at = match get_u16(bytes, frame::KIND) {
-        RECEIVE | TIME_OUT => body + packet::LENGTH,
         ACKNOWLEDGE => body + packet::LENGTH + 32,
-        _ => return None,
+        _ => body + packet::LENGTH,
     };
     put_u16(bytes, at, rng.pick(&[0, 5, 0x0100, 0x0101, 0x0102, 0x0203, 0x8004, 0xffff]));
     Some(())

@@ -2,6 +2,7 @@
 
 use std::collections::{BTreeMap, BTreeSet};
 
+use super::opening::{End, Ends};
 use crate::bytes::*;
 use crate::datagram::Packet;
 use crate::places::{frame, packet};
@@ -20,22 +21,22 @@ struct Sums {
 
 #[derive(Default)]
 pub struct Tally {
-    /// Whether all verdicts were true: only then are promises made about both ledgers together.
+    /// Whether all verdicts were true. Only then is a delivery held against what the other ledger did; sums,
+    /// finishing, order and single delivery are promised with lies too.
     truthful: bool,
-    /// Ends, by ledger and channel, that are paired, and whether they are ordered.
-    paired: BTreeMap<(usize, u32), bool>,
-    sums: BTreeMap<(usize, u32), Sums>,
+    ends: Ends,
+    sums: BTreeMap<End, Sums>,
     sent: BTreeMap<Name, [u8; packet::LENGTH]>,
     delivered: BTreeSet<Name>,
     finished: BTreeSet<Name>,
     timed_out: BTreeSet<Name>,
-    last_delivered: BTreeMap<(usize, u32), u64>,
+    last_delivered: BTreeMap<End, u64>,
     pub broken: Vec<String>,
 }
 
 impl Tally {
-    pub fn new(truthful: bool, paired: BTreeMap<(usize, u32), bool>) -> Tally {
-        Tally { truthful, paired, ..Tally::default() }
+    pub fn new(truthful: bool, ends: Ends) -> Tally {
+        Tally { truthful, ends, ..Tally::default() }
     }
 
     /// Packets sent, delivered at paired ends, acknowledged and timed out.
@@ -50,7 +51,7 @@ impl Tally {
         let bytes = &emitted[frame::BODY..];
         match get_u16(emitted, frame::KIND) {
             0x0101 => self.take_sent(ledger, get(bytes, 0)),
-            0x0102 if self.truthful => self.take_delivered(ledger, get(bytes, 0)),
+            0x0102 => self.take_delivered(ledger, get(bytes, 0)),
             0x0104 => self.take_finished(ledger, &Packet::read(bytes), false),
             0x0105 => self.take_finished(ledger, &Packet::read(bytes), true),
             _ => {}
@@ -70,16 +71,19 @@ impl Tally {
     fn take_delivered(&mut self, ledger: usize, bytes: [u8; packet::LENGTH]) {
         let packet = Packet::read(&bytes);
         let end = (ledger, packet.dest_channel);
-        let Some(ordered) = self.paired.get(&end).copied() else {
-            return;
-        };
         let name = (1 - ledger, packet.source_channel, packet.sequence);
         let last = self.last_delivered.insert(end, packet.sequence).unwrap_or(0);
+        let ordered = self.ends.ordered.get(&end) == Some(&true);
+        self.note(name, &[(ordered && packet.sequence != last + 1, "delivered out of order")]);
+        // At another end a second delivery of the packet breaks nothing.
+        if !self.ends.paired.contains(&end) {
+            return;
+        }
+        let lied = !self.truthful;
         let faults = [
             (!self.delivered.insert(name), "delivered twice"),
-            (self.sent.get(&name) != Some(&bytes), "not delivered as sent"),
-            (ordered && packet.sequence != last + 1, "delivered out of order"),
-            (self.timed_out.contains(&name), "delivered after its time-out"),
+            (!lied && self.sent.get(&name) != Some(&bytes), "not delivered as sent"),
+            (!lied && self.timed_out.contains(&name), "delivered after its time-out"),
         ];
         self.note(name, &faults);
     }
@@ -96,7 +100,7 @@ impl Tally {
         let faults = [
             (!self.finished.insert(name), "finished twice"),
             (!self.sent.contains_key(&name), "finished and never sent"),
-            (by_timeout && self.delivered.contains(&name), "timed out after its delivery"),
+            (by_timeout && self.truthful && self.delivered.contains(&name), "timed out after its delivery"),
         ];
         self.note(name, &faults);
     }

@@ -1,0 +1,220 @@
+-- What carrying out an accepted datagram may lean on, and why its steps one after another leave the next store.
+-- Assumes nothing.
+use Rattle.wire.proofs.Prelude.{_≡_, refl, sym, ap, subst₂, _∙_, true, List, _⊎_, inl, inr, Option, none, some}
+use Rattle.wire.proofs.Prelude.{ℕ, _≤_, arith, length, ltb-false, not-false}
+use Rattle.wire.specs.Names.{_or_, isSome, Bytes}
+use Rattle.wire.proofs.Laws.{some-if}
+use Rattle.store.specs.declared.End.{End}
+use Rattle.store.specs.declared.Channel.{Channel}
+use Rattle.store.specs.declared.Record.{Record}
+use Rattle.store.specs.declared.Found.the-variants.{At}
+use Rattle.store.specs.Names.{outputLimit, Key, hasKey, isNumbered, commitmentKey, lookup}
+use Rattle.store.specs.Names.{Store, bytesOf, storeIn, isFit}
+use Rattle.store.specs.Effect.{Exact, withTimes, withChannelSlot, withRecordSlot}
+use Rattle.store.specs.Scan.{firstThat, firstFree}
+use Rattle.store.proofs.Laws.{channel-number, fit-fields}
+use Rattle.store.proofs.ScanLaws.{set-insert, set-replace}
+use Rattle.store.proofs.HeldLaws.{Held, fit-exact, held-store}
+use Rattle.datagram.specs.declared.Context.{Context}
+use Rattle.datagram.specs.Names.{datagramIn, kindIn, sizeOfKind, channelFrom, isSound}
+use Rattle.datagram.proofs.Laws.{Sound, sound-is}
+use Rattle.rules.specs.Names.{writes, frees, lowest, table, refusals, orNone, endFor, isCommitted}
+use Rattle.rules.specs.Names.{Effect, effectOf, edited, applied, answerTo, effectIn, nextStore}
+use Rattle.rules.proofs.RefusalLaws.{givenAt, silent, not-given}
+use Rattle.rules.proofs.Accepted.{SendOk, ReceiveOk, WriteOk, AcknowledgeOk, TimeoutOk, send-ok, receive-ok}
+use Rattle.rules.proofs.Accepted.{write-ok, acknowledge-ok, timeout-ok}
+use Rattle.rules.proofs.Step.{committed-there, own-grown}
+use Rattle.rules.proofs.Step as steps
+use Rattle.rules.proofs.Bridge.{Acceptance, accepted-step}
+use Rattle.acceptance.specs.Carried.{Accepts, withEdit}
+
+-- AN ACCEPTED DATAGRAM of a kind
+module _ {s o d : List ℕ} {k : ℕ} {c : Channel} (a : Accepts s o d k c) where
+  -- no line of the table gave a number
+  pub lines : lowest k (table s (length o) d k (storeIn s) (datagramIn d) c) ≡ 0
+  unfolding answerTo
+  lines =
+      subst₂ (λ (n : ℕ) (x : Channel). lowest n (table s (length o) d n (storeIn s) (datagramIn d) x) ≡ 0) (a .kind)
+      (ap (λ (x : Option Channel). orNone x) (a .found)) (a .answer)
+
+  abbrev the-table : List Rattle.rules.specs.Refusals.Line
+  the-table = table s (length o) d k (storeIn s) (datagramIn d) c
+
+  pub store-fit : isFit s ≡ true
+  unfolding table givenAt
+  store-fit = not-false (isFit s) (not-given _ 0 (silent 1 k the-table lines))
+
+  pub store-exact : Exact s
+  store-exact = fit-exact s store-fit
+
+  pub output-room : outputLimit ≤ length o
+  unfolding table givenAt
+  output-room = ltb-false (length o) outputLimit (not-given _ 1 (silent 2 k the-table lines))
+
+  pub kind-read : kindIn d ≡ k
+  unfolding datagramIn
+  kind-read = a .kind
+
+  pub sound : Sound d
+  unfolding table givenAt
+  sound = sound-is d (not-false (isSound d) (not-given _ 2 (silent 3 k the-table lines)))
+
+  pub datagram-size : length d ≡ sizeOfKind k
+  datagram-size = sound .size ∙ ap sizeOfKind kind-read
+
+  pub own-number : c .own .channel ≡ datagramIn d .channel
+  own-number = channel-number (datagramIn d .channel) (storeIn s .channels) c (a .found)
+
+  -- of the kinds 4 and 5, the channel is the packet's source
+  pub own-source : (k ≡ 4) ⊎ (k ≡ 5) → c .own .channel ≡ datagramIn d .packet .source .channel
+  unfolding datagramIn channelFrom _or_
+  own-source h = let n = own-number in let e = kind-read in elim h [ inl q ↦ cc | inr q ↦ cc ]
+
+  pub commitment-there : (k ≡ 4) ⊎ (k ≡ 5) → isCommitted (storeIn s .records) (datagramIn d .packet) ≡ true →
+      isSome (lookup (commitmentKey (c .own .channel) (datagramIn d .packet .sequence)) (storeIn s .records)) ≡ true
+  commitment-there h e = rw (own-source h) (committed-there (storeIn s .records) (datagramIn d .packet) e)
+
+  -- what is done is what the rules say of the call
+  pub effect-is : effectOf k c (datagramIn d) ≡ effectIn (storeIn s) (datagramIn d)
+  unfolding effectIn
+  effect-is =
+      subst₂ (λ (n : ℕ) (x : Channel). effectOf n x (datagramIn d) ≡
+      effectOf (datagramIn d .kind) (orNone (endFor (storeIn s) (datagramIn d))) (datagramIn d)) (a .kind)
+      (ap (λ (x : Option Channel). orNone x) (a .found)) refl
+
+  -- the kinds are 1 to 5
+  pub last-kind : (k ≡ 1 → ⊥) → (k ≡ 2 → ⊥) → (k ≡ 3 → ⊥) → (k ≡ 4 → ⊥) → k ≡ 5
+  last-kind n1 n2 n3 n4 = omega (arith, sound .low, sound .high, kind-read)
+
+-- what the table tells of each kind
+module _ {s o d : List ℕ} {c : Channel} where
+  pub sending : Accepts s o d 1 c → SendOk (storeIn s) c
+  sending a = send-ok s (length o) d (storeIn s) (datagramIn d) c (lines a)
+
+  pub receiving : Accepts s o d 2 c → ReceiveOk (storeIn s) (datagramIn d) c
+  receiving a = receive-ok s (length o) d (storeIn s) (datagramIn d) c (lines a)
+
+  pub writing : Accepts s o d 3 c → WriteOk (storeIn s) (datagramIn d) c
+  writing a = write-ok s (length o) d (storeIn s) (datagramIn d) c (lines a)
+
+  pub acknowledging : Accepts s o d 4 c → AcknowledgeOk (storeIn s) (datagramIn d) c
+  acknowledging a = acknowledge-ok s (length o) d (storeIn s) (datagramIn d) c (lines a)
+
+  pub timing : Accepts s o d 5 c → TimeoutOk (storeIn s) (datagramIn d) c
+  timing a = timeout-ok s (length o) d (storeIn s) (datagramIn d) c (lines a)
+
+-- THE RECORDS: the slot at the index found is the one that the edit is on
+abbrev withRecords : Store → List (Option Record) → Store
+withRecords s rs = record { height = s .height; time = s .time; channels = s .channels; records = rs }
+
+pub written : (s : Store) (i : ℕ) (r : Record) → firstFree (s .records) ≡ At i →
+    bytesOf (withRecordSlot s i (some r)) ≡ bytesOf (withEdit s (writes r))
+unfolding edited
+written s i r h =
+    ap (λ (rs : List (Option Record)). bytesOf (withRecords s rs)) (set-insert r i (s .records) h)
+
+pub freed : (s : Store) (i : ℕ) (k : Key) → firstThat (hasKey k) (s .records) ≡ At i →
+    bytesOf (withRecordSlot s i none) ≡ bytesOf (withEdit s (frees k))
+unfolding edited
+freed s i k h =
+    ap (λ (rs : List (Option Record)). bytesOf (withRecords s rs)) (set-replace (hasKey k) none i (s .records) h)
+
+-- THE STEPS one after another leave the next store: the records, the end, the times
+module _ {s o d : List ℕ} {k : ℕ} {c : Channel} (bytes : Bytes s) (heard : Bytes d) (a : Accepts s o d k c) where
+  abbrev next : Store
+  next = nextStore (storeIn s) (datagramIn d)
+
+  abbrev recordsLeft : Store
+  recordsLeft = withRecords (storeIn s) (next .records)
+
+  abbrev tablesLeft : Store
+  tablesLeft =
+      record {
+        height = storeIn s .height;
+        time = storeIn s .time;
+        channels = next .channels;
+        records = next .records;
+      }
+
+  accepted : Acceptance s d
+  accepted = accepted-step s o d bytes heard (a .answer)
+
+  abbrev end : Channel
+  end = effectIn (storeIn s) (datagramIn d) .end
+
+  -- the end keeps its number
+  end-number : end .own .channel ≡ datagramIn d .channel
+  end-number =
+      let st = accepted .step in
+      ap (λ (e : Effect). e .end .own .channel) (sym (accepted .effect)) ∙
+      ap (λ (x : End). x .channel) (own-grown st .own) ∙ steps.own-number st
+
+  pub held-records : {left : List ℕ} →
+      left ≡ bytesOf (withEdit (storeIn s) (effectOf k c (datagramIn d) .edit)) → Held recordsLeft left
+  unfolding nextStore applied
+  held-records {left} e =
+      let f = fit-fields s bytes (store-fit a) in
+      let g = accepted .fields in
+      record {
+        bytes = e ∙ ap (λ (x : Effect). bytesOf (withEdit (storeIn s) (x .edit))) (effect-is a);
+        fields =
+            record {
+              height = f .height;
+              time = f .time;
+              slots = f .slots;
+              low = g .low;
+              high = g .high;
+              channels = f .channels;
+              records = g .records;
+            };
+      }
+
+  pub held-tables : {before left : List ℕ} {j : ℕ} {x : Channel} → Held recordsLeft before →
+      firstThat (isNumbered (datagramIn d .channel)) (storeIn s .channels) ≡ At j →
+      x ≡ effectOf k c (datagramIn d) .end → left ≡ bytesOf (withChannelSlot (storeIn before) j (some x)) →
+      Held tablesLeft left
+  unfolding nextStore applied
+  held-tables {before} {left} {j} {x} h found q e =
+      let f = fit-fields s bytes (store-fit a) in
+      let g = accepted .fields in
+      let at : firstThat (isNumbered (end .own .channel)) (storeIn s .channels) ≡ At j = rw end-number found in
+      let set-end = set-replace (isNumbered (end .own .channel)) (some end) j (storeIn s .channels) at in
+      record {
+        bytes =
+            e ∙ ap (λ (y : Channel). bytesOf (withChannelSlot (storeIn before) j (some y)))
+            (q ∙ ap (λ (y : Effect). y .end) (effect-is a)) ∙
+            ap (λ (u : Store). bytesOf (withChannelSlot u j (some end))) (held-store h) ∙
+            ap (λ (cs : List (Option Channel)). bytesOf (record {
+              height = storeIn s .height;
+              time = storeIn s .time;
+              channels = cs;
+              records = next .records;
+            })) set-end;
+        fields =
+            record {
+              height = f .height;
+              time = f .time;
+              slots = g .slots;
+              low = g .low;
+              high = g .high;
+              channels = g .channels;
+              records = g .records;
+            };
+      }
+
+  pub held-all : {before left : List ℕ} {x : Context} → Held tablesLeft before → x ≡ datagramIn d .context →
+      left ≡ bytesOf (withTimes (storeIn before) (x .height) (x .time)) → left ≡ bytesOf next
+  unfolding nextStore applied
+  held-all {before} {x = x} h q e =
+      e ∙ ap (λ (y : Context). bytesOf (withTimes (storeIn before) (y .height) (y .time))) q ∙
+      ap (λ (u : Store). bytesOf (withTimes u (datagramIn d .context .height) (datagramIn d .context .time)))
+      (held-store h)
+
+-- AN ANSWER OF 0 is acceptance, of some end
+pub accepts : (s o d : List ℕ) → answerTo s o d ≡ 0 → (c : Channel) × Accepts s o d (datagramIn d .kind) c
+unfolding answerTo table givenAt
+accepts s o d h =
+    let x = endFor (storeIn s) (datagramIn d) in
+    let there = silent 5 (datagramIn d .kind) (refusals s (length o) d) h in
+    let f = some-if x (not-false (isSome x) (not-given _ 4 there)) in
+    (f .0, record { answer = h; kind = refl; found = f .1 })

@@ -1,3 +1,0 @@
-pub mod AcceptLaws
-pub mod FreeLaws
-pub mod TestedLaws

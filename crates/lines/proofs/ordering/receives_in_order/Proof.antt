@@ -1,0 +1,12 @@
+-- By the ordering. Assumes nothing.
+use borrow.Author.Needs.{needs}
+use Rattle.rules.specs.Ordering.{receivesInOrder}
+use Rattle.lines.proofs.ordering.receives_in_order.Statement.{statement}
+use Rattle.lines.proofs.ordering.receives_in_order.Tie as tie
+
+returns : tie.Need-returns
+unfolding receivesInOrder
+returns c = c .is-next .ensures
+
+pub receives-in-order-spec : {M : Type 1} → statement M
+receives-in-order-spec = tie.close (tie.spec (λ c κs. search needs) returns)

@@ -1,0 +1,5 @@
+mod FedLaws
+mod KeptLaws
+mod TurnLaws
+mod ReachedLaws
+pub mod PieceLaws

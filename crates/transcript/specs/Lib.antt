@@ -1,0 +1,4 @@
+pub mod Front
+pub mod Transcript
+pub mod Feeds
+pub mod Pieces

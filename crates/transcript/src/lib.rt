@@ -1,0 +1,22 @@
+// The text that the replay program prints for its input, however the input is cut into pieces.
+mod piece; // a piece of the input
+mod reader; // one record at a time
+
+use night::Night;
+pub use piece::feed;
+pub use piece::finish;
+pub use piece::keep;
+
+// What stands at the front of an input: a whole record of so many bytes, a torn one, or too little to tell.
+pub enum Front {
+    Whole(usize),
+    Torn,
+    Short,
+}
+
+// How far a piece was fed: how the night stands, the bytes that were read, and the bytes of text that were stored.
+pub struct Progress {
+    pub night: Night,
+    pub read: usize,
+    pub size: usize,
+}

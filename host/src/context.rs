@@ -1,0 +1,33 @@
+//! What the host says about the moment of a call.
+
+use crate::bytes::Writer;
+use crate::{OtherHeight, OwnHeight};
+
+/// The moment of a call, who calls, and what is known of the other ledger.
+#[derive(Clone, Copy, Debug, PartialEq, Eq, Hash)]
+pub struct Context {
+    /// This ledger's height, from 1. It never goes back from one accepted call to the next.
+    pub height: OwnHeight,
+    /// This ledger's time. It never goes back, and calls of one height have one time.
+    pub time: u64,
+    /// The latest height of the other ledger that the light client knows.
+    pub client: OtherHeight,
+    /// The port of the caller. Only the port that owns a channel may use it.
+    pub port: u16,
+    /// Whether the connection is open. A receive and an acknowledge ask for it.
+    pub connected: bool,
+}
+
+impl Context {
+    /// The length of a context in a datagram.
+    pub(crate) const LENGTH: usize = 32;
+
+    pub(crate) fn write(&self, to: Writer) -> Writer {
+        to.u64(self.height.0)
+            .u64(self.time)
+            .u64(self.client.0)
+            .u16(self.port)
+            .u8(u8::from(self.connected))
+            .bytes(&[0; 5])
+    }
+}

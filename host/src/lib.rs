@@ -1,0 +1,42 @@
+//! The packet handler of one ledger: it answers datagrams by the channel rules of ICS-04 and keeps what it must
+//! remember in a [`Store`].
+//!
+//! The work is done by a static library whose code is proved. This package makes it safe and comfortable to call; it
+//! needs nothing but the standard library, and the static library, which `rt staticlib route` writes.
+//!
+//! A host keeps one store for its ledger. For each datagram it calls [`Store::handle`], and gets an [`Emitted`] record
+//! or a [`Refusal`], which has changed nothing:
+//!
+//! - [`Datagram::send`] takes a packet's digest and timeout, and gives out the packet.
+//! - [`Datagram::receive`] delivers a packet of the other ledger, and [`Datagram::write`] answers it.
+//! - [`Datagram::acknowledge`] and [`Datagram::time_out`] finish a packet that was sent.
+//!
+//! The last two and the receive carry a [`Verdict`]: what the host's light client found about the other ledger. That
+//! verdicts are true is the host's part. So is it that nobody else changes the store's bytes.
+//!
+//! `examples/two_ledgers.rs` has two ledgers in one program.
+
+#![deny(missing_docs)]
+#![deny(unsafe_op_in_unsafe_fn)]
+
+mod bytes;
+mod context;
+mod datagram;
+mod emitted;
+pub mod ffi;
+mod height;
+mod packet;
+mod refusal;
+mod store;
+mod verdict;
+mod view;
+
+pub use context::Context;
+pub use datagram::Datagram;
+pub use emitted::Emitted;
+pub use height::{Block, OtherHeight, OwnHeight, Timeout};
+pub use packet::{Digest, End, Order, Packet};
+pub use refusal::{NotARefusal, Refusal};
+pub use store::{Opening, Store};
+pub use verdict::{Claim, Verdict};
+pub use view::{Channel, Record, RecordKind, State};

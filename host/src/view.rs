@@ -1,0 +1,92 @@
+//! What stands in a store: its channel ends and packet records.
+
+use crate::bytes::Reader;
+use crate::{Digest, End, Order, Timeout};
+
+/// Whether a channel takes datagrams.
+#[derive(Clone, Copy, Debug, PartialEq, Eq, Hash)]
+pub enum State {
+    /// It does.
+    Open,
+    /// It was ordered and a packet was timed out. Nothing opens it again.
+    Closed,
+}
+
+/// One ledger's side of a channel.
+#[derive(Clone, Copy, Debug, PartialEq, Eq, Hash)]
+pub struct Channel {
+    /// Whether it takes datagrams.
+    pub state: State,
+    /// Whether its packets are taken in order.
+    pub order: Order,
+    /// The port that owns it, and its number.
+    pub own: End,
+    /// The end on the other ledger that it names.
+    pub counterparty: End,
+    /// The sequence of the next packet that is sent.
+    pub next_send: u64,
+    /// On an ordered channel, the sequence of the next packet that is received.
+    pub next_receive: u64,
+    /// On an ordered channel, the sequence of the next packet that is acknowledged.
+    pub next_acknowledge: u64,
+}
+
+impl Channel {
+    /// The channel end in these 64 bytes of a fit store, if they are in use.
+    pub(crate) fn read(bytes: &[u8]) -> Option<Channel> {
+        let mut from = Reader::new(bytes);
+        if from.u16() == 0 {
+            return None;
+        }
+        let state = if from.u8() == 3 { State::Open } else { State::Closed };
+        let order = if from.u8() == 1 { Order::Ordered } else { Order::Unordered };
+        let channel = from.u32();
+        let own = End { port: from.u16(), channel };
+        let counterparty = End { port: from.u16(), channel: from.u32() };
+        let (next_send, next_receive, next_acknowledge) = (from.u64(), from.u64(), from.u64());
+        Some(Channel { state, order, own, counterparty, next_send, next_receive, next_acknowledge })
+    }
+}
+
+/// What a packet record is.
+#[derive(Clone, Copy, Debug, PartialEq, Eq, PartialOrd, Ord, Hash)]
+pub enum RecordKind {
+    /// A packet that this ledger sent is not yet finished.
+    Commitment,
+    /// A packet was delivered here, on an unordered channel.
+    Receipt,
+    /// The answer to a packet that was received here.
+    Acknowledgement,
+}
+
+/// A packet record. Kind, channel and sequence tell it from all others of the store.
+#[derive(Clone, Copy, Debug, PartialEq, Eq, Hash)]
+pub struct Record {
+    /// What it is.
+    pub kind: RecordKind,
+    /// A channel of this store.
+    pub channel: u32,
+    /// The packet's sequence.
+    pub sequence: u64,
+    /// The packet's timeouts if it is a commitment, else none.
+    pub timeout: Timeout,
+    /// The digest of the packet's data or of the acknowledgement; zero in a receipt.
+    pub digest: Digest,
+}
+
+impl Record {
+    /// The packet record in these 64 bytes of a fit store, if they are in use.
+    pub(crate) fn read(bytes: &[u8]) -> Option<Record> {
+        let mut from = Reader::new(bytes);
+        let kind = match from.u16() {
+            0 => return None,
+            1 => RecordKind::Commitment,
+            2 => RecordKind::Receipt,
+            _ => RecordKind::Acknowledgement,
+        };
+        from.u16();
+        let (channel, sequence) = (from.u32(), from.u64());
+        let timeout = Timeout::from_numbers(from.u64(), from.u64());
+        Some(Record { kind, channel, sequence, timeout, digest: from.digest() })
+    }
+}

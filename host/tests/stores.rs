@@ -1,0 +1,117 @@
+//! Stores: made, kept as bytes, read, and left alone by refusals.
+
+mod common;
+
+use common::*;
+use route::*;
+
+#[test]
+fn making() {
+    assert_eq!(Store::make(0, &[]), Err(Refusal::LengthUnfit));
+    assert_eq!(Store::make(513, &[]), Err(Refusal::LengthUnfit));
+    assert_eq!(Store::make(usize::MAX, &[]), Err(Refusal::LengthUnfit));
+    assert_eq!(Store::make(1, &[ORDERED, ORDERED]), Err(Refusal::ChannelTwice));
+    let ends = |count: u32| (0..count).map(|channel| Opening { own: End { port: 1, channel }, ..ORDERED });
+    assert_eq!(Store::make(1, &ends(17).collect::<Vec<_>>()), Err(Refusal::TooManyOpenings));
+    let store = Store::make(512, &ends(16).collect::<Vec<_>>()).unwrap();
+    assert_eq!((store.as_bytes().len(), store.capacity(), store.free_records()), (33_856, 512, 512));
+    let numbers: Vec<u32> = store.channels().map(|end| end.own.channel).collect();
+    assert_eq!(numbers, (0..16).collect::<Vec<u32>>());
+    assert_eq!(Store::make(1, &[]).unwrap().channels().count(), 0);
+}
+
+#[test]
+fn fresh_store_is_read() {
+    let store = fresh();
+    let end = Channel {
+        state: State::Open,
+        order: Order::Unordered,
+        own: UNORDERED.own,
+        counterparty: UNORDERED.counterparty,
+        next_send: 1,
+        next_receive: 1,
+        next_acknowledge: 1,
+    };
+    assert_eq!(store.channel(8), Some(end));
+    assert_eq!(store.channel(9), None);
+    assert_eq!((store.last_height(), store.last_time(), store.records().count()), (OwnHeight(0), 0, 0));
+}
+
+#[test]
+fn calls_are_read() {
+    let mut store = fresh();
+    store.handle(send(60)).unwrap();
+    store.handle(receive(UNORDERED, 3, Timeout::NONE)).unwrap();
+    let commitment = Record {
+        kind: RecordKind::Commitment,
+        channel: 7,
+        sequence: 1,
+        timeout: Timeout::at_height(OtherHeight(60)),
+        digest: DIGEST,
+    };
+    let receipt =
+        Record { kind: RecordKind::Receipt, channel: 8, sequence: 3, timeout: Timeout::NONE, digest: [0; 32] };
+    assert_eq!(store.records().collect::<Vec<_>>(), [commitment, receipt]);
+    assert_eq!(store.record(RecordKind::Receipt, 8, 3), Some(receipt));
+    assert_eq!(store.record(RecordKind::Acknowledgement, 8, 3), None);
+    assert_eq!((store.last_height(), store.last_time(), store.free_records()), (OwnHeight(100), 1000, 0));
+}
+
+#[test]
+fn bytes_are_kept_and_tested() {
+    let mut store = fresh();
+    store.handle(send(60)).unwrap();
+    let bytes = store.as_bytes().to_vec();
+    assert_eq!(Store::from_bytes(bytes.clone()), Ok(store.clone()));
+    assert_eq!(store.into_bytes(), bytes);
+    for at in [0, 4, 6, 24, 28, 64, 66, 67, 1088, 1090, 1092, 1096] {
+        let mut damaged = bytes.clone();
+        damaged[at] ^= 0x40;
+        assert_eq!(Store::from_bytes(damaged), Err(Refusal::StoreNotFit), "{at}");
+    }
+    assert_eq!(Store::from_bytes([]), Err(Refusal::StoreNotFit));
+    assert_eq!(Store::from_bytes(&bytes[1..]), Err(Refusal::StoreNotFit));
+}
+
+#[test]
+fn any_bytes_may_be_handled() {
+    let mut store = fresh();
+    let before = store.clone();
+    assert_eq!(store.handle([]), Err(Refusal::Malformed));
+    assert_eq!(store.handle(vec![7; 186]), Err(Refusal::Malformed));
+    assert_eq!(store.handle(&send(60).as_bytes()[1..]), Err(Refusal::Malformed));
+    assert_eq!(store.handle(send(0)), Err(Refusal::NoTimeout));
+    assert_eq!(store, before);
+}
+
+#[test]
+fn output_may_be_lent() {
+    let mut store = fresh();
+    let mut output = [0xaa; 120];
+    assert_eq!(store.handle_into(send(60), &mut output[..105]), Err(Refusal::OutputShort));
+    assert_eq!(store.handle_into(send(0), &mut output), Err(Refusal::NoTimeout));
+    assert_eq!(output, [0xaa; 120]);
+    assert_eq!(store.handle_into(send(60), &mut output), Ok(74));
+    assert_eq!(Emitted::from_bytes(&output[..74]), Some(Emitted::Sent(sent())));
+    assert_eq!(output[74..], [0xaa; 46]);
+}
+
+#[test]
+fn verdicts_hold_or_not() {
+    let mut store = fresh();
+    store.handle(send(60)).unwrap();
+    store.handle(receive(UNORDERED, 3, Timeout::NONE)).unwrap();
+    let here = |packet: Packet| Packet { source: packet.destination, destination: packet.source, ..packet };
+    let committed = Verdict::commitment_present(&sent(), block(1));
+    assert!(store.holds(&committed));
+    assert!(!store.holds(&Verdict { digest: [2; 32], ..committed }));
+    assert!(!store.holds(&Verdict { timeout: Timeout::NONE, ..committed }));
+    assert!(!store.holds(&Verdict { end: End { port: 6, channel: 7 }, ..committed }));
+    // A packet from here as the other ledger asks about it, and one that came.
+    assert!(store.holds(&Verdict::next_receive(&here(sent()), 1, block(1))));
+    assert!(!store.holds(&Verdict::next_receive(&here(sent()), 2, block(1))));
+    assert!(!store.holds(&Verdict::receipt_absent(&incoming(UNORDERED, 3, Timeout::NONE), block(1))));
+    assert!(store.holds(&Verdict::receipt_absent(&incoming(UNORDERED, 4, Timeout::NONE), block(1))));
+    let written = Verdict::acknowledgement_present(&incoming(UNORDERED, 3, Timeout::NONE), [9; 32], block(1));
+    assert!(!store.holds(&written));
+}

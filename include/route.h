@@ -1,0 +1,125 @@
+/* The packet handler of one ledger: a datagram goes in, a number and a record come out. The functions are those of the
+ * static library libroute.a, which `rt staticlib route` writes. docs/FORMAT.md has the layouts of stores, datagrams and
+ * emitted records; docs/ANSWERS.md has what to do about each answer.
+ *
+ * WHAT HOLDS FOR EVERY POINTER. It is valid for as many bytes as the length beside it says: to be read, and also to be
+ * written where it is not const. The memory lent to one call does not overlap: not the store with the output, the
+ * datagram or the openings, not the output with the datagram, and none of them with `size`. Nobody else reads or writes
+ * it while the call runs. It needs no alignment. NULL with the length 0 is allowed and is an empty slice; with another
+ * length it is not. The functions keep no pointer, allocate nothing and have no state of their own, so calls with
+ * different memory may run at the same time. Any bytes may stand in the memory: none makes a call fail in another way
+ * than by its answer. */
+
+#ifndef ROUTE_H
+#define ROUTE_H
+
+#include <stddef.h>
+#include <stdint.h>
+
+#ifdef __cplusplus
+extern "C" {
+#endif
+
+/* The channels and packet records that a store can have, and the bytes that an output must have at least. */
+#define ROUTE_MAX_CHANNELS 16
+#define ROUTE_MAX_RECORDS 512
+#define ROUTE_OUTPUT_LENGTH 106
+
+/* The length of a store with `records` packet records, 1 to ROUTE_MAX_RECORDS, as a constant expression. For any other
+ * number no store has that many: route_store_length then answers 0. */
+#define ROUTE_STORE_LENGTH(records) (1088 + 64 * (size_t)(records))
+
+/* The length of one opening in a list of openings. */
+#define ROUTE_OPENING_LENGTH 20
+
+/* The lengths of the five datagrams, and of the emitted records. */
+#define ROUTE_SEND_LENGTH 90
+#define ROUTE_RECEIVE_LENGTH 186
+#define ROUTE_WRITE_LENGTH 82
+#define ROUTE_ACKNOWLEDGE_LENGTH 218
+#define ROUTE_TIME_OUT_LENGTH 186
+#define ROUTE_SENT_LENGTH 74
+#define ROUTE_DELIVERED_LENGTH 74
+#define ROUTE_WRITTEN_LENGTH 52
+#define ROUTE_ACKNOWLEDGED_LENGTH 106
+#define ROUTE_TIMED_OUT_LENGTH 74
+
+/* Kinds of datagrams. */
+enum route_datagram {
+    ROUTE_SEND = 1,
+    ROUTE_RECEIVE = 2,
+    ROUTE_WRITE = 3,       /* write an acknowledgement */
+    ROUTE_ACKNOWLEDGE = 4,
+    ROUTE_TIME_OUT = 5
+};
+
+/* Kinds of emitted records. */
+enum route_emitted {
+    ROUTE_SENT = 0x0101,
+    ROUTE_DELIVERED = 0x0102,
+    ROUTE_WRITTEN = 0x0103,
+    ROUTE_ACKNOWLEDGED = 0x0104,
+    ROUTE_TIMED_OUT = 0x0105
+};
+
+/* Answers. Where several refusals apply, the lowest number is given; none is given otherwise. Behind each stand the
+ * kinds of datagrams that can get it; no kind means all. */
+enum route_answer {
+    ROUTE_ACCEPTED = 0,
+    ROUTE_STORE_NOT_FIT = 1,         /* the store's bytes are not those of a fit store */
+    ROUTE_OUTPUT_SHORT = 2,          /* the output is shorter than ROUTE_OUTPUT_LENGTH */
+    ROUTE_MALFORMED = 3,             /* the datagram is malformed */
+    ROUTE_GOES_BACK = 4,             /* height or time is below the last, or the same height has another time */
+    ROUTE_NO_CHANNEL = 5,            /* the channel is not in the store */
+    ROUTE_NOT_OPEN = 6,              /* the channel is not OPEN */
+    ROUTE_NOT_OWNER = 7,             /* the caller's port is not the channel's port */
+    ROUTE_NO_CONNECTION = 8,         /* 2, 4: the connection is not open */
+    ROUTE_WRONG_END = 9,             /* 2, 4, 5: the packet's ports and other channel do not fit this end */
+    ROUTE_NO_TIMEOUT = 10,           /* 1: both timeouts are zero */
+    ROUTE_TIMEOUT_PASSED = 11,       /* 1, 2: the timeout has passed */
+    ROUTE_TIMEOUT_NOT_PASSED = 12,   /* 5: the timeout has not passed */
+    ROUTE_NO_COMMITMENT = 13,        /* 4, 5: no commitment with this sequence, timeouts and digest */
+    ROUTE_OTHER_VERDICT = 14,        /* 2, 4, 5: the verdict is about something else */
+    ROUTE_OUT_OF_ORDER = 15,         /* 2, 4, 5 on an ordered channel: another packet's turn */
+    ROUTE_ALREADY_THERE = 16,        /* 2 on an unordered channel: the receipt; 3: the acknowledgement */
+    ROUTE_NOT_RECEIVED = 17,         /* 3: the packet was not received */
+    ROUTE_EMPTY_ACKNOWLEDGEMENT = 18, /* 3: the digest is all zero */
+    ROUTE_COUNTER_AT_END = 19,       /* 1; 2 and 4 on an ordered channel: the counter to be raised is 2^64 - 1 */
+    ROUTE_NO_FREE_RECORD = 20,       /* 1, 3; 2 on an unordered channel: all packet records are in use */
+    ROUTE_LENGTH_UNFIT = 21,         /* maker: no store has the length of the slice */
+    ROUTE_OPENINGS_MALFORMED = 22,   /* maker: the list of openings is malformed */
+    ROUTE_TOO_MANY_OPENINGS = 23,    /* maker: more than ROUTE_MAX_CHANNELS openings */
+    ROUTE_CHANNEL_TWICE = 24         /* maker: a channel number stands in two openings */
+};
+
+/* Answers one datagram and carries it out. Answers 0 to 20.
+ *
+ * store, store_len         the ledger's store, as the maker or the last accepted call left it
+ * output, output_len       takes the emitted record; at least ROUTE_OUTPUT_LENGTH bytes, whatever the kind
+ * datagram, datagram_len   the datagram; its bytes are not changed
+ * size                     takes the length of the emitted record, 0 for a refusal; never NULL
+ *
+ * With ROUTE_ACCEPTED the store is changed, the emitted record stands at the front of the output, *size is its length,
+ * and the bytes of the output behind it are as they were. With any other answer no byte of store or output has changed.
+ * *size is written in every case, and what it was before has no effect. */
+uint8_t route_handle(uint8_t *store, size_t store_len, uint8_t *output, size_t output_len, const uint8_t *datagram,
+                     size_t datagram_len, uint32_t *size);
+
+/* Makes a fresh store of the whole slice. Answers 0 or 21 to 24.
+ *
+ * store, store_len         becomes the store; what it held before has no effect. store_len is ROUTE_STORE_LENGTH(P) for
+ *                          the wanted number P of packet records
+ * openings, openings_len   whole openings of ROUTE_OPENING_LENGTH bytes, one for each channel end; may be empty
+ *
+ * With another answer than 0 no byte of the slice has changed. */
+uint8_t route_make_store(uint8_t *store, size_t store_len, const uint8_t *openings, size_t openings_len);
+
+/* The length of a store with so many packet records: ROUTE_STORE_LENGTH(records) for 1 to ROUTE_MAX_RECORDS, and 0 for
+ * every other number, as no store has that many. */
+size_t route_store_length(size_t records);
+
+#ifdef __cplusplus
+}
+#endif
+
+#endif

@@ -1,0 +1,143 @@
+//! The table of refusals line by line. `rules` stops at the first refusal; here each line is asked by itself, so
+//! that the comparison knows whether a call is refused for one reason alone or for several.
+
+use crate::bytes::*;
+use crate::datagram::*;
+use crate::fit::fit;
+use crate::places::OUTPUT;
+use crate::refusal::*;
+use crate::rules::{reached, shows_acknowledgement, shows_commitment, shows_not_received};
+use crate::store::*;
+
+/// Every refusal that applies, in rising order. Nothing is asked of an unfit store or of malformed bytes, and of a
+/// channel that is not there no more than that.
+pub fn applying(store: &[u8], output_length: usize, bytes: &[u8]) -> Vec<u8> {
+    let is_fit = fit(store);
+    let datagram = read(bytes);
+    let mut lines =
+        vec![(STORE_NOT_FIT, !is_fit), (OUTPUT_SHORT, output_length < OUTPUT), (MALFORMED, datagram.is_none())];
+    if let Some(datagram) = datagram.filter(|_| is_fit) {
+        lines.push((BEFORE_LAST, goes_back(store, &datagram.context)));
+        match find_channel(store, own_channel(&datagram.body)) {
+            None => lines.push((NO_CHANNEL, true)),
+            Some((_, end)) => lines.extend(of_end(store, &datagram, &end)),
+        }
+    }
+    lines.retain(|(_, applies)| *applies);
+    lines.into_iter().map(|(number, _)| number).collect()
+}
+
+fn goes_back(store: &[u8], context: &Context) -> bool {
+    let (height, time) = (last_height(store), last_time(store));
+    context.height < height || context.time < time || context.height == height && context.time != time
+}
+
+fn own_channel(body: &Body) -> u32 {
+    match body {
+        Body::Send { channel, .. } | Body::Write { channel, .. } => *channel,
+        Body::Receive { packet, .. } => packet.dest_channel,
+        Body::Acknowledge { packet, .. } | Body::TimeOut { packet, .. } => packet.source_channel,
+    }
+}
+
+/// The lines behind 5: two for all kinds, then those of the kind.
+fn of_end(store: &[u8], datagram: &Datagram, end: &Channel) -> Vec<(u8, bool)> {
+    let Datagram { context, body } = datagram;
+    let mut lines = vec![(NOT_OPEN, end.state != OPEN), (NOT_OWNER, context.port != end.port)];
+    lines.extend(match body {
+        Body::Send { timeout_height, timeout_timestamp, .. } => {
+            of_send(store, context, end, *timeout_height, *timeout_timestamp)
+        }
+        Body::Receive { packet, verdict } => of_receive(store, context, end, packet, verdict),
+        Body::Write { sequence, digest, .. } => of_write(store, end, *sequence, digest),
+        Body::Acknowledge { packet, acknowledgement, verdict } => {
+            of_acknowledge(store, context, end, packet, acknowledgement, verdict)
+        }
+        Body::TimeOut { packet, verdict } => of_time_out(store, end, packet, verdict),
+    });
+    lines
+}
+
+fn of_send(store: &[u8], context: &Context, end: &Channel, height: u64, time: u64) -> Vec<(u8, bool)> {
+    vec![
+        (NO_TIMEOUT, height == 0 && time == 0),
+        (TIMEOUT_PASSED, reached(context.client_height, height)),
+        (COUNTER_AT_END, end.next_sequence_send == u64::MAX),
+        (NO_FREE_RECORD, first_free(store).is_none()),
+    ]
+}
+
+fn of_receive(store: &[u8], context: &Context, end: &Channel, packet: &Packet, verdict: &Verdict) -> Vec<(u8, bool)> {
+    let here = (packet.dest_port, packet.source_port, packet.source_channel);
+    let late = reached(context.height, packet.timeout_height) || reached(context.time, packet.timeout_timestamp);
+    let ordered = end.is_ordered();
+    vec![
+        (CONNECTION_NOT_OPEN, context.connection == 0),
+        (WRONG_END, here != (end.port, end.counterparty_port, end.counterparty_channel)),
+        (TIMEOUT_PASSED, late),
+        (OTHER_VERDICT, !shows_commitment(verdict, packet)),
+        (OUT_OF_ORDER, ordered && packet.sequence != end.next_sequence_recv),
+        (ALREADY_THERE, !ordered && received(store, end, packet.sequence)),
+        (COUNTER_AT_END, ordered && end.next_sequence_recv == u64::MAX),
+        (NO_FREE_RECORD, !ordered && first_free(store).is_none()),
+    ]
+}
+
+fn of_write(store: &[u8], end: &Channel, sequence: u64, digest: &Digest) -> Vec<(u8, bool)> {
+    vec![
+        (ALREADY_THERE, find_record(store, ACKNOWLEDGEMENT, end.channel, sequence).is_some()),
+        (NOT_RECEIVED, !received(store, end, sequence)),
+        (EMPTY_ACKNOWLEDGEMENT, all_zero(digest)),
+        (NO_FREE_RECORD, first_free(store).is_none()),
+    ]
+}
+
+fn of_acknowledge(
+    store: &[u8],
+    context: &Context,
+    end: &Channel,
+    packet: &Packet,
+    acknowledgement: &Digest,
+    verdict: &Verdict,
+) -> Vec<(u8, bool)> {
+    let ordered = end.is_ordered();
+    vec![
+        (CONNECTION_NOT_OPEN, context.connection == 0),
+        (WRONG_END, !sent_here(end, packet)),
+        (NO_COMMITMENT, !is_committed(store, end, packet)),
+        (OTHER_VERDICT, !shows_acknowledgement(verdict, packet, acknowledgement)),
+        (OUT_OF_ORDER, ordered && packet.sequence != end.next_sequence_ack),
+        (COUNTER_AT_END, ordered && end.next_sequence_ack == u64::MAX),
+    ]
+}
+
+fn of_time_out(store: &[u8], end: &Channel, packet: &Packet, verdict: &Verdict) -> Vec<(u8, bool)> {
+    let ordered = end.is_ordered();
+    let passed =
+        reached(verdict.proof_height, packet.timeout_height) || reached(verdict.proof_time, packet.timeout_timestamp);
+    vec![
+        (WRONG_END, !sent_here(end, packet)),
+        (TIMEOUT_NOT_PASSED, !passed),
+        (NO_COMMITMENT, !is_committed(store, end, packet)),
+        (OTHER_VERDICT, !shows_not_received(verdict, packet, ordered)),
+        (OUT_OF_ORDER, ordered && packet.sequence != verdict.sequence),
+    ]
+}
+
+fn sent_here(end: &Channel, packet: &Packet) -> bool {
+    (packet.source_port, packet.dest_port, packet.dest_channel)
+        == (end.port, end.counterparty_port, end.counterparty_channel)
+}
+
+/// A commitment with all of the packet's values is in the table.
+fn is_committed(store: &[u8], end: &Channel, packet: &Packet) -> bool {
+    let wanted = Record {
+        kind: COMMITMENT,
+        channel: end.channel,
+        sequence: packet.sequence,
+        timeout_height: packet.timeout_height,
+        timeout_timestamp: packet.timeout_timestamp,
+        digest: packet.digest,
+    };
+    records(store).any(|bytes| Record::read(bytes) == wanted)
+}
