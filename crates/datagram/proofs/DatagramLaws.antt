@@ -1,13 +1,13 @@
 -- What a sound datagram tells, and bounds of its parts. Assumes nothing.
 use Rattle.wire.proofs.Prelude.{_≡_, Bool, true, not, List, inl, inr, ℕ, _+_, _^_, _≤_, _<_, arith, eqb, length}
 use Rattle.wire.proofs.Prelude.{ltb-true, leb-true, eqb-true, eq-eqb, not-true}
-use Rattle.wire.specs.Names.{_or_, pick, Bytes, digestSize}
+use Rattle.wire.specs.Names.{_or_, Bytes, digestSize}
 use Rattle.wire.proofs.Laws.{and-both, or-either, clash, cases, field-below, length-part, bytes-part}
 use Rattle.store.proofs.Laws.{EndFields, TimeoutFields}
 use Rattle.datagram.specs.declared.Packet.{Packet}
 use Rattle.datagram.specs.Names.{bodyFrom, packetSize, sizeOfKind, isProved, isSound, kindIn, contextIn, packetIn}
 use Rattle.datagram.specs.Names.{packetFrom, timeoutFrom, sequenceFrom, digestFrom}
-use Rattle.datagram.specs.Names.{verdictSize}
+use Rattle.datagram.specs.Names.{verdictSize, digestPlace, verdictPlace}
 
 -- what a well-formed datagram tells
 pub record Sound (d : List ℕ) : Type 0 where
@@ -48,7 +48,7 @@ pub record PacketFields (p : Packet) : Type 0 where
   pub bytes : Bytes (p .digest)
 
 -- every kind has room where its digest is read (2 and 5, which have none, read their verdict there)
-pub digest-room : (k : ℕ) → bodyFrom + pick (eqb k 1) 20 (pick (eqb k 3) 12 packetSize) + digestSize ≤ sizeOfKind k
+pub digest-room : (k : ℕ) → digestPlace k + digestSize ≤ sizeOfKind k
 unfolding sizeOfKind
 digest-room k =
     cases (eqb k 1) (λ e. rw (sizeOfKind, e) (omega arith))
@@ -68,12 +68,10 @@ by-proved P k h receive acknowledge timeOut =
     ]
 
 -- they have room for both
-pub verdict-room : (k : ℕ) → isProved k ≡ true →
-    bodyFrom + packetSize + pick (eqb k 4) digestSize 0 + verdictSize ≤ sizeOfKind k
+pub verdict-room : (k : ℕ) → isProved k ≡ true → verdictPlace k + verdictSize ≤ sizeOfKind k
 unfolding sizeOfKind
 verdict-room k h =
-    by-proved (λ n. bodyFrom + packetSize + pick (eqb n 4) digestSize 0 + verdictSize ≤ sizeOfKind n) k h
-    (omega arith) (omega arith) (omega arith)
+    by-proved (λ n. verdictPlace n + verdictSize ≤ sizeOfKind n) k h (omega arith) (omega arith) (omega arith)
 
 packet-in : (i : ℕ) (d : List ℕ) → Bytes d → i + packetSize ≤ length d → PacketFields (packetIn i d)
 unfolding packetIn

@@ -11,8 +11,7 @@ use Rattle.wire.specs.Choice.{_and_, _or_}
 use Rattle.wire.specs.Bytes.{field}
 use Rattle.wire.specs.declared.Frame.the-variants.{Whole, Malformed}
 use Rattle.wire.specs.Frame.{frameIn}
-use Rattle.wire.proofs.ChoiceLaws.{and-both, clash, cases}
-use Rattle.wire.proofs.PartLaws.{and-assoc}
+use Rattle.wire.proofs.ChoiceLaws.{and-both, and-assoc, and-false, and-true, clash, cases}
 use Rattle.datagram.specs.Datagram.{frameSize, sizeOfKind, kindIn, isProved, isSound}
 use Rattle.datagram.specs.Sound.{isContextSound, isPacketSound, isBodySound}
 use Rattle.datagram.proofs.DatagramLaws.{by-proved}
@@ -24,16 +23,6 @@ getD-there (b ∷ bs) zero x y h = refl
 getD-there (b ∷ bs) (suc i) x y h = getD-there bs i x y (omega arith)
 
 -- THE TESTS in the order of the code: whether the kind is known comes last, with the body
-and-false : (a : Bool) → (a and false) ≡ false
-unfolding _and_
-and-false true = refl
-and-false false = refl
-
-and-true : (a : Bool) → (a and true) ≡ a
-unfolding _and_
-and-true true = refl
-and-true false = refl
-
 arranged : (framed known size zeros state height packet write : Bool) → framed ≡ true →
     (framed and known and size and zeros and state and height and packet and write)
     ≡ (size and ((zeros and state and height) and (known and packet and write)))

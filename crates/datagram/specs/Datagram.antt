@@ -83,12 +83,18 @@ sequenceFrom d = field (bodyFrom + 4) 8 d
 unfoldable pub packetFrom : List ℕ → Packet
 packetFrom d = packetIn bodyFrom d
 
+-- where a digest and a verdict lie
+abbrev pub digestPlace : (kind : ℕ) → ℕ
+digestPlace k = bodyFrom + pick (eqb k 1) 20 (pick (eqb k 3) 12 packetSize)
+
+abbrev pub verdictPlace : (kind : ℕ) → ℕ
+verdictPlace k = bodyFrom + packetSize + pick (eqb k 4) digestSize 0
+
 unfoldable pub digestFrom : (kind : ℕ) → List ℕ → List ℕ
-digestFrom k d =
-    part (bodyFrom + pick (eqb k 1) 20 (pick (eqb k 3) 12 packetSize)) digestSize d
+digestFrom k d = part (digestPlace k) digestSize d
 
 unfoldable pub verdictFrom : (kind : ℕ) → List ℕ → Verdict
-verdictFrom k d = verdictIn (bodyFrom + packetSize + pick (eqb k 4) digestSize 0) d
+verdictFrom k d = verdictIn (verdictPlace k) d
 
 -- the channel that it is about: its own for 1 and 3, the destination for 2, the source for 4 and 5
 unfoldable pub channelFrom : (kind : ℕ) → List ℕ → ℕ

@@ -19,7 +19,7 @@ ghost use lib.ListN.{length};
 ghost use Rattle.datagram.specs.Datagram.{frameSize, bodyFrom, packetSize, verdictSize, sizeOfKind, isProved};
 ghost use Rattle.datagram.specs.Datagram.{kindIn, contextIn, packetIn, verdictIn};
 ghost use Rattle.datagram.specs.Datagram.{timeoutFrom, sequenceFrom, packetFrom};
-ghost use Rattle.datagram.specs.Datagram.{digestFrom, verdictFrom, channelFrom};
+ghost use Rattle.datagram.specs.Datagram.{digestPlace, digestFrom, verdictPlace, verdictFrom, channelFrom};
 
 pub(crate) const FRAME: usize = 6;
 
@@ -104,15 +104,30 @@ pub fn packet_in(d: &[u8]) -> Packet
     packet_at(d, BODY)
 }
 
+fn digest_place(kind: u16) -> usize
+    ensures { λ r. ⌜ r ≡ digestPlace kind ⌝ }
+{
+    match kind {
+        1 => BODY + 20,
+        3 => BODY + 12,
+        _ => BODY + PACKET,
+    }
+}
+
 // The digest of the kinds 1, 3 and 4; the others have none.
 pub fn digest_in(d: &[u8], kind: u16) -> [u8; 32]
     requires { ⌜ sizeOfKind kind ≤ length (now d) ⌝ }
     ensures { λ r. ⌜ r ≡ digestFrom kind (now (d .entry)) ⌝ }
 {
+    digest_at(d, digest_place(kind))
+}
+
+pub(crate) fn verdict_place(kind: u16) -> usize
+    ensures { λ r. ⌜ r ≡ verdictPlace kind ⌝ }
+{
     match kind {
-        1 => digest_at(d, BODY + 20),
-        3 => digest_at(d, BODY + 12),
-        _ => digest_at(d, BODY + PACKET),
+        4 => BODY + PACKET + DIGEST,
+        _ => BODY + PACKET,
     }
 }
 
@@ -121,10 +136,7 @@ pub fn verdict_in(d: &[u8], kind: u16) -> Verdict
     requires { ⌜ (isProved kind ≡ true) × (sizeOfKind kind ≤ length (now d)) ⌝ }
     ensures { λ r. ⌜ r ≡ verdictFrom kind (now (d .entry)) ⌝ }
 {
-    match kind {
-        4 => verdict_at(d, BODY + PACKET + DIGEST),
-        _ => verdict_at(d, BODY + PACKET),
-    }
+    verdict_at(d, verdict_place(kind))
 }
 
 // The channel that it is about: its own for 1 and 3, the destination for 2, the source for 4 and 5.

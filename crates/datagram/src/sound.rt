@@ -4,10 +4,10 @@ use super::read::DIGEST;
 use super::read::FRAME;
 use super::read::PACKET;
 use super::read::VERDICT;
-use super::read::packet_in;
 use super::read::sequence_in;
-use super::read::verdict_in;
+use super::read::verdict_place;
 use wire::are_zero;
+use wire::u16_at;
 use wire::u64_at;
 ghost use mathlib.Core.Path.{_≡_};
 ghost use mathlib.Core.Bool.{true};
@@ -35,13 +35,7 @@ fn is_context_sound(d: &[u8]) -> bool
     requires { ⌜ bodyFrom ≤ length (now d) ⌝ }
     ensures { λ r. ⌜ r ≡ isContextSound (now (d .entry)) ⌝ }
 {
-    if !are_zero(d, FRAME + 27, 5) {
-        return false;
-    }
-    if 1 < d[FRAME + 26] {
-        return false;
-    }
-    0 < u64_at(d, FRAME)
+    are_zero(d, FRAME + 27, 5) & (d[FRAME + 26] <= 1) & (0 < u64_at(d, FRAME))
 }
 
 // A packet's sequence is not 0, and its verdict makes one of the four claims.
@@ -49,15 +43,8 @@ fn is_packet_sound(d: &[u8], kind: u16) -> bool
     requires { ⌜ (isProved kind ≡ true) × (sizeOfKind kind ≤ length (now d)) ⌝ }
     ensures { λ r. ⌜ r ≡ isPacketSound kind (now (d .entry)) ⌝ }
 {
-    let packet = packet_in(d);
-    if packet.sequence == 0 {
-        return false;
-    }
-    let verdict = verdict_in(d, kind);
-    if verdict.claim < 1 {
-        return false;
-    }
-    verdict.claim <= 4
+    let claim = u16_at(d, verdict_place(kind));
+    (0 < u64_at(d, BODY)) & ((1 <= claim) & (claim <= 4))
 }
 
 // Unknown kinds have no body that is sound.
@@ -81,8 +68,5 @@ pub fn is_sound(d: &[u8], kind: u16, length: u32) -> bool
     if length as usize != size_of(kind) {
         return false;
     }
-    if !is_context_sound(d) {
-        return false;
-    }
-    is_body_sound(d, kind)
+    is_context_sound(d) & is_body_sound(d, kind)
 }

@@ -11,9 +11,9 @@ use lib.Seq.{length-take-le, drop-drop}
 use borrow.Author.Tests.{not-true, not-false}
 use Rattle.wire.specs.Choice.{_and_, _or_, isSome}
 use Rattle.wire.specs.Bytes.{same, areZero, part, field, pieces, digestSize}
-use Rattle.wire.proofs.ChoiceLaws.{cases, of-pick}
+use Rattle.wire.proofs.ChoiceLaws.{cases, of-pick, and-assoc, and-true, and-comm, and-swap}
 use Rattle.wire.proofs.BytesLaws.{eq-same, length-little, length-part}
-use Rattle.wire.proofs.PartLaws.{and-assoc, same-append}
+use Rattle.wire.proofs.PartLaws.{same-append}
 use Rattle.store.specs.Limits.{channelLimit}
 use Rattle.store.specs.Table.{find, all, distinct, sameNumber, sameKey}
 use Rattle.store.specs.Layout.{headerSize, slotSize, recordsFrom, roomIn}
@@ -22,7 +22,6 @@ use Rattle.store.specs.Layout.{channelIn, recordIn, slotIn, tableIn, storeIn}
 use Rattle.store.specs.Scan.{indexWhere, isAt, holds, slotAt, slotsFrom}
 use Rattle.store.specs.Fit.{channelFits, channelsFit, recordFits, recordsFit, storeFits, sizeFits, isFit}
 use Rattle.store.proofs.FitLaws.{fits-size, length-read}
-use Rattle.store.proofs.TestLaws.{and-true, and-comm, and-swap}
 use Rattle.store.proofs.TurnLaws.{slots-turn, slots-end}
 use Rattle.store.proofs.SlotTestLaws.{find-at}
 use Rattle.fit.specs.EverySlot.{everySlot, isExact, slotFits}

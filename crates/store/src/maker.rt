@@ -48,20 +48,11 @@ fn opening_fits(openings: &[u8], at: usize) -> bool
     requires { ⌜ at + openingSize ≤ length (now openings) ⌝ }
     ensures { λ r. ⌜ r ≡ openingFits (part at openingSize (now (openings .entry))) ⌝ }
 {
-    if u32_at(openings, at) as usize != OPENING {
-        return false;
-    }
-    if u16_at(openings, at + 4) != 0x0010 {
-        return false;
-    }
     let order = u8_at(openings, at + 18);
-    if order < 1 {
-        return false;
-    }
-    if 2 < order {
-        return false;
-    }
-    u8_at(openings, at + 19) == 0
+    (u32_at(openings, at) as usize == OPENING)
+        & (u16_at(openings, at + 4) == 0x0010)
+        & ((1 <= order) & (order <= 2))
+        & (u8_at(openings, at + 19) == 0)
 }
 
 fn openings_fit(openings: &[u8]) -> bool

@@ -22,6 +22,31 @@ unfolding _or_
 or-neither {a = true} {b} h = (h, cc)
 or-neither {a = false} {b} h = (refl, h)
 
+-- in any order
+pub and-assoc : (a b c : Bool) → ((a and b) and c) ≡ (a and (b and c))
+unfolding _and_
+and-assoc true b c = refl
+and-assoc false b c = refl
+
+pub and-false : (a : Bool) → (a and false) ≡ false
+unfolding _and_
+and-false true = refl
+and-false false = refl
+
+pub and-true : (a : Bool) → (a and true) ≡ a
+unfolding _and_
+and-true true = refl
+and-true false = refl
+
+pub and-comm : (a b : Bool) → (a and b) ≡ (b and a)
+unfolding _and_
+and-comm true b = rw and-true
+and-comm false b = rw and-false
+
+pub and-swap : (a b c d : Bool) → ((a and b) and (c and d)) ≡ ((a and c) and (b and d))
+and-swap a b c d =
+    rw (and-assoc a b (c and d), ← and-assoc b c d, and-comm b c, and-assoc c b d, ← and-assoc a c (b and d))
+
 pub clash {ℓ} : {A : Type ℓ} {b : Bool} → b ≡ true → b ≡ false → A
 clash {A} {b} p q =
     let z : _≡_ {A = ℕ} 0 1 = cc in

@@ -14,6 +14,7 @@ use mir.Val.{Fits}
 use borrow.Author.Tests.{eq-eqb, ne-eqb, eqb-true, eqb-false}
 use Rattle.wire.specs.Choice.{_and_}
 use Rattle.wire.specs.Bytes.{Bytes, same, areZero, little, numberOf, part, field}
+use Rattle.wire.proofs.ChoiceLaws.{and-assoc}
 use Rattle.wire.proofs.BytesLaws.{length-part, bytes-part}
 
 -- BYTES: what is known of a lent slice, element by element, says that all are bytes
@@ -110,11 +111,6 @@ unfolding part
 byte-part i at m bs h = rw (getD-take m (drop at bs) i 0 h, getD-drop at bs i 0)
 
 -- TESTS
-pub and-assoc : (a b c : Bool) → ((a and b) and c) ≡ (a and (b and c))
-unfolding _and_
-and-assoc true b c = refl
-and-assoc false b c = refl
-
 pub areZero-append : (xs ys : List ℕ) → areZero (xs ++ ys) ≡ (areZero xs and areZero ys)
 unfolding areZero _and_
 areZero-append [] ys = refl

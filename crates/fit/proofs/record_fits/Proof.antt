@@ -13,7 +13,7 @@ use Rattle.store.specs.Scan.{holds, firstThat}
 use Rattle.store.specs.Fit.{fitsEnd, recordFits}
 use Rattle.store.proofs.ScanLaws.{find-nothing, channel-found}
 use Rattle.store.proofs.SlotTestLaws.{channel-index}
-use Rattle.store.proofs.TestLaws.{and-false}
+use Rattle.wire.proofs.ChoiceLaws.{and-false}
 use borrow.Author.Needs.{needs}
 use Rattle.fit.proofs.record_fits.Statement.{statement}
 use Rattle.fit.proofs.record_fits.Tie as tie

@@ -6,13 +6,13 @@ use native.Mathlib.Omega.{arith}
 use lib.Dec.{eqb}
 use lib.ListN.{length}
 use denote.Ref.{now}
-use borrow.Author.Needs.{needs}
-use borrow.Author.Tests.{eq-eqb, ne-eqb, not-true, not-false}
+use borrow.Author.Tests.{eq-eqb, ne-eqb}
 use Rattle.wire.specs.Choice.{_and_}
 use Rattle.datagram.specs.Datagram.{sizeOfKind, isSound}
 use Rattle.datagram.specs.Sound.{isContextSound, isBodySound}
 use Rattle.datagram.proofs.DatagramLaws.{digest-room}
 use Rattle.datagram.proofs.SoundLaws.{whole}
+use borrow.Author.Needs.{needs}
 use Rattle.datagram.proofs.sound.is_sound.Statement.{statement}
 use Rattle.datagram.proofs.sound.is_sound.Tie as tie
 
@@ -43,32 +43,18 @@ is-context-sound-requires c κs =
     let o = c .before .before .before in
     omega (arith, tests o .0, sized c, digest-room (o .args .kind))
 
+is-body-sound-requires : tie.Need-is-body-sound-requires
+is-body-sound-requires c κs =
+    omega (arith, tests (c .before .before .before .before) .0, sized (c .before))
+
 returns-2 : tie.Need-returns-2
 unfolding _and_
 returns-2 c =
     let e = c .before .before in
     let o = e .before .before .before in
     let right = eq-eqb (o .args .length) (sizeOfKind (o .args .kind)) (sized e) in
-    let context = c .before .is-context-sound in
-    rw (tests o .1, right, ← context .ensures, not-true (context .result) (c .if2 .taken))
-
-is-body-sound-requires : tie.Need-is-body-sound-requires
-is-body-sound-requires c κs =
-    let e = c .before .before in
-    omega (arith, tests (e .before .before .before) .0, sized e)
-
-returns-3 : tie.Need-returns-3
-unfolding _and_
-returns-3 c =
-    let e = c .before .before .before in
-    let o = e .before .before .before in
-    let right = eq-eqb (o .args .length) (sizeOfKind (o .args .kind)) (sized e) in
-    let context = c .before .before .is-context-sound in
-    rw (tests o .1, right, ← context .ensures, not-false (context .result) (c .before .if2 .left))
-    (c .is-body-sound .ensures)
+    rw (tests o .1, right, ← c .before .is-context-sound .ensures, ← c .is-body-sound .ensures)
 
 pub is-sound-spec : {M : Type 1} → statement M
 is-sound-spec =
-    tie.close
-    (tie.spec
-    (λ c κs. search needs) returns is-context-sound-requires returns-2 is-body-sound-requires returns-3)
+    tie.close (tie.spec (λ c κs. search needs) returns is-context-sound-requires is-body-sound-requires returns-2)
