@@ -1,7 +1,7 @@
 // The channel end that acceptance leaves, by the kind of datagram and the channel's ordering.
 use store::Channel;
 use store::Counters;
-use store::ordering::is_ordered;
+use tables::ordering::is_ordered;
 ghost use mathlib.Core.Path.{_≡_};
 ghost use mathlib.Core.Bool.{true, false};
 ghost use Prim.Native.Nat.{_+_};

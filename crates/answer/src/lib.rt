@@ -22,9 +22,11 @@ use store::Channel;
 use store::Found;
 use store::OwnHeight;
 use store::Store;
-use store::fit::is_fit;
-use store::scan::find_channel;
+use fit::is_fit;
+use tables::scan::find_channel;
 use store::slot::channel_at;
+use wire::Frame;
+use wire::frame_in;
 use wire::u64_at;
 ghost use mathlib.Core.Path.{_≡_};
 ghost use mathlib.Core.Bool.{true};
@@ -50,7 +52,10 @@ pub fn answer(store: &[u8], room: usize, datagram: &[u8]) -> u8
     if room < Store::OUTPUT {
         return 2;
     }
-    if !is_sound(datagram) {
+    let Frame::Whole { kind, length } = frame_in(datagram) else {
+        return 3;
+    };
+    if !is_sound(datagram, kind, length) {
         return 3;
     }
     answer_sound(store, datagram)

@@ -1,4 +1,4 @@
-// Whether a datagram is well formed: its frame, its length by kind, its context, and its body by kind.
+// Whether a datagram whose frame is whole is well formed.
 use super::read::BODY;
 use super::read::DIGEST;
 use super::read::FRAME;
@@ -7,14 +7,14 @@ use super::read::VERDICT;
 use super::read::packet_in;
 use super::read::sequence_in;
 use super::read::verdict_in;
-use wire::Frame;
 use wire::are_zero;
-use wire::frame_in;
 use wire::u64_at;
 ghost use mathlib.Core.Path.{_≡_};
 ghost use mathlib.Core.Bool.{true};
 ghost use Prim.Native.Nat.{_≤_};
 ghost use lib.ListN.{length};
+ghost use Rattle.wire.specs.Frame.{frameIn};
+ghost use Rattle.wire.specs.declared.Frame.the-variants.{Whole};
 ghost use Rattle.datagram.specs.Datagram.{bodyFrom, sizeOfKind, isProved, isSound};
 ghost use Rattle.datagram.specs.Sound.{isContextSound, isPacketSound, isBodySound};
 
@@ -73,12 +73,11 @@ fn is_body_sound(d: &[u8], kind: u16) -> bool
     }
 }
 
-pub fn is_sound(d: &[u8]) -> bool
+// What is left to test of a whole frame: its length by kind, its context, and its body by kind.
+pub fn is_sound(d: &[u8], kind: u16, length: u32) -> bool
+    requires { ⌜ frameIn (now d) ≡ Whole kind length ⌝ }
     ensures { λ r. ⌜ r ≡ isSound (now (d .entry)) ⌝ }
 {
-    let Frame::Whole { kind, length } = frame_in(d) else {
-        return false;
-    };
     if length as usize != size_of(kind) {
         return false;
     }

@@ -5,7 +5,7 @@ use mathlib.Core.Option.{Option, none, some}
 use Prim.Native.Nat.{ℕ, suc}
 use Rattle.store.specs.Table.{hasFree}
 use Rattle.store.specs.Scan.{indexWhere, isFree}
-use Rattle.store.specs.SlotTest.{isAt}
+use Rattle.store.specs.Scan.{isAt}
 
 pub free-at : {A : Type 0} (n : ℕ) (xs : List (Option A)) → hasFree xs ≡ isAt (indexWhere isFree n xs)
 unfolding hasFree indexWhere

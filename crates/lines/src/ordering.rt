@@ -1,8 +1,8 @@
 // The tests that depend on a channel's ordering: 14 for 5, 15, 16 for 2, 19, and 20 for 2. The store has that of 17,
 // and no other test does.
 use store::Channel;
-use store::ordering::is_ordered;
-use store::scan::has_record;
+use tables::ordering::is_ordered;
+use tables::scan::has_record;
 ghost use mathlib.Core.Path.{_≡_};
 ghost use mathlib.Core.Bool.{true};
 ghost use lib.Dec.{eqb};

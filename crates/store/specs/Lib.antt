@@ -8,6 +8,5 @@ pub mod Maker
 pub mod Names
 pub mod Slot
 pub mod Scan
-pub mod SlotTest
 pub mod Effect
 pub mod Length

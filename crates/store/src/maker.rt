@@ -4,7 +4,7 @@ use super::Channel;
 use super::Counters;
 use super::End;
 use super::Store;
-use super::exact::size_fits;
+use super::size::size_fits;
 use super::slot::put_channel;
 use wire::put_u16;
 use wire::put_u32;
@@ -22,7 +22,6 @@ ghost use Rattle.wire.specs.Bytes.{part, patch};
 ghost use Rattle.store.specs.Limits.{recordLimit};
 ghost use Rattle.store.specs.Table.{distinct, sameNumber, channelAt};
 ghost use Rattle.store.specs.Layout.{headerSize, slotSize, channelBytes, tableBytes, headerBytes, bytesOf};
-ghost use Rattle.store.specs.Length.{lengthFor};
 ghost use Rattle.store.specs.Maker.{openingSize, openingsIn, openingFits, allOpeningsFit, openingOf, endsOf};
 ghost use Rattle.store.specs.Maker.{makeNumber, madeStore, makeTold, makeStore};
 
@@ -30,19 +29,6 @@ ghost use Rattle.store.specs.Maker.{makeNumber, madeStore, makeTold, mak
 const OPENING: usize = 20;
 
 impl Store {
-    // The length of a store with so many packet records, or 0 where no store has so many.
-    pub fn length(records: usize) -> usize
-        ensures { λ r. ⌜ r ≡ lengthFor records ⌝ }
-    {
-        if records < 1 {
-            return 0;
-        }
-        if Store::RECORDS < records {
-            return 0;
-        }
-        Store::RECORDS_FROM + Store::SLOT * records
-    }
-
     // Makes a fresh store of the whole slice. Answers 0, or why not: 21 to 24.
     pub fn make(store: &mut [u8], openings: &[u8]) -> u8
         ensures told { λ r. ⌜ r ≡ makeTold (now (store .entry)) (now (openings .entry)) ⌝ }

@@ -7,7 +7,7 @@ use native.Mathlib.Nat.{add-assoc, zero-add, suc-add, suc-inj, suc-ne-zero}
 use native.Mathlib.Nat.{mul-assoc, mul-comm, pow-succ', mod-add-div, mod-lt}
 use native.Mathlib.Omega.{arith}
 use lib.Dec.{eqb}
-use lib.ListN.{length, getD, take, drop, length-take, length-drop}
+use lib.ListN.{length, getD, drop}
 use lib.Seq.{take-add, drop-drop, drop-cons, take-all}
 use mir.Syntax.{w8}
 use mir.Val.{Fits}

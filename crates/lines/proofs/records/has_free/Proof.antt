@@ -2,7 +2,7 @@
 use mathlib.Core.Path.{sym, ap, _∙_}
 use denote.Ref.{now}
 use Rattle.store.specs.Layout.{storeIn}
-use Rattle.store.specs.SlotTest.{isAt}
+use Rattle.store.specs.Scan.{isAt}
 use Rattle.lines.proofs.FreeLaws.{free-at}
 use borrow.Author.Needs.{needs}
 use Rattle.lines.proofs.records.has_free.Statement.{statement}

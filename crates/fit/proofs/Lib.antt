@@ -1,0 +1,3 @@
+mod FieldLaws
+mod ExactLaws
+mod EverySlotLaws

@@ -1,0 +1,56 @@
+-- The answer for all slots is the answer for those that are left. Assumes nothing.
+use mathlib.Core.Path.{_≡_, refl}
+use mathlib.Core.Bool.{Bool}
+use mathlib.Core.List.{List}
+use Prim.Native.Nat.{ℕ, _-_}
+use native.Mathlib.Omega.{arith}
+use lib.ListN.{drop}
+use denote.Ref.{now}
+use Rattle.wire.specs.Bytes.{pieces}
+use Rattle.store.specs.Limits.{channelLimit}
+use Rattle.store.specs.Layout.{slotSize, headerSize, channelBytes, channelIn}
+use Rattle.fit.specs.EverySlot.{isExact, areExact}
+use Rattle.fit.proofs.EverySlotLaws.{everyFrom, fails, passes, passed}
+use Rattle.fit.proofs.exact.are_channels_exact.Statement.{statement}
+use Rattle.fit.proofs.exact.are_channels_exact.Tie as tie
+
+abbrev test : List ℕ → List (List ℕ) → Bool
+test p behind = isExact channelBytes channelIn p
+
+abbrev Inv-loop : tie.InvT-loop
+Inv-loop s i₀ i =
+    areExact channelBytes channelIn (pieces slotSize channelLimit (drop headerSize s)) ≡
+    everyFrom test headerSize channelLimit s i
+
+abbrev μ-loop : tie.MeasureT-loop
+μ-loop s i₀ i = channelLimit - i
+
+loop-holds : tie.Need-loop-holds Inv-loop μ-loop
+loop-holds c = refl
+
+returns : tie.Need-returns Inv-loop μ-loop
+returns c =
+    let l = c .before .before .before in
+    let a = l .before .before .args in
+    fails test headerSize channelLimit (now (a .s)) (l .loop .i) (l .loop .inv) (omega arith)
+    (c .before .is-channel-exact .ensures) (c .if1 .taken)
+
+loop-again : tie.Need-loop-again Inv-loop μ-loop
+loop-again c =
+    let l = c .before .before .before in
+    let a = l .before .before .args in
+    passes test headerSize channelLimit (now (a .s)) (l .loop .i) (l .loop .inv) (omega arith)
+    (c .before .is-channel-exact .ensures) (c .if1 .left)
+
+returns-2 : tie.Need-returns-2 Inv-loop μ-loop
+returns-2 c =
+    let l = c .before in
+    let a = l .before .before .args in
+    passed test headerSize channelLimit (now (a .s)) (l .loop .i) (l .loop .inv) (omega arith)
+
+pub are-channels-exact-spec : {M : Type 1} → statement M
+are-channels-exact-spec =
+    tie.close
+    (tie.spec
+    Inv-loop μ-loop loop-holds (λ c. omega arith) (λ c. omega arith) (λ c κs. omega arith) returns (λ c. omega arith)
+    (λ c. omega arith) loop-again returns-2)

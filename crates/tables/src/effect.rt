@@ -1,0 +1,50 @@
+// What acceptance does to the lent store, a step at a time: the times, one channel end, one packet record.
+// Each step leaves the bytes of the store with that part replaced, and no other byte changed.
+use store::Channel;
+use store::OwnHeight;
+use store::Record;
+use store::Store;
+use store::slot::free_slot;
+use store::slot::put_channel;
+use store::slot::put_record;
+use wire::put_u64;
+ghost use mathlib.Core.Path.{_≡_};
+ghost use mathlib.Core.Option.{none, some};
+ghost use Prim.Native.Nat.{_<_};
+ghost use lib.ListN.{length};
+ghost use Rattle.store.specs.Limits.{channelLimit};
+ghost use Rattle.store.specs.Layout.{bytesOf, storeIn};
+ghost use Rattle.store.specs.Effect.{Exact, withTimes, withChannelSlot, withRecordSlot};
+
+// Last height and time.
+pub fn set_times(s: &mut [u8], height: OwnHeight, time: u64)
+    requires { ⌜ Exact (now s) ⌝ }
+    ensures { λ _. ⌜ now (s .exit) ≡ bytesOf (withTimes (storeIn (now (s .entry))) height time) ⌝ }
+{
+    put_u64(s, 8, height.0);
+    put_u64(s, 16, time);
+}
+
+// The channel end of index `j`.
+pub fn set_channel(s: &mut [u8], j: usize, c: Channel)
+    requires { ⌜ Exact (now s) × (j < channelLimit) ⌝ }
+    ensures { λ _. ⌜ now (s .exit) ≡ bytesOf (withChannelSlot (storeIn (now (s .entry))) j (some c)) ⌝ }
+{
+    put_channel(s, Store::HEADER + Store::SLOT * j, c);
+}
+
+// A packet record takes the slot of index `i`.
+pub fn insert_record(s: &mut [u8], i: usize, r: Record)
+    requires { ⌜ Exact (now s) × (i < length (storeIn (now s) .records)) ⌝ }
+    ensures { λ _. ⌜ now (s .exit) ≡ bytesOf (withRecordSlot (storeIn (now (s .entry))) i (some r)) ⌝ }
+{
+    put_record(s, Store::RECORDS_FROM + Store::SLOT * i, r);
+}
+
+// The slot of index `i` becomes free.
+pub fn remove_record(s: &mut [u8], i: usize)
+    requires { ⌜ Exact (now s) × (i < length (storeIn (now s) .records)) ⌝ }
+    ensures { λ _. ⌜ now (s .exit) ≡ bytesOf (withRecordSlot (storeIn (now (s .entry))) i none) ⌝ }
+{
+    free_slot(s, Store::RECORDS_FROM + Store::SLOT * i);
+}
