@@ -12,7 +12,7 @@ use Rattle.wire.proofs.PatchLaws.{patch-append, patch-then, patch-front}
 use Rattle.datagram.specs.declared.Packet.{Packet}
 use Rattle.datagram.specs.Datagram.{frameSize}
 use Rattle.datagram.specs.Emitted.{framed, packetBytes}
-use Rattle.datagram.specs.Output.{atFront, frameBytes, timeoutBytes, endBytes}
+use Rattle.datagram.specs.Output.{atFront, endBytes}
 
 -- what is stored from the first place on stands at the front, and the bytes behind it stay
 pub patch-start : (xs bs : List ℕ) → length xs ≤ length bs → patch 0 xs bs ≡ atFront xs bs
@@ -20,41 +20,30 @@ patch-start xs bs h =
     ap (patch 0 xs) (sym (take-append-drop (length xs) bs))
     ∙ patch-front xs (take (length xs) bs) (drop (length xs) bs) (sym (length-take-le (length xs) bs h))
 
--- two numbers, of n and m bytes, stored one behind the other
-pub patch-two : (i n m x y : ℕ) (bs : List ℕ) {mid all : List ℕ} →
-    mid ≡ patch i (little n x) bs → all ≡ patch (i + n) (little m y) mid →
-    all ≡ patch i (little n x ++ little m y) bs
-patch-two i n m x y bs {mid} {all} p q =
-    rw (q, p) (patch-then i n (little n x) (little m y) bs (length-little n x))
-
 pub length-framed : (k : ℕ) (bs : List ℕ) → length (framed k bs) ≡ length bs + frameSize
 unfolding framed
 length-framed k bs = simp (length-append, length-little) (omega arith)
 
--- a body behind its frame
-pub framed-start : (k n : ℕ) (xs bs : List ℕ) → length xs ≡ n → n + frameSize ≤ length bs →
-    patch frameSize xs (patch 0 (frameBytes k n) bs) ≡ atFront (framed k xs) bs
+-- a body of n bytes behind its frame, and the length that the frame tells
+pub emitted : (k n : ℕ) (xs bs : List ℕ) {mid all : List ℕ} → length xs ≡ n → n + frameSize ≤ length bs →
+    mid ≡ patch 0 (little 4 (n + frameSize) ++ little 2 k) bs → all ≡ patch frameSize xs mid →
+    (all ≡ atFront (framed k xs) bs) × (n + frameSize ≡ length (framed k xs))
 unfolding framed
-framed-start k n xs bs l h =
-    let six : length (frameBytes k n) ≡ frameSize = simp (length-append, length-little) in
-    let room : length (framed k xs) ≤ length bs = omega (arith, length-framed k xs) in
-    patch-then 0 frameSize (frameBytes k n) xs bs six
-    ∙ rw (append-assoc (little 4 (n + frameSize)) (little 2 k) xs, ← l) (patch-start (framed k xs) bs room)
+emitted k n xs bs {mid} {all} l h head body =
+    let frame : List ℕ = little 4 (n + frameSize) ++ little 2 k in
+    let six : length frame ≡ frameSize = simp (length-append, length-little) in
+    let room : length (framed k xs) ≤ length bs = omega (arith, length-framed k xs) in (
+      rw (body, head) (patch-then 0 frameSize frame xs bs six ∙
+          rw (append-assoc (little 4 (n + frameSize)) (little 2 k) xs, ← l) (patch-start (framed k xs) bs room)),
+      omega (arith, length-framed k xs),
+    )
 
--- so a record of n bytes behind its frame, with the frame's length for its own
-pub emitted : (k n : ℕ) (xs bs : List ℕ) {mid all : List ℕ} {r : ℕ} → length xs ≡ n → n + frameSize ≤ length bs →
-    (mid ≡ patch 0 (frameBytes k n) bs) × (r ≡ n + frameSize) → all ≡ patch frameSize xs mid →
-    (all ≡ atFront (framed k xs) bs) × (r ≡ length (framed k xs))
-emitted k n xs bs {mid} {all} {r} l h head body =
-    (rw (body, head .0) (framed-start k n xs bs l h), omega (arith, head .1, length-framed k xs))
-
--- a packet is stored field by field
+-- a packet is stored part by part
 pub patch-packet : (at : ℕ) (p : Packet) (bs : List ℕ) →
     patch at (packetBytes p) bs
     ≡ patch (at + 36) (p .digest)
     (patch (at + 30) (endBytes (p .destination))
     (patch (at + 24) (endBytes (p .source))
-    (patch (at + 8) (timeoutBytes (p .timeout))
-    (patch at (little 8 (p .sequence)) bs))))
+    (patch at (little 8 (p .sequence) ++ little 8 (p .timeout .height) ++ little 8 (p .timeout .time)) bs)))
 unfolding packetBytes
 patch-packet at p bs = simp (patch-append, length-append, length-little, add-assoc)

@@ -9,6 +9,7 @@ use Rattle.wire.specs.Choice.{_and_, _or_, pick, isIn}
 use Rattle.wire.specs.Bytes.{areZero, part, field, digestSize}
 use Rattle.store.specs.declared.Timeout.{Timeout}
 use Rattle.store.specs.Height.{ownHeight, otherHeight}
+use Rattle.store.specs.Part.{endIn, timeoutIn}
 use Rattle.datagram.specs.declared.Context.{Context}
 use Rattle.datagram.specs.declared.Packet.{Packet}
 use Rattle.datagram.specs.declared.Verdict.{Verdict}
@@ -48,9 +49,9 @@ unfoldable pub packetIn : (from : ℕ) → List ℕ → Packet
 packetIn i d =
     record {
       sequence = field i 8 d;
-      timeout = record { height = field (i + 8) 8 d; time = field (i + 16) 8 d };
-      source = record { port = field (i + 24) 2 d; channel = field (i + 26) 4 d };
-      destination = record { port = field (i + 30) 2 d; channel = field (i + 32) 4 d };
+      timeout = timeoutIn (i + 8) d;
+      source = endIn (i + 24) d;
+      destination = endIn (i + 30) d;
       digest = part (i + 36) digestSize d;
     }
 
@@ -60,9 +61,9 @@ verdictIn i d =
       claim = field i 2 d;
       height = otherHeight (field (i + 2) 8 d);
       time = field (i + 10) 8 d;
-      end = record { port = field (i + 18) 2 d; channel = field (i + 20) 4 d };
+      end = endIn (i + 18) d;
       sequence = field (i + 24) 8 d;
-      timeout = record { height = field (i + 32) 8 d; time = field (i + 40) 8 d };
+      timeout = timeoutIn (i + 32) d;
       digest = part (i + 48) digestSize d;
     }
 
@@ -74,7 +75,7 @@ sizeOfKind k =
     (pick (eqb k 4) (bodyFrom + packetSize + digestSize + verdictSize) (bodyFrom + packetSize + verdictSize)))
 
 unfoldable pub timeoutFrom : List ℕ → Timeout
-timeoutFrom d = record { height = field (bodyFrom + 4) 8 d; time = field (bodyFrom + 12) 8 d }
+timeoutFrom d = timeoutIn (bodyFrom + 4) d
 
 unfoldable pub sequenceFrom : List ℕ → ℕ
 sequenceFrom d = field (bodyFrom + 4) 8 d

@@ -1,23 +1,14 @@
 -- What a record that is handed out leaves in the lent output: it stands at the front, and the bytes behind it stay.
 use mathlib.Core.List.{List, _++_}
-use Prim.Native.Nat.{ℕ, _+_}
+use Prim.Native.Nat.{ℕ}
 use lib.ListN.{length, drop}
 use Rattle.wire.specs.Bytes.{little}
 use Rattle.store.specs.declared.End.{End}
-use Rattle.store.specs.declared.Timeout.{Timeout}
 use Rattle.datagram.specs.declared.Packet.{Packet}
-use Rattle.datagram.specs.Datagram.{frameSize}
 use Rattle.datagram.specs.Emitted.{framed, packetBytes}
 
 abbrev pub atFront : (emitted output : List ℕ) → List ℕ
 atFront e o = e ++ drop (length e) o
-
--- THEIR PARTS: the frame of a body of so many bytes, timeouts, and an end
-abbrev pub frameBytes : (kind size : ℕ) → List ℕ
-frameBytes k n = little 4 (n + frameSize) ++ little 2 k
-
-abbrev pub timeoutBytes : Timeout → List ℕ
-timeoutBytes t = little 8 (t .height) ++ little 8 (t .time)
 
 abbrev pub endBytes : End → List ℕ
 endBytes e = little 2 (e .port) ++ little 4 (e .channel)

@@ -3,10 +3,11 @@
 use super::Context;
 use super::Packet;
 use super::Verdict;
-use store::End;
 use store::OtherHeight;
 use store::OwnHeight;
 use store::Timeout;
+use store::part::end_at;
+use store::part::timeout_at;
 use wire::digest_at;
 use wire::u16_at;
 use wire::u32_at;
@@ -45,29 +46,20 @@ pub fn context_in(d: &[u8]) -> Context
     }
 }
 
-pub fn packet_at(d: &[u8], at: usize) -> Packet
+fn packet_at(d: &[u8], at: usize) -> Packet
     requires { ⌜ at + packetSize ≤ length (now d) ⌝ }
     ensures { λ r. ⌜ r ≡ packetIn at (now (d .entry)) ⌝ }
 {
     Packet {
         sequence: u64_at(d, at),
-        timeout: Timeout {
-            height: u64_at(d, at + 8),
-            time: u64_at(d, at + 16),
-        },
-        source: End {
-            port: u16_at(d, at + 24),
-            channel: u32_at(d, at + 26),
-        },
-        destination: End {
-            port: u16_at(d, at + 30),
-            channel: u32_at(d, at + 32),
-        },
+        timeout: timeout_at(d, at + 8),
+        source: end_at(d, at + 24),
+        destination: end_at(d, at + 30),
         digest: digest_at(d, at + 36),
     }
 }
 
-pub fn verdict_at(d: &[u8], at: usize) -> Verdict
+fn verdict_at(d: &[u8], at: usize) -> Verdict
     requires { ⌜ at + verdictSize ≤ length (now d) ⌝ }
     ensures { λ r. ⌜ r ≡ verdictIn at (now (d .entry)) ⌝ }
 {
@@ -75,15 +67,9 @@ pub fn verdict_at(d: &[u8], at: usize) -> Verdict
         claim: u16_at(d, at),
         height: OtherHeight(u64_at(d, at + 2)),
         time: u64_at(d, at + 10),
-        end: End {
-            port: u16_at(d, at + 18),
-            channel: u32_at(d, at + 20),
-        },
+        end: end_at(d, at + 18),
         sequence: u64_at(d, at + 24),
-        timeout: Timeout {
-            height: u64_at(d, at + 32),
-            time: u64_at(d, at + 40),
-        },
+        timeout: timeout_at(d, at + 32),
         digest: digest_at(d, at + 48),
     }
 }
@@ -101,10 +87,7 @@ pub fn timeout_in(d: &[u8]) -> Timeout
     requires { ⌜ bodyFrom + 20 ≤ length (now d) ⌝ }
     ensures { λ r. ⌜ r ≡ timeoutFrom (now (d .entry)) ⌝ }
 {
-    Timeout {
-        height: u64_at(d, BODY + 4),
-        time: u64_at(d, BODY + 12),
-    }
+    timeout_at(d, BODY + 4)
 }
 
 pub fn sequence_in(d: &[u8]) -> u64

@@ -1,19 +1,32 @@
--- Laws of a test of each slot of a table, turn by turn, and of what a slot is tested for. Assumes nothing.
-use mathlib.Core.Path.{_≡_, refl, sym, _∙_}
+-- Laws of a test of each slot of a table, turn by turn; and the tests of a fit store by its parts. Assumes nothing.
+use mathlib.Core.Path.{_≡_, refl, sym, ap, _∙_}
 use mathlib.Core.Bool.{Bool, true, false, not}
-use mathlib.Core.List.{List, [], _∷_, map}
+use mathlib.Core.List.{List, [], _∷_, _++_, map, append-assoc, append-nil}
 use mathlib.Core.Option.{Option, none, some}
-use Prim.Native.Nat.{ℕ, _+_, _≤_, _<_}
+use Prim.Native.Nat.{ℕ, zero, suc, _+_, _*_, _≤_, _<_}
+use native.Mathlib.Nat.{sub-zero}
+use native.Mathlib.Omega.{arith}
+use lib.ListN.{length, take, drop, length-append, length-drop, take-append-drop, drop-of-length-le}
+use lib.Seq.{length-take-le, drop-drop}
 use borrow.Author.Tests.{not-true, not-false}
-use Rattle.wire.specs.Choice.{_and_, isSome}
-use Rattle.wire.specs.Bytes.{areZero}
-use Rattle.store.specs.Table.{find, all, distinct}
-use Rattle.store.specs.Layout.{slotIn}
+use Rattle.wire.specs.Choice.{_and_, _or_, isSome}
+use Rattle.wire.specs.Bytes.{same, areZero, part, field, pieces, digestSize}
+use Rattle.wire.proofs.ChoiceLaws.{cases, of-pick}
+use Rattle.wire.proofs.BytesLaws.{eq-same, length-little, length-part}
+use Rattle.wire.proofs.PartLaws.{and-assoc, same-append}
+use Rattle.store.specs.Limits.{channelLimit}
+use Rattle.store.specs.Table.{find, all, distinct, sameNumber, sameKey}
+use Rattle.store.specs.Layout.{headerSize, slotSize, recordsFrom, roomIn}
+use Rattle.store.specs.Layout.{channelBytes, recordBytes, slotBytes, tableBytes, headerBytes, bytesOf}
+use Rattle.store.specs.Layout.{channelIn, recordIn, slotIn, tableIn, storeIn}
 use Rattle.store.specs.Scan.{indexWhere, isAt, holds, slotAt, slotsFrom}
-use Rattle.store.proofs.TestLaws.{and-swap, holds-then, fails-then}
+use Rattle.store.specs.Fit.{channelFits, channelsFit, recordFits, recordsFit, storeFits, sizeFits, isFit}
+use Rattle.store.proofs.FitLaws.{fits-size, length-read}
+use Rattle.store.proofs.TestLaws.{and-true, and-comm, and-swap}
 use Rattle.store.proofs.TurnLaws.{slots-turn, slots-end}
 use Rattle.store.proofs.SlotTestLaws.{find-at}
-use Rattle.fit.specs.EverySlot.{everySlot, fitsBefore}
+use Rattle.fit.specs.EverySlot.{everySlot, isExact, slotFits}
+use Rattle.fit.proofs.FieldLaws.{same-zeros}
 
 -- A TURN: after i turns the answer for all slots is the answer for those that are left. The test came to r
 module _ (t : List ℕ → List (List ℕ) → Bool) (start n : ℕ) (bs : List ℕ) where
@@ -34,38 +47,124 @@ module _ (t : List ℕ → List (List ℕ) → Bool) (start n : ℕ) (bs : List 
     unfolding everySlot
     passed h = rw (left, slots-end start n bs i h)
 
--- ALL AND DISTINCT, of a table that is read, in one scan
-module _ {A : Type 0} (t : A → Bool) (u : A → A → Bool) (g : List ℕ → A) where
-  abbrev pub slotFits : List ℕ → List (List ℕ) → Bool
-  slotFits p behind = fitsBefore t u (slotIn g p) (map (slotIn g) behind)
+-- A SLOT: its bytes are zero; or x is read there, is exact as e tells, and passes as r tells, and f tells whether an
+-- entry behind has its name
+module _ {A : Type 0} (write : A → List ℕ) (g : List ℕ → A) (t : A → Bool) (u : A → A → Bool) (p : List ℕ)
+    (ps : List (List ℕ)) {zero : Bool} (bytes : zero ≡ areZero p) where
+  pub slot-free : zero ≡ true → true ≡ slotFits write g t u p ps
+  unfolding slotFits _or_
+  slot-free h = let z = sym bytes ∙ h in rw z
 
-  fits-cons : (x : Option A) (xs : List (Option A)) →
-      (all t (x ∷ xs) and distinct u (x ∷ xs)) ≡ (fitsBefore t u x xs and (all t xs and distinct u xs))
-  unfolding all distinct fitsBefore _and_
-  fits-cons none xs = refl
-  fits-cons (some x) xs = and-swap (t x) (all t xs) (not (isSome (find (u x) xs))) (distinct u xs)
+  pub slot-taken : zero ≡ false → (i : ℕ) {x : A} {e r f : Bool} → x ≡ g p → e ≡ isExact write g p → r ≡ t x →
+      f ≡ isAt (indexWhere (holds (u x)) i (map (slotIn g) ps)) → (e and r and not f) ≡ slotFits write g t u p ps
+  unfolding slotFits _or_
+  slot-taken h i read exact tested found =
+      let z = sym bytes ∙ h in
+      rw (z, exact, tested, found, ← find-at (u _) i (map (slotIn g) ps), read)
 
-  pub fits-table : (ps : List (List ℕ)) →
-      (all t (map (slotIn g) ps) and distinct u (map (slotIn g) ps)) ≡ everySlot slotFits ps
-  unfolding all distinct everySlot _and_
-  fits-table [] = refl
-  fits-table (p ∷ ps) = fits-cons (slotIn g p) (map (slotIn g) ps) ∙ rw (fits-table ps)
+-- A TABLE that is read, with any bytes behind it
+no-turn : (a : Bool) → (a and (true and true)) ≡ (true and a)
+unfolding _and_
+no-turn a = and-true a
 
-  -- A SLOT, tested: its bytes are zero; or x is read there and fails; or x passes, and f tells of another of its name
-  module _ (p : List ℕ) (xs : List (Option A)) {zero : Bool} (bytes : zero ≡ areZero p) where
-    pub slot-free : zero ≡ true → true ≡ fitsBefore t u (slotIn g p) xs
-    unfolding fitsBefore slotIn
-    slot-free h = let e = sym bytes ∙ h in rw (slotIn, e)
+and-turn : (a s d f d' : Bool) {q : Bool} → (a and d) ≡ (f and d') → (s and d') ≡ q → ((a and s) and d) ≡ (f and q)
+and-turn a s d f d' {q} h k =
+    rw (and-assoc a s d, and-comm s d, ← and-assoc a d s, h, and-assoc f d' s, and-comm d' s, k)
 
-    module _ (held : zero ≡ false) {x : A} {r : Bool} (read : x ≡ g p) (tested : r ≡ t x) where
-      slot-held : fitsBefore t u (slotIn g p) xs ≡ (t x and not (isSome (find (u x) xs)))
-      unfolding fitsBefore slotIn
-      slot-held = let e = sym bytes ∙ held in rw (slotIn, e, read)
+module _ {A : Type 0} (f : A → List ℕ) (g : List ℕ → A) (t : A → Bool) (u : A → A → Bool)
+    (sized : (p : List ℕ) → length p ≡ slotSize → length (f (g p)) ≡ slotSize) where
+  length-slot : (p : List ℕ) → length p ≡ slotSize → length (slotBytes f (slotIn g p)) ≡ slotSize
+  unfolding slotBytes slotIn
+  length-slot p l =
+      of-pick (λ (x : Option A). length (slotBytes f x) ≡ slotSize) (areZero p) none (some (g p)) (λ e. refl)
+      (λ e. sized p l)
 
-      pub slot-unfit : not r ≡ true → false ≡ fitsBefore t u (slotIn g p) xs
-      slot-unfit h = rw (slot-held, fails-then (not (isSome (find (u x) xs))) tested h)
+  -- a slot more
+  slot-more : (p : List ℕ) (ps : List (List ℕ)) → length p ≡ slotSize → let xs = map (slotIn g) ps in
+      (same (slotBytes f (slotIn g p)) p and (all t (slotIn g p ∷ xs) and distinct u (slotIn g p ∷ xs))) ≡
+      (slotFits f g t u p ps and (all t xs and distinct u xs))
+  unfolding slotBytes slotIn slotFits all distinct _and_ _or_
+  slot-more p ps l =
+      let xs : List (Option A) = map (slotIn g) ps in
+      let lone : Bool = not (isSome (find (u (g p)) xs)) in
+      cases (areZero p) (λ e. rw (slotIn, e, same-zeros slotSize p l, e))
+      (λ e.
+      rw (
+        slotIn,
+        e,
+        and-swap (t (g p)) (all t xs) lone (distinct u xs),
+        and-assoc (isExact f g p) (t (g p)) lone,
+        and-assoc (isExact f g p) (t (g p) and lone),
+      ))
 
-      pub slot-fit : not r ≡ false → (n : ℕ) {f : Bool} → f ≡ isAt (indexWhere (holds (u x)) n xs) →
-          not f ≡ fitsBefore t u (slotIn g p) xs
-      slot-fit h n found =
-          rw (slot-held, holds-then (not (isSome (find (u x) xs))) tested h, find-at (u x) n xs, found)
+  table-fits : (n : ℕ) (bs rest : List ℕ) → slotSize * n ≤ length bs → let xs = tableIn g n bs in
+      (same (tableBytes f xs ++ rest) bs and (all t xs and distinct u xs)) ≡
+      (everySlot (slotFits f g t u) (pieces slotSize n bs) and same rest (drop (slotSize * n) bs))
+  unfolding tableBytes pieces everySlot all distinct
+  table-fits zero bs rest l = no-turn (same rest bs)
+  table-fits (suc n) bs rest l =
+      let p : List ℕ = take slotSize bs in
+      let bs' : List ℕ = drop slotSize bs in
+      let x : List ℕ = slotBytes f (slotIn g p) in
+      let y : List ℕ = tableBytes f (tableIn g n bs') in
+      let e : slotSize * suc n ≡ slotSize + slotSize * n = omega arith in
+      let lp : length p ≡ slotSize = length-take-le slotSize bs (omega arith) in
+      let ih = table-fits n bs' rest (omega (arith, length-drop slotSize bs)) in
+      let halves : same (x ++ y ++ rest) bs ≡ (same x p and same (y ++ rest) bs') =
+      ap (λ (l : List ℕ). same l bs) (append-assoc x y rest) ∙
+      ap (same (x ++ (y ++ rest))) (sym (take-append-drop slotSize bs)) ∙
+      same-append x p (y ++ rest) bs' (length-slot p lp ∙ sym lp) in
+      rw (
+        halves,
+        e,
+        ← drop-drop (slotSize * n) slotSize bs,
+        and-assoc (slotFits f g t u p (pieces slotSize n bs')),
+      )
+      (and-turn (same x p) (same (y ++ rest) bs') _ _ _ (slot-more p (pieces slotSize n bs') lp) ih)
+
+channel-size : (p : List ℕ) → length p ≡ slotSize → length (channelBytes (channelIn p)) ≡ slotSize
+unfolding channelBytes
+channel-size p l = simp (length-append, length-little)
+
+record-size : (p : List ℕ) → length p ≡ slotSize → length (recordBytes (recordIn p)) ≡ slotSize
+unfolding recordBytes recordIn
+record-size p l = simp (length-append, length-little) (rw (length-part 32 digestSize p (omega arith)))
+
+-- THE STORE: the header, and each slot of its two tables
+header-size : (h t n : ℕ) → length (headerBytes h t n) ≡ headerSize
+unfolding headerBytes
+header-size h t n = simp (length-append, length-little)
+
+two-tables : (h a b c d e : Bool) {q : Bool} → (a and b) ≡ (c and d) → (d and e) ≡ q →
+    (h and a and (b and e)) ≡ (h and c and q)
+two-tables h a b c d e {q} first second =
+    rw (and-assoc h a (b and e), ← and-assoc a b e, first, and-assoc c d e, second, ← and-assoc h c q)
+
+pub fit-parts : (bs : List ℕ) → sizeFits (length bs) ≡ true → let n = roomIn (length bs) in
+    isFit bs ≡
+    (same (headerBytes (field 8 8 bs) (field 16 8 bs) n) (part 0 headerSize bs) and
+    everySlot (slotFits channelBytes channelIn channelFits sameNumber) (slotsFrom headerSize channelLimit bs 0) and
+    everySlot (slotFits recordBytes recordIn (recordFits (storeIn bs)) sameKey) (slotsFrom recordsFrom n bs 0))
+unfolding isFit storeFits channelsFit recordsFit bytesOf storeIn part _and_
+fit-parts bs fits =
+    let n : ℕ = roomIn (length bs) in
+    let size = fits-size (length bs) fits .whole in
+    let c : List ℕ = tableBytes channelBytes (storeIn bs .channels) in
+    let r : List ℕ = tableBytes recordBytes (storeIn bs .records) in
+    let h : List ℕ = headerBytes (field 8 8 bs) (field 16 8 bs) n in
+    let front : List ℕ = take headerSize bs in
+    let tables : List ℕ = drop headerSize bs in
+    let last : List ℕ = drop recordsFrom bs in
+    let lf : length front ≡ headerSize = length-take-le headerSize bs (omega arith) in
+    let lt : length tables ≡ slotSize * channelLimit + slotSize * n = omega (arith, length-drop headerSize bs) in
+    let ll : length last ≡ slotSize * n = omega (arith, length-drop recordsFrom bs) in
+    let whole : same (h ++ (c ++ r)) bs ≡ (same h front and same (c ++ r) tables) =
+    ap (same (h ++ (c ++ r))) (sym (take-append-drop headerSize bs)) ∙
+    same-append h front (c ++ r) tables (header-size (field 8 8 bs) (field 16 8 bs) n ∙ sym lf) in
+    let all = drop-of-length-le last {i = slotSize * n} (omega arith) in
+    let channels = table-fits channelBytes channelIn channelFits sameNumber channel-size channelLimit tables r
+    (omega arith) in
+    let records = table-fits recordBytes recordIn (recordFits (storeIn bs)) sameKey record-size n last [] (omega arith) in
+    rw (fits, length-read recordIn n last, sub-zero n, whole)
+    (two-tables (same h front) _ _ _ _ _ (rw (drop-drop (slotSize * channelLimit) headerSize bs) at channels)
+    (rw (append-nil, all, eq-same [], and-true) at records))

@@ -2,13 +2,15 @@
 // once; for each entry the slots behind it are searched for its name.
 mod exact; // bytes laid out exactly as a store's
 
-use exact::is_exact;
+use exact::is_channel_exact;
+use exact::is_header_exact;
+use exact::is_record_exact;
 use store::Channel;
-use store::Counters;
 use store::Found;
 use store::Record;
 use store::Store;
 use store::Timeout;
+use store::size::size_fits;
 use store::slot::channel_at;
 use store::slot::record_at;
 use tables::ordering::is_ordered;
@@ -23,52 +25,26 @@ ghost use mathlib.Core.Path.{_≡_};
 ghost use mathlib.Core.Bool.{not};
 ghost use mathlib.Core.Option.{some};
 ghost use Prim.Native.Nat.{_+_, _≤_, _<_};
-ghost use lib.Dec.{leb};
 ghost use lib.ListN.{length};
-ghost use Rattle.wire.specs.Choice.{_and_, isIn};
+ghost use Rattle.wire.specs.Choice.{_and_};
 ghost use Rattle.wire.specs.Bytes.{areZero};
 ghost use Rattle.store.specs.Limits.{channelLimit};
 ghost use Rattle.store.specs.Height.{noTimeout, sameTimeout};
 ghost use Rattle.store.specs.Table.{sameNumber, sameKey};
-ghost use Rattle.store.specs.Layout.{headerSize, recordsFrom, sizeFor};
-ghost use Rattle.store.specs.Layout.{channelIn, recordIn, slotIn, storeIn};
+ghost use Rattle.store.specs.Layout.{headerSize, recordsFrom, sizeFor, storeIn};
+ghost use Rattle.store.specs.Layout.{channelBytes, channelIn, recordBytes, recordIn};
 ghost use Rattle.store.specs.Ordering.{isOrdered, isReceived};
-ghost use Rattle.store.specs.Fit.{channelFits, channelsFit, fitsEnd, recordFits, recordsFit, isFit};
-ghost use Rattle.store.specs.Scan.{slotAt, tableFrom};
-ghost use Rattle.fit.specs.EverySlot.{fitsBefore};
+ghost use Rattle.store.specs.Fit.{channelFits, fitsEnd, recordFits, isFit};
+ghost use Rattle.store.specs.Scan.{slotAt, slotsFrom};
+ghost use Rattle.fit.specs.EverySlot.{everySlot, slotFits};
 
-fn is_in(low: u8, high: u8, x: u8) -> bool
-    ensures { λ r. ⌜ r ≡ isIn low high x ⌝ }
-{
-    if x < low {
-        return false;
-    }
-    x <= high
-}
-
-fn counters_fit(next: Counters) -> bool
-    ensures { λ r. ⌜ r ≡ (leb 1 (next .send) and leb 1 (next .receive) and leb 1 (next .acknowledge)) ⌝ }
-{
-    if next.send < 1 {
-        return false;
-    }
-    if next.receive < 1 {
-        return false;
-    }
-    1 <= next.acknowledge
-}
-
+// OPEN or CLOSED, ordered or unordered, counters at least 1.
 fn channel_fits(c: Channel) -> bool
     ensures { λ r. ⌜ r ≡ channelFits c ⌝ }
 {
-    if !is_in(3, 4, c.state) {
-        return false;
-    }
-    if !is_in(1, 2, c.order) {
-        return false;
-    }
-    let next = c.next;
-    counters_fit(next)
+    ((3 <= c.state) & (c.state <= 4))
+        & ((1 <= c.order) & (c.order <= 2))
+        & ((1 <= c.next.send) & (1 <= c.next.receive) & (1 <= c.next.acknowledge))
 }
 
 // Slot i of the channel records, before the slots behind it.
@@ -76,8 +52,8 @@ fn channel_slot_fits(s: &[u8], i: usize) -> bool
     requires { ⌜ (recordsFrom ≤ length (now s)) × (i < channelLimit) ⌝ }
     ensures { λ r. ⌜
         r ≡
-        fitsBefore channelFits sameNumber (slotIn channelIn (slotAt headerSize (now (s .entry)) i))
-        (tableFrom channelIn headerSize channelLimit (now (s .entry)) (i + 1))
+        slotFits channelBytes channelIn channelFits sameNumber (slotAt headerSize (now (s .entry)) i)
+        (slotsFrom headerSize channelLimit (now (s .entry)) (i + 1))
         ⌝ }
 {
     let at = Store::HEADER + Store::SLOT * i;
@@ -85,15 +61,16 @@ fn channel_slot_fits(s: &[u8], i: usize) -> bool
         return true;
     }
     let c = channel_at(s, at);
-    if !channel_fits(c) {
-        return false;
-    }
-    !is_found(first_channel(s, i + 1, c.own.channel))
+    is_channel_exact(s, at) & channel_fits(c) & !is_found(first_channel(s, i + 1, c.own.channel))
 }
 
 fn channels_fit(s: &[u8]) -> bool
     requires { ⌜ recordsFrom ≤ length (now s) ⌝ }
-    ensures { λ r. ⌜ r ≡ channelsFit (storeIn (now (s .entry)) .channels) ⌝ }
+    ensures { λ r. ⌜
+        r ≡
+        everySlot (slotFits channelBytes channelIn channelFits sameNumber)
+        (slotsFrom headerSize channelLimit (now (s .entry)) 0)
+        ⌝ }
 {
     let mut i: usize = 0;
     while i < Store::CHANNELS {
@@ -108,24 +85,15 @@ fn channels_fit(s: &[u8]) -> bool
 fn is_no_timeout(t: Timeout) -> bool
     ensures { λ r. ⌜ r ≡ sameTimeout t noTimeout ⌝ }
 {
-    if t.height != 0 {
-        return false;
-    }
-    t.time == 0
+    (t.height == 0) & (t.time == 0)
 }
 
 fn receipt_fits(r: Record, c: Channel) -> bool
     ensures { λ b. ⌜ b ≡ (not (isOrdered c) and sameTimeout (r .timeout) noTimeout and areZero (r .digest)) ⌝ }
 {
-    if is_ordered(c) {
-        return false;
-    }
     let t = r.timeout;
-    if !is_no_timeout(t) {
-        return false;
-    }
     let d = r.digest;
-    is_zero_digest(d)
+    !is_ordered(c) & is_no_timeout(t) & is_zero_digest(d)
 }
 
 fn acknowledgement_fits(s: &[u8], count: usize, r: Record, c: Channel) -> bool
@@ -135,10 +103,7 @@ fn acknowledgement_fits(s: &[u8], count: usize, r: Record, c: Channel) -> bool
         ⌝ }
 {
     let t = r.timeout;
-    if !is_no_timeout(t) {
-        return false;
-    }
-    is_received(s, count, c, r.sequence)
+    is_no_timeout(t) & is_received(s, count, c, r.sequence)
 }
 
 // By kind, on the record's own channel end.
@@ -146,30 +111,24 @@ fn fits_end(s: &[u8], count: usize, r: Record, c: Channel) -> bool
     requires { ⌜ length (now s) ≡ sizeFor count ⌝ }
     ensures { λ b. ⌜ b ≡ fitsEnd (storeIn (now (s .entry))) r (some c) ⌝ }
 {
-    if r.kind == 1 {
-        return r.sequence < c.next.send;
+    let kind = r.kind;
+    match kind {
+        1 => r.sequence < c.next.send,
+        2 => receipt_fits(r, c),
+        3 => acknowledgement_fits(s, count, r, c),
+        _ => false,
     }
-    if r.kind == 2 {
-        return receipt_fits(r, c);
-    }
-    if r.kind == 3 {
-        return acknowledgement_fits(s, count, r, c);
-    }
-    false
 }
 
 fn record_fits(s: &[u8], count: usize, r: Record) -> bool
     requires { ⌜ length (now s) ≡ sizeFor count ⌝ }
     ensures { λ b. ⌜ b ≡ recordFits (storeIn (now (s .entry))) r ⌝ }
 {
-    if r.sequence < 1 {
-        return false;
-    }
     let Found::At(j) = find_channel(s, r.channel) else {
         return false;
     };
     let c = channel_at(s, Store::HEADER + Store::SLOT * j);
-    fits_end(s, count, r, c)
+    (1 <= r.sequence) & fits_end(s, count, r, c)
 }
 
 // Slot i of the packet records, before the slots behind it.
@@ -177,9 +136,9 @@ fn record_slot_fits(s: &[u8], count: usize, i: usize) -> bool
     requires { ⌜ (length (now s) ≡ sizeFor count) × (i < count) ⌝ }
     ensures { λ r. ⌜
         r ≡
-        fitsBefore (recordFits (storeIn (now (s .entry)))) sameKey
-        (slotIn recordIn (slotAt recordsFrom (now (s .entry)) i))
-        (tableFrom recordIn recordsFrom count (now (s .entry)) (i + 1))
+        slotFits recordBytes recordIn (recordFits (storeIn (now (s .entry)))) sameKey
+        (slotAt recordsFrom (now (s .entry)) i)
+        (slotsFrom recordsFrom count (now (s .entry)) (i + 1))
         ⌝ }
 {
     let at = Store::RECORDS_FROM + Store::SLOT * i;
@@ -187,15 +146,18 @@ fn record_slot_fits(s: &[u8], count: usize, i: usize) -> bool
         return true;
     }
     let r = record_at(s, at);
-    if !record_fits(s, count, r) {
-        return false;
-    }
-    !is_found(first_record(s, count, i + 1, r.kind, r.channel, r.sequence))
+    is_record_exact(s, at)
+        & record_fits(s, count, r)
+        & !is_found(first_record(s, count, i + 1, r.kind, r.channel, r.sequence))
 }
 
 fn records_fit(s: &[u8], count: usize) -> bool
     requires { ⌜ length (now s) ≡ sizeFor count ⌝ }
-    ensures { λ r. ⌜ r ≡ recordsFit (storeIn (now (s .entry))) ⌝ }
+    ensures { λ r. ⌜
+        r ≡
+        everySlot (slotFits recordBytes recordIn (recordFits (storeIn (now (s .entry)))) sameKey)
+        (slotsFrom recordsFrom count (now (s .entry)) 0)
+        ⌝ }
 {
     let mut i: usize = 0;
     while i < count {
@@ -210,11 +172,10 @@ fn records_fit(s: &[u8], count: usize) -> bool
 pub fn is_fit(s: &[u8]) -> bool
     ensures { λ r. ⌜ r ≡ isFit (now (s .entry)) ⌝ }
 {
-    if !is_exact(s) {
+    let size = s.len();
+    if !size_fits(size) {
         return false;
     }
-    if !channels_fit(s) {
-        return false;
-    }
-    records_fit(s, (s.len() - Store::RECORDS_FROM) / Store::SLOT)
+    let count = (size - Store::RECORDS_FROM) / Store::SLOT;
+    is_header_exact(s, count) & channels_fit(s) & records_fit(s, count)
 }

@@ -2,8 +2,9 @@
 // library's, `transcript`: here bytes are read, fed, and written.
 use libc::STDIN_FILENO;
 use libc::STDOUT_FILENO;
-use transcript::Night;
-use transcript::Phase;
+use night::Night;
+use night::is_over;
+use night::start;
 use transcript::feed;
 use transcript::finish;
 use transcript::keep;
@@ -13,14 +14,6 @@ struct Reading {
     night: Night,
     held: usize,
     goes_on: bool,
-}
-
-fn is_over(phase: Phase) -> bool {
-    match phase {
-        Phase::Before => false,
-        Phase::Running => false,
-        Phase::Over => true,
-    }
 }
 
 fn write_text(text: &[u8], size: usize) -> bool {
@@ -87,11 +80,7 @@ fn turn(room: &mut [u8], piece: &mut [u8], text: &mut [u8], t: Reading) -> Readi
 // no run uses up.
 fn replay(room: &mut [u8], piece: &mut [u8], text: &mut [u8]) {
     let mut t = Reading {
-        night: Night {
-            phase: Phase::Before,
-            count: 0,
-            size: 0,
-        },
+        night: start(),
         held: 0,
         goes_on: true,
     };

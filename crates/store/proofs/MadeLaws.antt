@@ -60,15 +60,19 @@ patch-end i os bs more =
     ∙ rw (end-more os i more, table-append channelBytes before (some next ∷ []), append-nil (channelBytes next))
 
 -- FIELD BY FIELD
+sixteen-zeros : replicate 16 0 ≡ little 8 0 ++ little 8 0
+unfolding little
+sixteen-zeros = refl
+
 pub patch-header : (n : ℕ) (bs : List ℕ)
     → patch 0 (headerBytes 0 0 n) bs
     ≡ patch 28 (replicate 36 0)
     (patch 24 (little 4 n)
-    (patch 16 (little 8 0)
-    (patch 8 (little 8 0)
-    (patch 6 (little 2 channelLimit) (patch 4 (little 2 0x0401) (patch 0 (little 4 (sizeFor n)) bs))))))
+    (patch 8 (replicate 16 0)
+    (patch 6 (little 2 channelLimit) (patch 0 (little 4 (sizeFor n) ++ little 2 0x0401) bs))))
 unfolding headerBytes
-patch-header n bs = simp (patch-append, length-append, length-little)
+patch-header n bs =
+    rw sixteen-zeros (simp (patch-append, length-append, length-little, length-replicate))
 
 -- THE WHOLE
 patch-whole : (xs bs : List ℕ) → length xs ≡ length bs → patch 0 xs bs ≡ xs

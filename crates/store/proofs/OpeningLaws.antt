@@ -13,10 +13,12 @@ use lib.Seq.{take-suc, drop-drop, drop-cons, getD-take, getD-drop}
 use Rattle.wire.specs.Choice.{_and_, pick, isSome, isIn}
 use Rattle.wire.specs.Bytes.{part, field, pieces}
 use Rattle.wire.proofs.BytesLaws.{length-pieces}
-use Rattle.wire.proofs.PartLaws.{field-one}
+use Rattle.wire.proofs.PartLaws.{field-one, field-part}
+use Rattle.store.specs.declared.End.{End}
 use Rattle.store.specs.Table.{find, distinct, isNumbered, sameNumber, channelAt}
+use Rattle.store.specs.Part.{endIn}
 use Rattle.store.specs.Maker.{openingSize, openingsIn, openingFits, allOpeningsFit, openingOf, endsOf}
-use Rattle.store.proofs.SlotLaws.{field-part}
+use Rattle.store.proofs.SlotLaws.{end-part}
 
 -- PARTS OF A PART
 byte-part : (k i n d : ℕ) (bs : List ℕ) → k < n → i + n ≤ length bs → getD (part i n bs) k d ≡ field (i + k) 1 bs
@@ -51,23 +53,23 @@ module _ (at : ℕ) (bs : List ℕ) (room : at + openingSize ≤ length bs) wher
         byte-part 19 at openingSize 1 bs (omega arith) room,
       )
 
-  pub opening-part : openingOf (part at openingSize bs)
-      ≡ record {
+  pub opening-read : {x : ℕ} {e f : End} → x ≡ field (at + 18) 1 bs → e ≡ endIn (at + 6) bs → f ≡ endIn (at + 12) bs →
+      record {
         state = 3;
-        order = field (at + 18) 1 bs;
-        own = record { port = field (at + 6) 2 bs; channel = field (at + 8) 4 bs };
-        counterparty = record { port = field (at + 12) 2 bs; channel = field (at + 14) 4 bs };
+        order = x;
+        own = e;
+        counterparty = f;
+        next = record { send = 1; receive = 1; acknowledge = 1 };
+      } ≡ openingOf (part at openingSize bs)
+  unfolding openingOf
+  opening-read x e f = λ i.
+      record {
+        state = 3;
+        order = (x ∙ sym (byte-part 18 at openingSize 0 bs (omega arith) room)) i;
+        own = (e ∙ sym (end-part 6 at openingSize bs (omega arith))) i;
+        counterparty = (f ∙ sym (end-part 12 at openingSize bs (omega arith))) i;
         next = record { send = 1; receive = 1; acknowledge = 1 };
       }
-  unfolding openingOf
-  opening-part =
-      rw (
-        byte-part 18 at openingSize 0 bs (omega arith) room,
-        field-part 6 2 at openingSize bs (omega arith),
-        field-part 8 4 at openingSize bs (omega arith),
-        field-part 12 2 at openingSize bs (omega arith),
-        field-part 14 4 at openingSize bs (omega arith),
-      )
 
 -- ALL OF THEM
 pub length-ends : (bs : List ℕ) → length (endsOf bs) ≡ length bs / openingSize

@@ -1,12 +1,12 @@
 pub mod Limits
 pub mod Height
+pub mod Part
 pub mod Table
 pub mod Layout
 pub mod Ordering
 pub mod Fit
 pub mod Maker
 pub mod Names
-pub mod Slot
 pub mod Scan
 pub mod Effect
 pub mod Length

@@ -2,13 +2,13 @@
 // and what it leaves in the slice. All tests come before the first store of a byte, so a refusal changes nothing.
 use super::Channel;
 use super::Counters;
-use super::End;
 use super::Store;
+use super::part::end_at;
 use super::size::size_fits;
 use super::slot::put_channel;
+use wire::put_frame;
 use wire::put_u16;
 use wire::put_u32;
-use wire::put_u64;
 use wire::put_zeros;
 use wire::u8_at;
 use wire::u16_at;
@@ -139,14 +139,8 @@ fn opening_at(openings: &[u8], at: usize) -> Channel
     Channel {
         state: 3,
         order: u8_at(openings, at + 18),
-        own: End {
-            port: u16_at(openings, at + 6),
-            channel: u32_at(openings, at + 8),
-        },
-        counterparty: End {
-            port: u16_at(openings, at + 12),
-            channel: u32_at(openings, at + 14),
-        },
+        own: end_at(openings, at + 6),
+        counterparty: end_at(openings, at + 12),
         next: Counters {
             send: 1,
             receive: 1,
@@ -160,15 +154,13 @@ fn write_header(store: &mut [u8], records: usize)
     requires { ⌜ (headerSize ≤ length (now store)) × (records ≤ recordLimit) ⌝ }
     ensures { λ _. ⌜ now (store .exit) ≡ patch 0 (headerBytes 0 0 records) (now (store .entry)) ⌝ }
 {
-    put_u32(
+    put_frame(
         store,
-        0,
         (Store::RECORDS_FROM + Store::SLOT * records) as u32,
+        0x0401,
     );
-    put_u16(store, 4, 0x0401);
     put_u16(store, 6, Store::CHANNELS as u16);
-    put_u64(store, 8, 0);
-    put_u64(store, 16, 0);
+    put_zeros(store, 8, 16);
     put_u32(store, 24, records as u32);
     put_zeros(store, 28, 36);
 }

@@ -4,10 +4,10 @@ use store::Channel;
 use store::OwnHeight;
 use store::Record;
 use store::Store;
-use store::slot::free_slot;
 use store::slot::put_channel;
 use store::slot::put_record;
 use wire::put_u64;
+use wire::put_zeros;
 ghost use mathlib.Core.Path.{_≡_};
 ghost use mathlib.Core.Option.{none, some};
 ghost use Prim.Native.Nat.{_<_};
@@ -46,5 +46,5 @@ pub fn remove_record(s: &mut [u8], i: usize)
     requires { ⌜ Exact (now s) × (i < length (storeIn (now s) .records)) ⌝ }
     ensures { λ _. ⌜ now (s .exit) ≡ bytesOf (withRecordSlot (storeIn (now (s .entry))) i none) ⌝ }
 {
-    free_slot(s, Store::RECORDS_FROM + Store::SLOT * i);
+    put_zeros(s, Store::RECORDS_FROM + Store::SLOT * i, Store::SLOT);
 }

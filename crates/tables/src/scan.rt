@@ -21,10 +21,7 @@ fn is_numbered(s: &[u8], at: usize, number: u32) -> bool
     requires { ⌜ at + slotSize ≤ length (now s) ⌝ }
     ensures { λ r. ⌜ r ≡ holds (isNumbered number) (slotIn channelIn (part at slotSize (now (s .entry)))) ⌝ }
 {
-    if u32_at(s, at + 4) != number {
-        return false;
-    }
-    !are_zero(s, at, Store::SLOT)
+    (u32_at(s, at + 4) == number) & !are_zero(s, at, Store::SLOT)
 }
 
 // A free slot has no key. The sequence is what most records differ in.
@@ -39,13 +36,7 @@ fn has_key(s: &[u8], at: usize, kind: u16, channel: u32, sequence: u64) -> bool
     if u64_at(s, at + 8) != sequence {
         return false;
     }
-    if u16_at(s, at) != kind {
-        return false;
-    }
-    if u32_at(s, at + 4) != channel {
-        return false;
-    }
-    !are_zero(s, at, Store::SLOT)
+    (u16_at(s, at) == kind) & (u32_at(s, at + 4) == channel) & !are_zero(s, at, Store::SLOT)
 }
 
 // The first channel end of this number among the slots from `from` on.

@@ -2,7 +2,7 @@
 use mathlib.Core.Path.{_≡_, refl, sym, ap, _∙_}
 use mathlib.Core.Bool.{Bool, true, false}
 use mathlib.Core.List.{List, [], _∷_, _++_, append-assoc, append-nil}
-use Prim.Native.Nat.{ℕ, zero, suc, _+_, _-_, _≤_, _<_}
+use Prim.Native.Nat.{ℕ, zero, suc, _+_, _*_, _-_, _≤_, _<_}
 use native.Mathlib.Omega.{arith}
 use lib.Dec.{leb, ltb}
 use lib.ListN.{length, take, drop, length-append, length-drop}
@@ -13,10 +13,10 @@ use Rattle.wire.specs.Bytes.{part, field}
 use Rattle.wire.proofs.ChoiceLaws.{and-both, cases}
 use Rattle.transcript.specs.declared.Front.{Front}
 use Rattle.transcript.specs.declared.Front.the-variants.{Whole, Torn, Short}
-use Rattle.transcript.specs.declared.Night.{Night}
-use Rattle.transcript.specs.Line.{lineOf, tornWord}
+use Rattle.night.specs.declared.Night.{Night}
+use Rattle.night.specs.Line.{lineOf, tornWord}
 use Rattle.transcript.specs.Front.{leastRecord, greatestRecord, frontOf}
-use Rattle.transcript.specs.Night.{isOver, over, stepped}
+use Rattle.night.specs.Night.{isOver, over, stepped}
 use Rattle.transcript.specs.Transcript.{Fed, stays, behind, turned, fed}
 
 -- THE FRONT
@@ -207,3 +207,23 @@ fed-enough (suc n) (suc m) night room bs p q =
       by-turn (reads k l r h more) rest =
           let s = stepped night room (take k bs) in
           rw (h n, h m, rest k l (s .night) (s .room))
+
+-- DONE: no record is left that could be fed
+abbrev pub Done : Fed → Type 0
+Done f = fed 1 (f .night) (f .room) (f .rest) ≡ stays (f .night) (f .room) (f .rest)
+
+-- so it is where there was room for as many records as there can be
+pub fed-done : (n : ℕ) (night : Night) (room bs : List ℕ) → length bs ≤ leastRecord * n → Done (fed n night room bs)
+unfolding fed
+fed-done zero night room bs p = none-at-all 1 night room bs (omega arith) (turn-of night room bs)
+fed-done (suc n) night room bs p =
+    by-turn (turn-of night room bs)
+    (λ k l after room′. fed-done n after room′ (drop k bs) (omega (arith, length-drop k bs))) where
+      by-turn : Turn night room bs
+          → ((k : ℕ) → leastRecord ≤ k → (after : Night) (room′ : List ℕ) → Done (fed n after room′ (drop k bs)))
+          → Done (fed (suc n) night room bs)
+      by-turn (idle h) rest = rw (h (suc n)) (h 1)
+      by-turn (tears l h more) rest = rw (h n) (fed-over 1 (over (night .count) (night .size)) room bs refl)
+      by-turn (reads k l r h more) rest =
+          let s = stepped night room (take k bs) in
+          rw (h n) (rest k l (s .night) (s .room))

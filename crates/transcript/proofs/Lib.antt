@@ -1,6 +1,5 @@
-mod LineLaws
-mod NightLaws
 mod FedLaws
-pub mod PieceLaws
+mod KeptLaws
 mod TurnLaws
 mod ReachedLaws
+pub mod PieceLaws

@@ -5,12 +5,13 @@ use Prim.Native.Nat.{ℕ, zero, suc, _≤_}
 use native.Mathlib.Omega.{arith}
 use lib.ListN.{length, take, drop, length-drop}
 use lib.Seq.{take-append-le, drop-append-le}
-use Rattle.transcript.specs.declared.Night.{Night}
-use Rattle.transcript.specs.Line.{lineOf, tornWord}
-use Rattle.transcript.specs.Night.{over, stepped}
-use Rattle.transcript.specs.Transcript.{Fed, fed, finished, freshNight, freshRoom, lastLine, textFrom}
-use Rattle.transcript.specs.Pieces.{Piece, fedPiece, fedPieces, joined, Done, PiecesHold}
+use Rattle.night.specs.declared.Night.{Night}
+use Rattle.night.specs.Line.{lineOf, tornWord}
+use Rattle.night.specs.Night.{freshNight, over, stepped}
+use Rattle.transcript.specs.Transcript.{Fed, stays, fed, finished, freshRoom, lastLine, textFrom}
+use Rattle.transcript.specs.Pieces.{Piece, fedPiece, fedPieces, joined, HaveRoom, PiecesHold}
 use Rattle.transcript.proofs.FedLaws.{Turn, idle, tears, reads, tornAt, readAt, fed-over, turn-of, fed-enough}
+use Rattle.transcript.proofs.FedLaws.{Done, fed-done}
 
 -- by one record more than there are bytes
 text-more : (night : Night) (room bs : List ℕ) → textFrom night room bs ≡ finished (fed (suc (length bs)) night room bs)
@@ -87,7 +88,18 @@ text-done f h = by-turn (turn-of (f .night) (f .room) (f .rest)) where
       let z : length (drop k (f .rest)) ≡ length (f .rest) = ap (λ (g : Fed). length (g .rest)) (sym (e 0) ∙ h) in
       absurd (omega (arith, length-drop k (f .rest)))
 
+-- and none is left behind the last piece
+pieces-done : (ps : List Piece) (night : Night) (room held : List ℕ) → Done (stays night room held)
+    → HaveRoom night room held ps → Done (fedPieces night room held ps)
+pieces-done [] night room held d h = d
+pieces-done (p ∷ ps) night room held d h =
+    let f = fedPiece night room held p in
+    pieces-done ps (f .night) (f .room) (f .rest) (fed-done (p .records) night room (held ++ p .bytes) (h .0)) (h .1)
+
 pub pieces : PiecesHold
+unfolding fed
 pieces ps h =
     let f = fedPieces freshNight freshRoom [] ps in
-    ap (λ (t : List ℕ). f .text ++ t) (sym (text-done f h)) ∙ sym (text-pieces ps freshNight freshRoom [])
+    let start = fed-done 0 freshNight freshRoom [] (omega arith) in
+    let done = pieces-done ps freshNight freshRoom [] start h in
+    ap (λ (t : List ℕ). f .text ++ t) (sym (text-done f done)) ∙ sym (text-pieces ps freshNight freshRoom [])

@@ -7,10 +7,10 @@ use native.Mathlib.Omega.{arith}
 use lib.ListN.{length, drop, length-append, length-drop}
 use Rattle.wire.specs.Bytes.{patch}
 use Rattle.wire.proofs.PatchLaws.{patch-then}
-use Rattle.transcript.specs.declared.Night.{Night}
+use Rattle.night.specs.declared.Night.{Night}
 use Rattle.transcript.specs.declared.Progress.{Progress}
 use Rattle.transcript.specs.Transcript.{Fed, stays, behind, fed, lineRoom}
-use Rattle.transcript.specs.Stepped.{Feeds}
+use Rattle.transcript.specs.Feeds.{Feeds}
 use Rattle.transcript.proofs.FedLaws.{fed-turn, fed-rest, fed-still}
 use Rattle.transcript.proofs.TurnLaws.{drop-left, length-fed-one, rest-behind}
 

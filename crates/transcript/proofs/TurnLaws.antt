@@ -11,17 +11,18 @@ use Rattle.wire.specs.Bytes.{patch}
 use Rattle.wire.proofs.ChoiceLaws.{cases, of-pick}
 use Rattle.store.specs.Maker.{makeTold}
 use Rattle.rules.specs.Call.{callTold}
-use Rattle.transcript.specs.declared.Phase.{Phase}
-use Rattle.transcript.specs.declared.Phase.the-variants.{Before, Running, Over}
-use Rattle.transcript.specs.declared.Night.{Night}
+use Rattle.night.specs.declared.Phase.{Phase}
+use Rattle.night.specs.declared.Phase.the-variants.{Before, Running, Over}
+use Rattle.night.specs.declared.Night.{Night}
 use Rattle.transcript.specs.declared.Progress.{Progress}
-use Rattle.transcript.specs.declared.step.Stepped.{Stepped}
-use Rattle.transcript.specs.Line.{decimalOf, lineOf, openWord, endWord, tornWord}
-use Rattle.transcript.specs.Night.{After, over, isOpening, openingsOf, lengthOf, openedText, opens, next}
-use Rattle.transcript.specs.Night.{freshOutput, answers, steppedIn, stepped}
+use Rattle.night.specs.declared.Stepped.{Stepped}
+use Rattle.night.specs.Line.{decimalOf, lineOf, openWord, endWord, tornWord}
+use Rattle.night.specs.Night.{After, over, isOpening, openingsOf, lengthOf, openedText, opens, next}
+use Rattle.night.specs.Night.{freshOutput, answers, steppedIn, stepped}
 use Rattle.transcript.specs.Transcript.{Fed, stays, behind, fed, lineRoom}
-use Rattle.transcript.specs.Stepped.{Leaves, Feeds}
-use Rattle.transcript.proofs.LineLaws.{length-decimal, length-line}
+use Rattle.night.specs.Stepped.{Leaves}
+use Rattle.transcript.specs.Feeds.{Feeds}
+use Rattle.night.proofs.LineLaws.{length-decimal, length-line}
 use Rattle.transcript.proofs.FedLaws.{Turn, idle, tears, reads, tornAt, readAt, turn-of}
 
 -- the place behind what was read

@@ -1,6 +1,4 @@
-pub mod Line
 pub mod Front
-pub mod Night
 pub mod Transcript
-pub mod Stepped
+pub mod Feeds
 pub mod Pieces

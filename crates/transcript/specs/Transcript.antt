@@ -8,12 +8,12 @@ use Rattle.store.specs.Limits.{recordLimit}
 use Rattle.store.specs.Layout.{sizeFor}
 use Rattle.transcript.specs.declared.Front.{Front}
 use Rattle.transcript.specs.declared.Front.the-variants.{Whole, Torn, Short}
-use Rattle.transcript.specs.declared.Phase.{Phase}
-use Rattle.transcript.specs.declared.Phase.the-variants.{Before, Running, Over}
-use Rattle.transcript.specs.declared.Night.{Night}
-use Rattle.transcript.specs.Line.{lineOf, endWord, tornWord}
+use Rattle.night.specs.declared.Phase.{Phase}
+use Rattle.night.specs.declared.Phase.the-variants.{Before, Running, Over}
+use Rattle.night.specs.declared.Night.{Night}
+use Rattle.night.specs.Line.{lineOf, endWord, tornWord}
 use Rattle.transcript.specs.Front.{frontOf}
-use Rattle.transcript.specs.Night.{isOver, over, stepped}
+use Rattle.night.specs.Night.{freshNight, isOver, over, stepped}
 
 -- what bytes of the input leave: the lines so far, how the night stands, the store's room, and the bytes not yet read
 pub record Fed : Type 0 where
@@ -68,10 +68,8 @@ lineRoom = 64
 unfoldable pub lastWithin : (size : ℕ) → Night → (left : ℕ) → List ℕ
 lastWithin n night k = pick (leb lineRoom n) (lastLine night k) []
 
--- THE TEXT: every record has bytes, so that there are no more records than bytes
-abbrev pub freshNight : Night
-freshNight = record { phase = Before; count = 0; size = 0 }
-
+-- THE TEXT, from a fresh night and room for the longest store. Every record has bytes, so that there are no more
+-- records than bytes
 abbrev pub freshRoom : List ℕ
 freshRoom = replicate (sizeFor recordLimit) 0
 

@@ -1,32 +1,22 @@
 // A piece of the input is fed record by record. What is left of it goes before the next piece.
 use super::Front;
-use super::Night;
-use super::Phase;
 use super::Progress;
-use super::line::put_word_line;
 use super::reader::record_at;
-use super::step::over;
-use super::step::step;
+use night::Night;
+use night::Phase;
+use night::is_over;
+use night::over;
+use night::put_word_line;
+use night::step;
 ghost use mathlib.Core.Path.{_≡_};
 ghost use Prim.Native.Nat.{_+_, _-_, _*_, _/_, _≤_};
 ghost use lib.ListN.{length, drop};
 ghost use Rattle.wire.specs.Bytes.{part, patch};
-ghost use Rattle.transcript.specs.Night.{isOver};
 ghost use Rattle.transcript.specs.Transcript.{fed, lineRoom, lastWithin};
-ghost use Rattle.transcript.specs.Stepped.{Feeds};
+ghost use Rattle.transcript.specs.Feeds.{Feeds};
 
 // Room for the lines of one record.
 const LINE: usize = 64;
-
-fn is_over(phase: Phase) -> bool
-    ensures { λ r. ⌜ r ≡ isOver phase ⌝ }
-{
-    match phase {
-        Phase::Before => false,
-        Phase::Running => false,
-        Phase::Over => true,
-    }
-}
 
 // At most one record, behind what was read and stored.
 fn turn(room: &mut [u8], input: &[u8], text: &mut [u8], p: Progress) -> Progress

@@ -3,12 +3,12 @@ use mathlib.Core.Path.{_≡_, refl, sym, ap, _∙_}
 use mathlib.Core.Bool.{Bool, true, false}
 use mathlib.Core.List.{List, [], _∷_, _++_}
 use Prim.Native.Nat.{ℕ, zero, suc, _+_, _*_, _/_, _%_, _^_, _-_, _≤_, _<_}
-use native.Mathlib.Nat.{add-assoc, zero-add, suc-add, suc-inj, suc-ne-zero}
+use native.Mathlib.Nat.{add-assoc, zero-add, suc-add, suc-inj, suc-ne-zero, sub-zero, zero-sub, suc-sub-suc}
 use native.Mathlib.Nat.{mul-assoc, mul-comm, pow-succ', mod-add-div, mod-lt}
 use native.Mathlib.Omega.{arith}
 use lib.Dec.{eqb}
-use lib.ListN.{length, getD, drop}
-use lib.Seq.{take-add, drop-drop, drop-cons, take-all}
+use lib.ListN.{length, getD, take, drop}
+use lib.Seq.{take-add, take-take, take-nil, drop-drop, drop-cons, take-all, getD-take, getD-drop}
 use mir.Syntax.{w8}
 use mir.Val.{Fits}
 use borrow.Author.Tests.{eq-eqb, ne-eqb, eqb-true, eqb-false}
@@ -88,6 +88,26 @@ pub little-split : (n m x : ℕ) → little (n + m) x ≡ little n (x % 256 ^ n)
 little-split n m x =
     ap (little (n + m)) (sym (mod-add-div x (256 ^ n)))
     ∙ little-join n m (x % 256 ^ n) (x / 256 ^ n) (mod-lt x (pow-pos n))
+
+-- A PART OF A PART, for a number and for a byte in it
+drop-take : {A : Type 0} (i m : ℕ) (xs : List A) → drop i (take m xs) ≡ take (m - i) (drop i xs)
+drop-take zero m xs = rw sub-zero
+drop-take (suc i) zero xs = rw zero-sub
+drop-take (suc i) (suc m) [] = sym (take-nil (suc m - suc i))
+drop-take (suc i) (suc m) (x ∷ xs) = rw (suc-sub-suc m i) (drop-take i m xs)
+
+pub part-part : (i n at m : ℕ) (bs : List ℕ) → i + n ≤ m → part i n (part at m bs) ≡ part (at + i) n bs
+unfolding part
+part-part i n at m bs h =
+    rw (drop-take i m (drop at bs), take-take n (m - i) (drop i (drop at bs)) (omega arith), drop-drop i at bs)
+
+pub field-part : (i n at m : ℕ) (bs : List ℕ) → i + n ≤ m → field i n (part at m bs) ≡ field (at + i) n bs
+unfolding field
+field-part i n at m bs h = rw (part-part i n at m bs h)
+
+pub byte-part : (i at m : ℕ) (bs : List ℕ) → i < m → getD (part at m bs) i 0 ≡ getD bs (at + i) 0
+unfolding part
+byte-part i at m bs h = rw (getD-take m (drop at bs) i 0 h, getD-drop at bs i 0)
 
 -- TESTS
 pub and-assoc : (a b c : Bool) → ((a and b) and c) ≡ (a and (b and c))

@@ -30,13 +30,19 @@ pub patch-more : (i n x : ℕ) (xs bs : List ℕ) → length xs ≡ n
 unfolding patch
 patch-more i n x xs bs l = patch-then i n xs (x ∷ []) bs l
 
--- a number is stored by halves of n bytes each, the low one first
+-- two numbers, of n and m bytes, are stored one behind the other
+pub patch-two : (i n m x y : ℕ) (bs : List ℕ) {mid all : List ℕ}
+    → mid ≡ patch i (little n x) bs → all ≡ patch (i + n) (little m y) mid
+    → all ≡ patch i (little n x ++ little m y) bs
+patch-two i n m x y bs {mid} {all} p q =
+    rw (q, p) (patch-then i n (little n x) (little m y) bs (length-little n x))
+
+-- and a number by halves of n bytes each, the low one first
 pub patch-halves : (n i v : ℕ) (bs : List ℕ) {mid all : List ℕ}
     → mid ≡ patch i (little n (v % 256 ^ n)) bs → all ≡ patch (i + n) (little n (v / 256 ^ n)) mid
     → all ≡ patch i (little (n + n) v) bs
 patch-halves n i v bs {mid} {all} p q =
-    let l = length-little n (v % 256 ^ n) in
-    rw (q, p, little-split n n v) (patch-then i n (little n (v % 256 ^ n)) (little n (v / 256 ^ n)) bs l)
+    rw (little-split n n v) (patch-two i n n (v % 256 ^ n) (v / 256 ^ n) bs p q)
 
 -- WHERE A PATCH LIES
 patch-cons : (i b : ℕ) (xs bs : List ℕ) → patch (suc i) xs (b ∷ bs) ≡ b ∷ patch i xs bs

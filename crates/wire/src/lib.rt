@@ -2,6 +2,7 @@
 // of bytes, `patch` for what a store of bytes leaves. Numbers are read and stored by halves, down to
 // bytes: each width is proved by the same law, and the compiler makes one load or one store of it.
 ghost use mathlib.Core.Path.{_≡_};
+ghost use mathlib.Core.List.{_++_};
 ghost use Prim.Native.Nat.{_+_, _≤_};
 ghost use lib.ListN.{length, replicate};
 ghost use Rattle.wire.specs.Bytes.{part, field, little, patch, same, areZero};
@@ -64,6 +65,16 @@ pub fn put_u64(s: &mut [u8], at: usize, v: u64)
 {
     put_u32(s, at, (v % 4294967296) as u32);
     put_u32(s, at + 4, (v / 4294967296) as u32);
+}
+
+// Three numbers of eight bytes, one behind the other.
+pub fn put_three(s: &mut [u8], at: usize, a: u64, b: u64, c: u64)
+    requires { ⌜ at + 24 ≤ length (now s) ⌝ }
+    ensures { λ _. ⌜ now (s .exit) ≡ patch at (little 8 a ++ little 8 b ++ little 8 c) (now (s .entry)) ⌝ }
+{
+    put_u64(s, at, a);
+    put_u64(s, at + 8, b);
+    put_u64(s, at + 16, c);
 }
 
 // A free record is all zero.
@@ -166,4 +177,13 @@ pub fn frame_in(s: &[u8]) -> Frame
     } else {
         Frame::Malformed
     }
+}
+
+// A record's frame at the front of a slice.
+pub fn put_frame(s: &mut [u8], size: u32, kind: u16)
+    requires { ⌜ 6 ≤ length (now s) ⌝ }
+    ensures { λ _. ⌜ now (s .exit) ≡ patch 0 (little 4 size ++ little 2 kind) (now (s .entry)) ⌝ }
+{
+    put_u32(s, 0, size);
+    put_u16(s, 4, kind);
 }

@@ -1,5 +1,5 @@
 -- The answer for all slots is the answer for those that are left. Assumes nothing.
-use mathlib.Core.Path.{_≡_}
+use mathlib.Core.Path.{_≡_, refl}
 use mathlib.Core.Bool.{Bool}
 use mathlib.Core.List.{List}
 use Prim.Native.Nat.{ℕ, _-_}
@@ -7,27 +7,24 @@ use native.Mathlib.Omega.{arith}
 use denote.Ref.{now}
 use Rattle.store.specs.Limits.{channelLimit}
 use Rattle.store.specs.Table.{sameNumber}
-use Rattle.store.specs.Layout.{headerSize, channelIn, storeIn}
-use Rattle.store.specs.Fit.{channelFits, channelsFit}
-use Rattle.store.specs.Scan.{slotsFrom}
-use Rattle.fit.proofs.EverySlotLaws.{everyFrom, fails, passes, passed, slotFits, fits-table}
+use Rattle.store.specs.Layout.{headerSize, channelBytes, channelIn}
+use Rattle.store.specs.Fit.{channelFits}
+use Rattle.fit.specs.EverySlot.{slotFits}
+use Rattle.fit.proofs.EverySlotLaws.{everyFrom, fails, passes, passed}
 use Rattle.fit.proofs.channels_fit.Statement.{statement}
 use Rattle.fit.proofs.channels_fit.Tie as tie
 
 abbrev test : List ℕ → List (List ℕ) → Bool
-test = slotFits channelFits sameNumber channelIn
+test = slotFits channelBytes channelIn channelFits sameNumber
 
 abbrev Inv-loop : tie.InvT-loop
-Inv-loop s i₀ i = channelsFit (storeIn s .channels) ≡ everyFrom test headerSize channelLimit s i
+Inv-loop s i₀ i = everyFrom test headerSize channelLimit s 0 ≡ everyFrom test headerSize channelLimit s i
 
 abbrev μ-loop : tie.MeasureT-loop
 μ-loop s i₀ i = channelLimit - i
 
 loop-holds : tie.Need-loop-holds Inv-loop μ-loop
-unfolding channelsFit storeIn
-loop-holds c =
-    let s = now (c .before .args .s) in
-    fits-table channelFits sameNumber channelIn (slotsFrom headerSize channelLimit s 0)
+loop-holds c = refl
 
 returns : tie.Need-returns Inv-loop μ-loop
 returns c =
@@ -53,5 +50,4 @@ pub channels-fit-spec : {M : Type 1} → statement M
 channels-fit-spec =
     tie.close
     (tie.spec
-    Inv-loop μ-loop loop-holds (λ c κs. omega arith) returns (λ c. omega arith) (λ c. omega arith) loop-again
-    returns-2)
+    Inv-loop μ-loop loop-holds (λ c κs. omega arith) returns (λ c. omega arith) (λ c. omega arith) loop-again returns-2)

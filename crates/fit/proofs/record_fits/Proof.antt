@@ -4,8 +4,6 @@ use mathlib.Core.List.{List}
 use Prim.Native.Nat.{ℕ, _<_}
 use native.Mathlib.Omega.{arith}
 use denote.Ref.{now}
-use borrow.Author.Needs.{needs}
-use borrow.Author.Tests.{le-leb, lt-leb}
 use Rattle.wire.specs.Choice.{_and_}
 use Rattle.store.specs.declared.Found.the-variants.{At}
 use Rattle.store.specs.Limits.{channelLimit}
@@ -15,6 +13,8 @@ use Rattle.store.specs.Scan.{holds, firstThat}
 use Rattle.store.specs.Fit.{fitsEnd, recordFits}
 use Rattle.store.proofs.ScanLaws.{find-nothing, channel-found}
 use Rattle.store.proofs.SlotTestLaws.{channel-index}
+use Rattle.store.proofs.TestLaws.{and-false}
+use borrow.Author.Needs.{needs}
 use Rattle.fit.proofs.record_fits.Statement.{statement}
 use Rattle.fit.proofs.record_fits.Tie as tie
 
@@ -23,10 +23,10 @@ abbrev index : tie.After-known-told → ℕ
 index k = k .before .j .given .0 .0
 
 abbrev bytes : tie.After-known-told → List ℕ
-bytes k = now (k .before .before .before .before .before .before .before .args .s)
+bytes k = now (k .before .before .before .before .before .args .s)
 
 abbrev number : tie.After-known-told → ℕ
-number k = k .before .before .before .before .before .before .before .args .r .channel
+number k = k .before .before .before .before .before .args .r .channel
 
 found : (k : tie.After-known-told) → firstThat (isNumbered (number k)) (storeIn (bytes k) .channels) ≡ At (index k)
 found k = sym (k .before .before .before .find-channel .ensures) ∙ k .before .j .given .1
@@ -35,18 +35,13 @@ below : (k : tie.After-known-told) → index k < channelLimit
 below k = channel-index (index k) (bytes k) (holds (isNumbered (number k))) (found k)
 
 returns : tie.Need-returns
-unfolding recordFits _and_
-returns c = rw (recordFits, lt-leb 1 (c .before .before .before .args .r .sequence) (omega arith))
-
-returns-2 : tie.Need-returns-2
-unfolding recordFits fitsEnd _and_
-returns-2 c =
+unfolding recordFits fitsEnd
+returns c =
     let f = c .before .before in
-    let d = f .before in
-    let a = d .before .before .before .args in
+    let a = f .before .before .args in
     let nothing = sym (f .find-channel .ensures) ∙ c .enum-told .given .1 in
     let none = find-nothing (isNumbered (a .r .channel)) 0 (storeIn (now (a .s)) .channels) nothing in
-    rw (recordFits, le-leb 1 (a .r .sequence) (omega arith), none)
+    rw (recordFits, none, and-false)
 
 mul-channel-at : tie.Need-mul-channel-at
 mul-channel-at c = omega (arith, below c)
@@ -57,22 +52,20 @@ add-channel-at c = omega (arith, below c)
 channel-at-requires : tie.Need-channel-at-requires
 channel-at-requires c κs = omega (arith, below c)
 
-returns-3 : tie.Need-returns-3
+returns-2 : tie.Need-returns-2
 unfolding recordFits _and_
-returns-3 c =
-    let k = c .before .before in
-    let d = k .before .before .before .before in
+returns-2 c =
+    let k = c .before .before .before in
     rw (
       recordFits,
-      le-leb 1 (d .before .before .before .args .r .sequence) (omega arith),
       channel-found (isNumbered (number k)) (index k) (bytes k) (found k),
-      ← c .before .channel-at .ensures,
+      ← c .before .before .channel-at .ensures,
+      ← c .fits-end .ensures,
     )
-    (c .fits-end .ensures)
 
 pub record-fits-spec : {M : Type 1} → statement M
 record-fits-spec =
     tie.close
     (tie.spec
-    returns (λ c κs. search needs) (λ c. search needs) (λ c. search needs) returns-2 mul-channel-at add-channel-at
-    channel-at-requires (λ c κs. search needs) returns-3)
+    (λ c κs. search needs) (λ c. search needs) (λ c. search needs) returns mul-channel-at add-channel-at
+    channel-at-requires (λ c κs. search needs) returns-2)

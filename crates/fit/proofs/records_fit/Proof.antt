@@ -1,40 +1,29 @@
 -- The answer for all slots is the answer for those that are left. Assumes nothing.
-use mathlib.Core.Path.{_≡_, ap, _∙_}
+use mathlib.Core.Path.{_≡_, refl}
 use mathlib.Core.Bool.{Bool}
 use mathlib.Core.List.{List}
-use mathlib.Core.Option.{Option}
 use Prim.Native.Nat.{ℕ, _-_}
 use native.Mathlib.Omega.{arith}
 use denote.Ref.{now}
-use Rattle.wire.specs.Choice.{_and_}
-use Rattle.store.specs.declared.Record.{Record}
-use Rattle.store.specs.Table.{all, distinct, sameKey}
-use Rattle.store.specs.Layout.{recordsFrom, recordIn, storeIn}
-use Rattle.store.specs.Fit.{recordFits, recordsFit}
-use Rattle.store.specs.Scan.{slotsFrom}
-use Rattle.store.proofs.TurnLaws.{records-from}
-use Rattle.fit.proofs.EverySlotLaws.{everyFrom, fails, passes, passed, slotFits, fits-table}
+use Rattle.store.specs.Table.{sameKey}
+use Rattle.store.specs.Layout.{recordsFrom, recordBytes, recordIn, storeIn}
+use Rattle.store.specs.Fit.{recordFits}
+use Rattle.fit.specs.EverySlot.{slotFits}
+use Rattle.fit.proofs.EverySlotLaws.{everyFrom, fails, passes, passed}
 use Rattle.fit.proofs.records_fit.Statement.{statement}
 use Rattle.fit.proofs.records_fit.Tie as tie
 
 abbrev test : List ℕ → List ℕ → List (List ℕ) → Bool
-test s = slotFits (recordFits (storeIn s)) sameKey recordIn
+test s = slotFits recordBytes recordIn (recordFits (storeIn s)) sameKey
 
 abbrev Inv-loop : tie.InvT-loop
-Inv-loop s count i₀ i = recordsFit (storeIn s) ≡ everyFrom (test s) recordsFrom count s i
+Inv-loop s count i₀ i = everyFrom (test s) recordsFrom count s 0 ≡ everyFrom (test s) recordsFrom count s i
 
 abbrev μ-loop : tie.MeasureT-loop
 μ-loop s count i₀ i = count - i
 
 loop-holds : tie.Need-loop-holds Inv-loop μ-loop
-unfolding recordsFit
-loop-holds c =
-    let a = c .before .args in
-    let s = now (a .s) in
-    let fits = recordFits (storeIn s) in
-    let table = records-from (a .count) s (c .before .pre) in
-    ap (λ (rs : List (Option Record)). all fits rs and distinct sameKey rs) table ∙
-    fits-table fits sameKey recordIn (slotsFrom recordsFrom (a .count) s 0)
+loop-holds c = refl
 
 returns : tie.Need-returns Inv-loop μ-loop
 returns c =
@@ -60,5 +49,4 @@ pub records-fit-spec : {M : Type 1} → statement M
 records-fit-spec =
     tie.close
     (tie.spec
-    Inv-loop μ-loop loop-holds (λ c κs. omega arith) returns (λ c. omega arith) (λ c. omega arith) loop-again
-    returns-2)
+    Inv-loop μ-loop loop-holds (λ c κs. omega arith) returns (λ c. omega arith) (λ c. omega arith) loop-again returns-2)

@@ -24,7 +24,7 @@ pub replay-spec : {M : Type 1} → statement M
 replay-spec =
     tie.close
     (tie.spec
-    Inv-loop μ-loop (λ c. (refl, (refl, refl))) (λ c. c .before .before .before .loop .inv .0)
+    Inv-loop μ-loop (λ c κs. search needs) (λ c. (refl, (refl, refl))) (λ c. c .before .before .before .loop .inv .0)
     (λ c. c .before .before .before .loop .inv .1 .0) (λ c. c .before .before .before .loop .inv .1 .1) (λ c. tt)
     (λ c κs. search needs) (λ c. omega arith) (λ c. omega arith) loop-again (λ c. c .before .loop .inv .0)
     (λ c. c .before .loop .inv .1 .0) (λ c. c .before .loop .inv .1 .1) (λ c. tt))

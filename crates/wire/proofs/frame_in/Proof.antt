@@ -33,6 +33,4 @@ returns-3 c =
 
 pub frame-in-spec : {M : Type 1} → statement M
 frame-in-spec =
-    tie.close
-    (tie.spec
-    returns (λ c κs. search needs) (λ c. search needs) (λ c κs. search needs) returns-2 returns-3)
+    tie.close (tie.spec returns (λ c κs. search needs) (λ c. search needs) (λ c κs. search needs) returns-2 returns-3)

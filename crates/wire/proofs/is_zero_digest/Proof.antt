@@ -14,4 +14,5 @@ returns c =
     c .are-zero .ensures ∙ ap areZero (part-all 32 d full)
 
 pub is-zero-digest-spec : {M : Type 1} → statement M
-is-zero-digest-spec = tie.close (tie.spec (λ c. search needs) (λ c κs. search needs) returns)
+is-zero-digest-spec =
+    tie.close (tie.spec (λ c. search needs) (λ c κs. search needs) returns)

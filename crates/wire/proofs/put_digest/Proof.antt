@@ -50,5 +50,5 @@ pub put-digest-spec : {M : Type 1} → statement M
 put-digest-spec =
     tie.close
     (tie.spec
-    Inv-loop μ-loop loop-holds (λ c. omega arith) (λ c. omega arith) slice-write-s (λ c. omega arith)
-    (λ c. omega arith) loop-again same-length returns)
+    Inv-loop μ-loop loop-holds (λ c. omega arith) (λ c. omega arith) slice-write-s (λ c. omega arith) (λ c. omega arith)
+    loop-again same-length returns)

@@ -14,4 +14,5 @@ returns c =
     rw e
 
 pub put-u8-spec : {M : Type 1} → statement M
-put-u8-spec = tie.close (tie.spec (λ c. search needs) (λ c. search needs) returns)
+put-u8-spec =
+    tie.close (tie.spec (λ c. search needs) (λ c. search needs) returns)

@@ -11,4 +11,5 @@ returns : tie.Need-returns
 returns c = sym (field-one (c .before .args .at) (now (c .before .args .s)) (omega arith))
 
 pub u8-at-spec : {M : Type 1} → statement M
-u8-at-spec = tie.close (tie.spec (λ c. search needs) returns)
+u8-at-spec =
+    tie.close (tie.spec (λ c. search needs) returns)

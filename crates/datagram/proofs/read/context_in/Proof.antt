@@ -1,4 +1,7 @@
 -- Each field is read. Assumes nothing.
+use lib.Dec.{eqb}
+use lib.ListN.{getD}
+use denote.Ref.{now}
 use borrow.Author.Needs.{needs}
 use Rattle.datagram.specs.Datagram.{contextIn}
 use Rattle.datagram.proofs.read.context_in.Statement.{statement}
@@ -6,7 +9,15 @@ use Rattle.datagram.proofs.read.context_in.Tie as tie
 
 returns : tie.Need-returns
 unfolding contextIn
-returns c = cc
+returns c =
+    let time = c .before .before .before in
+    λ i. record {
+      height = record { 0 = time .before .u64-at .ensures i };
+      time = time .u64-at2 .ensures i;
+      client = record { 0 = c .before .before .u64-at3 .ensures i };
+      port = c .before .u16-at .ensures i;
+      connected = eqb (getD (now (time .before .before .before .args .d)) 32 0) 1;
+    }
 
 pub context-in-spec : {M : Type 1} → statement M
 context-in-spec =

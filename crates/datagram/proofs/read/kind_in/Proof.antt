@@ -6,7 +6,7 @@ use Rattle.datagram.proofs.read.kind_in.Tie as tie
 
 returns : tie.Need-returns
 unfolding kindIn
-returns c = cc
+returns c = c .u16-at .ensures
 
 pub kind-in-spec : {M : Type 1} → statement M
 kind-in-spec =

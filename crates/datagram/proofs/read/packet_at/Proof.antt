@@ -1,18 +1,24 @@
 -- Each field is read. Assumes nothing.
-use borrow.Author.Needs.{needs}
 use Rattle.datagram.specs.Datagram.{packetIn}
+use borrow.Author.Needs.{needs}
 use Rattle.datagram.proofs.read.packet_at.Statement.{statement}
 use Rattle.datagram.proofs.read.packet_at.Tie as tie
 
 returns : tie.Need-returns
 unfolding packetIn
-returns c = cc
+returns c =
+    let timeout = c .before .before .before in
+    λ i. record {
+      sequence = timeout .before .u64-at .ensures i;
+      timeout = timeout .timeout-at .ensures i;
+      source = c .before .before .end-at .ensures i;
+      destination = c .before .end-at2 .ensures i;
+      digest = c .digest-at .ensures i;
+    }
 
 pub packet-at-spec : {M : Type 1} → statement M
 packet-at-spec =
     tie.close
     (tie.spec
     (λ c κs. search needs) (λ c. search needs) (λ c κs. search needs) (λ c. search needs) (λ c κs. search needs)
-    (λ c. search needs) (λ c κs. search needs) (λ c. search needs) (λ c κs. search needs) (λ c. search needs)
-    (λ c κs. search needs) (λ c. search needs) (λ c κs. search needs) (λ c. search needs) (λ c κs. search needs)
-    returns)
+    (λ c. search needs) (λ c κs. search needs) (λ c. search needs) (λ c κs. search needs) returns)

@@ -6,7 +6,7 @@ use Rattle.datagram.proofs.read.packet_in.Tie as tie
 
 returns : tie.Need-returns
 unfolding packetFrom
-returns c = cc
+returns c = c .packet-at .ensures
 
 pub packet-in-spec : {M : Type 1} → statement M
 packet-in-spec =

@@ -6,7 +6,7 @@ use Rattle.datagram.proofs.read.sequence_in.Tie as tie
 
 returns : tie.Need-returns
 unfolding sequenceFrom
-returns c = cc
+returns c = c .u64-at .ensures
 
 pub sequence-in-spec : {M : Type 1} → statement M
 sequence-in-spec =

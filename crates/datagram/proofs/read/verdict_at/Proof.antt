@@ -1,12 +1,23 @@
 -- Each field is read. Assumes nothing.
-use borrow.Author.Needs.{needs}
 use Rattle.datagram.specs.Datagram.{verdictIn}
+use borrow.Author.Needs.{needs}
 use Rattle.datagram.proofs.read.verdict_at.Statement.{statement}
 use Rattle.datagram.proofs.read.verdict_at.Tie as tie
 
 returns : tie.Need-returns
 unfolding verdictIn
-returns c = cc
+returns c =
+    let end = c .before .before .before in
+    let time = end .before in
+    λ i. record {
+      claim = time .before .before .u16-at .ensures i;
+      height = record { 0 = time .before .u64-at .ensures i };
+      time = time .u64-at2 .ensures i;
+      end = end .end-at .ensures i;
+      sequence = c .before .before .u64-at3 .ensures i;
+      timeout = c .before .timeout-at .ensures i;
+      digest = c .digest-at .ensures i;
+    }
 
 pub verdict-at-spec : {M : Type 1} → statement M
 verdict-at-spec =
@@ -14,5 +25,4 @@ verdict-at-spec =
     (tie.spec
     (λ c κs. search needs) (λ c. search needs) (λ c κs. search needs) (λ c. search needs) (λ c κs. search needs)
     (λ c. search needs) (λ c κs. search needs) (λ c. search needs) (λ c κs. search needs) (λ c. search needs)
-    (λ c κs. search needs) (λ c. search needs) (λ c κs. search needs) (λ c. search needs) (λ c κs. search needs)
-    (λ c. search needs) (λ c κs. search needs) returns)
+    (λ c κs. search needs) (λ c. search needs) (λ c κs. search needs) returns)

@@ -23,7 +23,8 @@ module _ (o : tie.Start) where
 
   tests : (o .args .length ≡ length bytes) ×
       (isSound bytes
-      ≡ (eqb (o .args .length) (sizeOfKind (o .args .kind)) and (isContextSound bytes and isBodySound (o .args .kind) bytes)))
+      ≡ (eqb (o .args .length) (sizeOfKind (o .args .kind))
+      and (isContextSound bytes and isBodySound (o .args .kind) bytes)))
   tests = whole bytes (o .pre)
 
 sized : (c : tie.Else1) → let a = c .before .before .before .args in a .length ≡ sizeOfKind (a .kind)

@@ -16,6 +16,4 @@ returns c =
 
 pub is-record-exact-spec : {M : Type 1} → statement M
 is-record-exact-spec =
-    tie.close
-    (tie.spec
-    (λ c. search needs) (λ c κs. search needs) returns)
+    tie.close (tie.spec (λ c. search needs) (λ c κs. search needs) returns)

@@ -21,7 +21,7 @@ returns c =
     let o = first .before in
     let a = o .args in
     let bytes = bytes-getD (now (a .s)) (λ k. omega (arith, first .slice-known .given k)) in
-    c .before .before .free-slot .ensures ∙
+    c .before .before .put-zeros .ensures ∙
     exact-record (now (a .s)) bytes (o .pre .0) (a .i) none tt (o .pre .1)
 
 pub remove-record-spec : {M : Type 1} → statement M

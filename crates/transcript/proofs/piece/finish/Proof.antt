@@ -9,10 +9,10 @@ use denote.Ref.{now}
 use borrow.Author.Needs.{needs}
 use borrow.Author.Tests.{eq-eqb, ne-eqb}
 use Rattle.wire.specs.Bytes.{patch}
-use Rattle.transcript.specs.declared.Night.{Night}
-use Rattle.transcript.specs.Line.{lineOf, endWord, tornWord}
+use Rattle.night.specs.declared.Night.{Night}
+use Rattle.night.specs.Line.{lineOf, endWord, tornWord}
 use Rattle.transcript.specs.Transcript.{lineRoom, lastLine, lastWithin}
-use Rattle.transcript.proofs.NightLaws.{last-within, last-nowhere}
+use Rattle.transcript.proofs.KeptLaws.{last-within, last-nowhere}
 use Rattle.transcript.proofs.piece.finish.Statement.{statement}
 use Rattle.transcript.proofs.piece.finish.Tie as tie
 

@@ -11,7 +11,7 @@ use denote.Ref.{now}
 use borrow.Author.Needs.{needs}
 use Rattle.wire.specs.Bytes.{part, patch}
 use Rattle.wire.proofs.PatchLaws.{length-patch, patch-more}
-use Rattle.transcript.proofs.NightLaws.{getD-patch-behind, length-part-most, getD-part}
+use Rattle.transcript.proofs.KeptLaws.{getD-patch-behind, length-part-most, getD-part}
 use Rattle.transcript.proofs.piece.keep.Statement.{statement}
 use Rattle.transcript.proofs.piece.keep.Tie as tie
 

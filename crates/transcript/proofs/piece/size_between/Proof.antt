@@ -5,7 +5,7 @@ use native.Mathlib.Omega.{arith}
 use lib.ListN.{length}
 use denote.Ref.{now}
 use borrow.Author.Needs.{needs}
-use Rattle.transcript.proofs.NightLaws.{length-part-most}
+use Rattle.transcript.proofs.KeptLaws.{length-part-most}
 use Rattle.transcript.proofs.piece.size_between.Statement.{statement}
 use Rattle.transcript.proofs.piece.size_between.Tie as tie
 

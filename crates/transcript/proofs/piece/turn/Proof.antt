@@ -8,8 +8,9 @@ use denote.Ref.{now}
 use borrow.Author.Needs.{needs}
 use Rattle.transcript.specs.declared.Front.the-variants.{Whole}
 use Rattle.transcript.specs.Front.{frontOf}
-use Rattle.transcript.specs.Night.{isOver, over, stepped}
-use Rattle.transcript.specs.Stepped.{Leaves, Feeds}
+use Rattle.night.specs.Night.{isOver, over, stepped}
+use Rattle.night.specs.Stepped.{Leaves}
+use Rattle.transcript.specs.Feeds.{Feeds}
 use Rattle.transcript.proofs.FedLaws.{front-room, fed-over, fed-short, fed-torn, fed-whole}
 use Rattle.transcript.proofs.TurnLaws.{feeds-stays, feeds-torn, feeds-read}
 use Rattle.transcript.proofs.piece.turn.Statement.{statement}
