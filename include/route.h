@@ -5,8 +5,8 @@
  * WHAT HOLDS FOR EVERY POINTER. It is valid for as many bytes as the length beside it says: to be read, and also to be
  * written where it is not const. The memory lent to one call does not overlap: not the store with the output, the
  * datagram or the openings, not the output with the datagram, and none of them with `size`. Nobody else reads or writes
- * it while the call runs. It needs no alignment. NULL with the length 0 is allowed and is an empty slice; with another
- * length it is not. The functions keep no pointer, allocate nothing and have no state of their own, so calls with
+ * it while the call runs. Bytes need no alignment. NULL with the length 0 is allowed and is an empty slice; with
+ * another length it is not. The functions keep no pointer, allocate nothing and have no state of their own, so calls with
  * different memory may run at the same time. Any bytes may stand in the memory: none makes a call fail in another way
  * than by its answer. */
 

@@ -87,7 +87,7 @@ fn time_out(at: &mut Ledger, other: &mut Ledger, packet: &Packet) -> Result<Emit
     let end = other.store.channel(packet.destination.channel).expect("the end that the packet is for");
     let verdict = look_at(other, |block| match end.order {
         Order::Ordered => Verdict::next_receive(packet, end.next_receive, block),
-        Order::Unordered => Verdict::receipt_absent(packet, block),
+        _ => Verdict::receipt_absent(packet, block),
     });
     let context = at.context(verdict.block.height);
     at.call(Datagram::time_out(&context, packet, &verdict))

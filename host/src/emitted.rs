@@ -7,6 +7,7 @@ use crate::{Digest, End, Packet};
 
 /// What an accepted datagram emits.
 #[derive(Clone, Copy, Debug, PartialEq, Eq, Hash)]
+#[non_exhaustive]
 pub enum Emitted {
     /// A packet was sent. It is to be brought to the other ledger.
     Sent(Packet),

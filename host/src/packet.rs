@@ -26,6 +26,7 @@ impl fmt::Display for End {
 
 /// Whether the packets of a channel are taken in the order in which they were sent.
 #[derive(Clone, Copy, Debug, PartialEq, Eq, Hash)]
+#[non_exhaustive]
 pub enum Order {
     /// Packets are received and acknowledged one after the other, and a time-out closes the channel.
     Ordered,

@@ -13,6 +13,7 @@ use std::fmt;
 /// ```
 #[derive(Clone, Copy, Debug, PartialEq, Eq, PartialOrd, Ord, Hash)]
 #[repr(u8)]
+#[non_exhaustive]
 pub enum Refusal {
     /// The bytes are not those of a fit store.
     StoreNotFit = 1,
@@ -66,7 +67,7 @@ pub enum Refusal {
 
 impl Refusal {
     /// All refusals, in the order of their numbers from 1.
-    pub const ALL: [Refusal; 24] = [
+    pub const ALL: &[Refusal] = &[
         Refusal::StoreNotFit,
         Refusal::OutputShort,
         Refusal::Malformed,

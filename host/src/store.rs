@@ -182,7 +182,8 @@ impl Store {
         self.records().find(|record| (record.kind, record.channel, record.sequence) == (kind, channel, sequence))
     }
 
-    /// Whether what the verdict says of this ledger is so now. The verdict's block is not looked at.
+    /// Whether what the verdict says of this ledger is so now. The verdict's block is not looked at: what is so now is
+    /// true of that block only if no accepted call of its height, or of a lower one, follows.
     pub fn holds(&self, verdict: &Verdict) -> bool {
         let Some(end) = self.channel(verdict.end.channel).filter(|end| end.own == verdict.end) else {
             return false;

@@ -7,6 +7,7 @@ const NO_DIGEST: Digest = [0; 32];
 
 /// What a verdict says of an end of the other ledger.
 #[derive(Clone, Copy, Debug, PartialEq, Eq, Hash)]
+#[non_exhaustive]
 pub enum Claim {
     /// A commitment with the verdict's sequence, timeouts and digest is there.
     CommitmentPresent,

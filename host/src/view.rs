@@ -5,10 +5,11 @@ use crate::{Digest, End, Order, Timeout};
 
 /// Whether a channel takes datagrams.
 #[derive(Clone, Copy, Debug, PartialEq, Eq, Hash)]
+#[non_exhaustive]
 pub enum State {
     /// It does.
     Open,
-    /// It was ordered and a packet was timed out. Nothing opens it again.
+    /// It does not: a packet was timed out on it while it was ordered. Nothing opens it again.
     Closed,
 }
 
@@ -50,6 +51,7 @@ impl Channel {
 
 /// What a packet record is.
 #[derive(Clone, Copy, Debug, PartialEq, Eq, PartialOrd, Ord, Hash)]
+#[non_exhaustive]
 pub enum RecordKind {
     /// A packet that this ledger sent is not yet finished.
     Commitment,

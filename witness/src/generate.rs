@@ -9,6 +9,7 @@ pub mod fault;
 pub mod grow;
 pub mod making;
 pub mod malform;
+pub mod night;
 pub mod rng;
 pub mod shape;
 

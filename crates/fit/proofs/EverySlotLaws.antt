@@ -155,7 +155,8 @@ fit-parts bs fits =
     let all = drop-of-length-le last {i = slotSize * n} (omega arith) in
     let channels = table-fits channelBytes channelIn channelFits sameNumber (λ p l. length-channel (channelIn p)) channelLimit tables r
     (omega arith) in
-    let records = table-fits recordBytes recordIn (recordFits (storeIn bs)) sameKey record-size n last [] (omega arith) in
+    let records = table-fits recordBytes recordIn (recordFits (storeIn bs)) sameKey record-size n last []
+    (omega arith) in
     rw (fits, length-read recordIn n last, sub-zero n, whole)
     (two-tables (same h front) _ _ _ _ _ (rw (drop-drop (slotSize * channelLimit) headerSize bs) at channels)
     (rw (append-nil, all, eq-same [], and-true) at records))

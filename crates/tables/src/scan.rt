@@ -16,12 +16,15 @@ ghost use Rattle.store.specs.Layout.{headerSize, slotSize, recordsFrom, sizeFor
 ghost use Rattle.store.specs.Layout.{channelIn, recordIn, slotIn, storeIn};
 ghost use Rattle.store.specs.Scan.{indexWhere, isAt, holds, firstFree, firstThat, tableFrom};
 
-// A free slot has no number, though its bytes read as 0.
+// A free slot has no number, though its bytes read as 0. Numbers differ, so that few slots are tested for it.
 fn is_numbered(s: &[u8], at: usize, number: u32) -> bool
     requires { ⌜ at + slotSize ≤ length (now s) ⌝ }
     ensures { λ r. ⌜ r ≡ holds (isNumbered number) (slotIn channelIn (part at slotSize (now (s .entry)))) ⌝ }
 {
-    (u32_at(s, at + 4) == number) & !are_zero(s, at, Store::SLOT)
+    if u32_at(s, at + 4) != number {
+        return false;
+    }
+    !are_zero(s, at, Store::SLOT)
 }
 
 // A free slot has no key. The sequence is what most records differ in.

@@ -103,6 +103,8 @@ fn main() {
     );
     println!("the two take turns. Few calls are timed at once; best is the sum of the best rounds of these, median");
     println!("that of their median rounds. Ratio: time of the library over time of the plain Rust. Seed {SEED}.");
+    // Where a short loop stands in the lines of the cache decides much of its time: see docs/PERFORMANCE.md.
+    println!("The library's code begins {} bytes behind a multiple of 64.", ROUTE.handle as usize % 64);
     for records in [8, 64, 512] {
         measure(records, rounds);
     }

@@ -23,7 +23,8 @@ behind o = slotsFrom recordsFrom (o .args .count) (now (o .args .s)) (o .args .i
 returns : tie.Need-returns
 returns c =
     let o = c .before .before .before in
-    slot-free recordBytes recordIn (recordFits (storeIn (now (o .args .s)))) sameKey (slot o) (behind o) (c .before .are-zero .ensures) (c .if1 .taken)
+    slot-free recordBytes recordIn (recordFits (storeIn (now (o .args .s)))) sameKey (slot o) (behind o)
+    (c .before .are-zero .ensures) (c .if1 .taken)
 
 returns-2 : tie.Need-returns-2
 unfolding _and_
@@ -31,8 +32,8 @@ returns-2 c =
     let x = c .before .before .before .before in
     let d = x .before in
     let o = d .before .before .before in
-    slot-taken recordBytes recordIn (recordFits (storeIn (now (o .args .s)))) sameKey (slot o) (behind o) (d .before .are-zero .ensures) (d .if1 .left)
-    (o .args .i + 1) (x .record-at .ensures) (c .before .before .before .is-record-exact .ensures)
+    slot-taken recordBytes recordIn (recordFits (storeIn (now (o .args .s)))) sameKey (slot o) (behind o)
+    (d .before .are-zero .ensures) (d .if1 .left) (o .args .i + 1) (x .record-at .ensures) (c .before .before .before .is-record-exact .ensures)
     (c .before .before .record-fits .ensures) (c .is-found .ensures ∙ ap isAt (c .before .first-record .ensures))
 
 pub record-slot-fits-spec : {M : Type 1} → statement M
