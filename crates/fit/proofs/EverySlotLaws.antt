@@ -153,8 +153,8 @@ fit-parts bs fits =
     ap (same (h ++ (c ++ r))) (sym (take-append-drop headerSize bs)) ∙
     same-append h front (c ++ r) tables (length-header (field 8 8 bs) (field 16 8 bs) n ∙ sym lf) in
     let all = drop-of-length-le last {i = slotSize * n} (omega arith) in
-    let channels = table-fits channelBytes channelIn channelFits sameNumber (λ p l. length-channel (channelIn p)) channelLimit tables r
-    (omega arith) in
+    let channels = table-fits channelBytes channelIn channelFits sameNumber (λ p l. length-channel (channelIn p))
+    channelLimit tables r (omega arith) in
     let records = table-fits recordBytes recordIn (recordFits (storeIn bs)) sameKey record-size n last []
     (omega arith) in
     rw (fits, length-read recordIn n last, sub-zero n, whole)

@@ -87,7 +87,8 @@ module _ (s : Store) (sizes : Sizes s) where
       rw (
         place,
         patch-behind (headerOf s) (slotSize * j) (slotBytes channelBytes x) (cs ++ rs),
-        patch-slot channelBytes x j (s .channels) rs (each-of length-channel (x ∷ [])) (each-of length-channel (s .channels)) b,
+        patch-slot channelBytes x j (s .channels) rs (each-of length-channel (x ∷ []))
+            (each-of length-channel (s .channels)) b,
       )
 
   pub patch-record : (i : ℕ) (x : Option Record) → SlotsSized recordBytes (x ∷ []) →
