@@ -6,13 +6,13 @@ use mathlib.Core.Option.{Option, none, some}
 use Prim.Native.Nat.{ℕ, zero, suc, _+_, _*_, _≤_, _<_}
 use native.Mathlib.Nat.{sub-zero}
 use native.Mathlib.Omega.{arith}
-use lib.ListN.{length, take, drop, length-append, length-drop, take-append-drop, drop-of-length-le}
+use lib.ListN.{length, take, drop, length-drop, take-append-drop, drop-of-length-le}
 use lib.Seq.{length-take-le, drop-drop}
 use borrow.Author.Tests.{not-true, not-false}
 use Rattle.wire.specs.Choice.{_and_, _or_, isSome}
 use Rattle.wire.specs.Bytes.{same, areZero, part, field, pieces, digestSize}
 use Rattle.wire.proofs.ChoiceLaws.{cases, of-pick, and-assoc, and-true, and-comm, and-swap}
-use Rattle.wire.proofs.BytesLaws.{eq-same, length-little, length-part}
+use Rattle.wire.proofs.BytesLaws.{eq-same, length-part, pieces-turn, pieces-end}
 use Rattle.wire.proofs.PartLaws.{same-append}
 use Rattle.store.specs.Limits.{channelLimit}
 use Rattle.store.specs.Table.{find, all, distinct, sameNumber, sameKey}
@@ -21,8 +21,8 @@ use Rattle.store.specs.Layout.{channelBytes, recordBytes, slotBytes, tableBytes
 use Rattle.store.specs.Layout.{channelIn, recordIn, slotIn, tableIn, storeIn}
 use Rattle.store.specs.Scan.{indexWhere, isAt, holds, slotAt, slotsFrom}
 use Rattle.store.specs.Fit.{channelFits, channelsFit, recordFits, recordsFit, storeFits, sizeFits, isFit}
+use Rattle.store.proofs.LayoutLaws.{length-header, length-channel, length-record}
 use Rattle.store.proofs.FitLaws.{fits-size, length-read}
-use Rattle.store.proofs.TurnLaws.{slots-turn, slots-end}
 use Rattle.store.proofs.SlotTestLaws.{find-at}
 use Rattle.fit.specs.EverySlot.{everySlot, isExact, slotFits}
 use Rattle.fit.proofs.FieldLaws.{same-zeros}
@@ -36,15 +36,15 @@ module _ (t : List ℕ → List (List ℕ) → Bool) (start n : ℕ) (bs : List 
     module _ {r : Bool} (more : i < n) (tested : r ≡ t (slotAt start bs i) (slotsFrom start n bs (i + 1))) where
       pub fails : not r ≡ true → false ≡ all
       unfolding everySlot _and_
-      fails h = let f = sym tested ∙ not-true r h in rw (left, slots-turn start n bs i more, f)
+      fails h = let f = sym tested ∙ not-true r h in rw (left, pieces-turn slotSize start n bs i more, f)
 
       pub passes : not r ≡ false → all ≡ everyFrom (i + 1)
       unfolding everySlot _and_
-      passes h = let f = sym tested ∙ not-false r h in rw (left, slots-turn start n bs i more, f)
+      passes h = let f = sym tested ∙ not-false r h in rw (left, pieces-turn slotSize start n bs i more, f)
 
     pub passed : n ≤ i → true ≡ all
     unfolding everySlot
-    passed h = rw (left, slots-end start n bs i h)
+    passed h = rw (left, pieces-end slotSize start n bs i h)
 
 -- A SLOT: its bytes are zero; or x is read there, is exact as e tells, and passes as r tells, and f tells whether an
 -- entry behind has its name
@@ -121,18 +121,10 @@ module _ {A : Type 0} (f : A → List ℕ) (g : List ℕ → A) (t : A → Bool)
       )
       (and-turn (same x p) (same (y ++ rest) bs') _ _ _ (slot-more p (pieces slotSize n bs') lp) ih)
 
-channel-size : (p : List ℕ) → length p ≡ slotSize → length (channelBytes (channelIn p)) ≡ slotSize
-unfolding channelBytes
-channel-size p l = simp (length-append, length-little)
-
-record-size : (p : List ℕ) → length p ≡ slotSize → length (recordBytes (recordIn p)) ≡ slotSize
-unfolding recordBytes recordIn
-record-size p l = simp (length-append, length-little) (rw (length-part 32 digestSize p (omega arith)))
-
 -- THE STORE: the header, and each slot of its two tables
-header-size : (h t n : ℕ) → length (headerBytes h t n) ≡ headerSize
-unfolding headerBytes
-header-size h t n = simp (length-append, length-little)
+record-size : (p : List ℕ) → length p ≡ slotSize → length (recordBytes (recordIn p)) ≡ slotSize
+unfolding recordIn
+record-size p l = length-record (recordIn p) (length-part 32 digestSize p (omega arith))
 
 two-tables : (h a b c d e : Bool) {q : Bool} → (a and b) ≡ (c and d) → (d and e) ≡ q →
     (h and a and (b and e)) ≡ (h and c and q)
@@ -159,10 +151,10 @@ fit-parts bs fits =
     let ll : length last ≡ slotSize * n = omega (arith, length-drop recordsFrom bs) in
     let whole : same (h ++ (c ++ r)) bs ≡ (same h front and same (c ++ r) tables) =
     ap (same (h ++ (c ++ r))) (sym (take-append-drop headerSize bs)) ∙
-    same-append h front (c ++ r) tables (header-size (field 8 8 bs) (field 16 8 bs) n ∙ sym lf) in
+    same-append h front (c ++ r) tables (length-header (field 8 8 bs) (field 16 8 bs) n ∙ sym lf) in
     let all = drop-of-length-le last {i = slotSize * n} (omega arith) in
-    let channels = table-fits channelBytes channelIn channelFits sameNumber channel-size channelLimit tables r
-    (omega arith) in
+    let channels = table-fits channelBytes channelIn channelFits sameNumber (λ p l. length-channel (channelIn p))
+    channelLimit tables r (omega arith) in
     let records = table-fits recordBytes recordIn (recordFits (storeIn bs)) sameKey record-size n last []
     (omega arith) in
     rw (fits, length-read recordIn n last, sub-zero n, whole)

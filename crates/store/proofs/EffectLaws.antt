@@ -21,8 +21,8 @@ use Rattle.store.specs.Layout.{channelBytes, recordBytes, slotBytes, tab
 use Rattle.store.specs.Layout.{channelIn, recordIn, storeIn}
 use Rattle.store.specs.Fit.{sizeFits}
 use Rattle.store.specs.Effect.{Exact, withTimes, withChannelSlot, withRecordSlot}
-use Rattle.store.proofs.TableLaws.{Each}
-use Rattle.store.proofs.LayoutLaws.{length-table}
+use Rattle.store.proofs.TableLaws.{Each, each-of}
+use Rattle.store.proofs.LayoutLaws.{length-header, length-channel, length-channels, length-record}
 use Rattle.store.proofs.FitLaws.{fits-size, length-read, each-read}
 
 -- A SLOT OF A TABLE, whatever the entries are, with any bytes behind the table
@@ -63,28 +63,12 @@ module _ {A : Type 0} (f : A → List ℕ) where
       )
       (sym (append-assoc (slotBytes f x) (tableBytes f (set xs i y)) rest))
 
--- THE TWO ENTRIES take 64 bytes; a packet record, where its digest takes 32
-channels-sized : (xs : List (Option Channel)) → SlotsSized channelBytes xs
-unfolding channelBytes little
-channels-sized [] = tt
-channels-sized (none ∷ xs) = channels-sized xs
-channels-sized (some c ∷ xs) = (refl, channels-sized xs)
-
-pub record-size : (r : Record) → length (r .digest) ≡ digestSize → length (recordBytes r) ≡ slotSize
-unfolding recordBytes little
-record-size r h = omega arith
-
-digest-in : (p : List ℕ) → length p ≡ slotSize → length (recordIn p .digest) ≡ digestSize
-unfolding recordIn
-digest-in p l = length-part 32 digestSize p (omega arith)
-
 -- THE WHOLE
 abbrev headerOf : Store → List ℕ
 headerOf s = headerBytes (s .height .0) (s .time) (length (s .records))
 
 header-size : (s : Store) → length (headerOf s) ≡ headerSize
-unfolding headerBytes little
-header-size s = refl
+header-size s = length-header (s .height .0) (s .time) (length (s .records))
 
 -- the sizes that its parts have
 pub record Sizes (s : Store) : Type 0 where
@@ -103,7 +87,8 @@ module _ (s : Store) (sizes : Sizes s) where
       rw (
         place,
         patch-behind (headerOf s) (slotSize * j) (slotBytes channelBytes x) (cs ++ rs),
-        patch-slot channelBytes x j (s .channels) rs (channels-sized (x ∷ [])) (channels-sized (s .channels)) b,
+        patch-slot channelBytes x j (s .channels) rs (each-of length-channel (x ∷ []))
+            (each-of length-channel (s .channels)) b,
       )
 
   pub patch-record : (i : ℕ) (x : Option Record) → SlotsSized recordBytes (x ∷ []) →
@@ -113,7 +98,7 @@ module _ (s : Store) (sizes : Sizes s) where
   patch-record i x l h =
       let cs : List ℕ = tableBytes channelBytes (s .channels) in
       let rs : List ℕ = tableBytes recordBytes (s .records) in
-      let size = length-table channelBytes (s .channels) (channels-sized (s .channels)) in
+      let size = length-channels (s .channels) in
       let place : recordsFrom + slotSize * i ≡ length (headerOf s) + (length cs + slotSize * i) =
       omega (arith, header-size s, sizes .slots) in
       let slot = patch-slot recordBytes x i (s .records) [] l (sizes .records) h in
@@ -143,7 +128,7 @@ patch-times s h t =
 
 -- BYTES THAT ARE EXACT
 sizes-read : (bs : List ℕ) → Bytes bs → sizeFits (length bs) ≡ true → Sizes (storeIn bs)
-unfolding storeIn
+unfolding storeIn recordIn
 sizes-read bs b h =
     let z = fits-size (length bs) h in
     record {
@@ -154,7 +139,7 @@ sizes-read bs b h =
     }
   where
     record-in : (p : List ℕ) → length p ≡ slotSize → Bytes p → length (recordBytes (recordIn p)) ≡ slotSize
-    record-in p l k = record-size (recordIn p) (digest-in p l)
+    record-in p l k = length-record (recordIn p) (length-part 32 digestSize p (omega arith))
 
 pub exact-times : (bs : List ℕ) → Exact bs → (h : OwnHeight) (t : ℕ) →
     patch 8 (little 8 (h .0) ++ little 8 t) bs ≡ bytesOf (withTimes (storeIn bs) h t)

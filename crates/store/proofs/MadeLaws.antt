@@ -1,23 +1,22 @@
 -- Laws of what the maker writes: a header, the channel records in order, and zeros behind them. Assumes nothing.
 use mathlib.Core.Path.{_≡_, refl, sym, _∙_}
 use mathlib.Core.List.{List, [], _∷_, _++_, append-assoc, append-nil}
-use mathlib.Core.Option.{Option, none, some}
-use Prim.Native.Nat.{ℕ, zero, suc, _+_, _*_, _-_, _/_, _<_}
+use mathlib.Core.Option.{Option, none}
+use Prim.Native.Nat.{ℕ, zero, suc, _+_, _*_, _-_, _/_}
 use native.Mathlib.Omega.{arith}
-use lib.ListN.{length, take, replicate, length-append, length-replicate, replicate-append-replicate}
-use lib.Seq.{length-take-le}
+use lib.ListN.{length, replicate, length-append, length-replicate, replicate-append-replicate}
 use borrow.Author.Tests.{ne-eqb}
 use Rattle.wire.specs.Bytes.{little, patch}
 use Rattle.wire.proofs.BytesLaws.{length-little}
 use Rattle.wire.proofs.PatchLaws.{patch-append, patch-then, patch-front}
-use Rattle.store.specs.declared.Channel.{Channel}
 use Rattle.store.specs.declared.Record.{Record}
 use Rattle.store.specs.Limits.{channelLimit}
 use Rattle.store.specs.Layout.{slotSize, headerSize, sizeFor, roomIn}
 use Rattle.store.specs.Layout.{channelBytes, recordBytes, slotBytes, tableBytes, headerBytes, bytesOf}
-use Rattle.store.specs.Maker.{openingSize, openingOf, endsOf, makeNumber, madeStore, makeTold, makeStore}
+use Rattle.store.specs.Maker.{openingSize, endsOf, makeNumber, madeStore, makeTold, makeStore}
 use Rattle.store.proofs.MakerLaws.{made}
-use Rattle.store.proofs.OpeningLaws.{openingAt, length-ends, end-more}
+use Rattle.store.proofs.LayoutLaws.{length-header, length-channels}
+use Rattle.store.proofs.OpeningLaws.{length-ends}
 
 -- TABLES
 module _ {A : Type 0} (f : A → List ℕ) where
@@ -33,31 +32,6 @@ module _ {A : Type 0} (f : A → List ℕ) where
   table-free (suc n) =
       let z : slotSize + slotSize * n ≡ slotSize * suc n = omega arith in
       rw (table-free n, replicate-append-replicate {A = ℕ} slotSize (slotSize * n) 0, z)
-
-length-channel : (c : Channel) → length (channelBytes c) ≡ slotSize
-unfolding channelBytes little
-length-channel c = refl
-
-pub length-channels : (xs : List (Option Channel)) → length (tableBytes channelBytes xs) ≡ slotSize * length xs
-unfolding tableBytes slotBytes
-length-channels [] = refl
-length-channels (none ∷ xs) = omega (arith, length-channels xs)
-length-channels (some c ∷ xs) =
-    length-append (channelBytes c) (tableBytes channelBytes xs) ∙ omega (arith, length-channel c, length-channels xs)
-
--- one end more
-pub patch-end : (i : ℕ) (os bs : List ℕ) → i < length os / openingSize
-    → patch (headerSize + slotSize * i) (channelBytes (openingOf (openingAt os i)))
-    (patch headerSize (tableBytes channelBytes (take i (endsOf os))) bs)
-    ≡ patch headerSize (tableBytes channelBytes (take (i + 1) (endsOf os))) bs
-unfolding tableBytes slotBytes
-patch-end i os bs more =
-    let before : List (Option Channel) = take i (endsOf os) in
-    let next : Channel = openingOf (openingAt os i) in
-    let count : length before ≡ i = length-take-le i (endsOf os) (omega (arith, length-ends os)) in
-    let size : length (tableBytes channelBytes before) ≡ slotSize * i = length-channels before ∙ omega arith in
-    patch-then headerSize (slotSize * i) (tableBytes channelBytes before) (channelBytes next) bs size
-    ∙ rw (end-more os i more, table-append channelBytes before (some next ∷ []), append-nil (channelBytes next))
 
 -- FIELD BY FIELD
 sixteen-zeros : replicate 16 0 ≡ little 8 0 ++ little 8 0
@@ -79,10 +53,6 @@ patch-whole : (xs bs : List ℕ) → length xs ≡ length bs → patch 0 xs bs �
 patch-whole xs bs l =
     let front = patch-front xs bs [] l in
     simp append-nil at front
-
-length-header : (h t n : ℕ) → length (headerBytes h t n) ≡ headerSize
-unfolding headerBytes little
-length-header h t n = refl
 
 -- a made store is a header, the ends, and zeros
 made-parts : (n : ℕ) (os : List ℕ) → makeNumber n os ≡ 0

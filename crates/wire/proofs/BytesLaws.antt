@@ -1,7 +1,8 @@
 -- Laws of bytes and of the numbers in them, for every width. Assumes nothing.
 use Rattle.wire.proofs.Prelude.{_≡_, refl, ap, _∙_, true, false, List, [], _∷_, ℕ, zero, suc, _+_, _*_, _/_, _^_}
-use Rattle.wire.proofs.Prelude.{_≤_, _<_, arith, length, take, drop, replicate, length-take, length-drop}
+use Rattle.wire.proofs.Prelude.{_-_, _≤_, _<_, arith, length, take, drop, replicate, length-take, length-drop}
 use Rattle.wire.proofs.Prelude.{eqb-true, eq-eqb}
+use lib.Seq.{drop-drop}
 use Rattle.wire.specs.Names.{Every, Bytes, same, little, numberOf, part, field, pieces}
 use Rattle.wire.proofs.ChoiceLaws.{and-both, both-and, clash}
 use Rattle.wire.proofs.EveryLaws.{every-take, every-drop, every-replicate}
@@ -85,3 +86,17 @@ every-pieces k (suc n) bs l h =
     let b : k * n ≤ length (drop k bs) = omega (arith, length-drop k bs) in
     let p : (length (take k bs) ≡ k) × Bytes (take k bs) = (length-take k bs ∙ omega arith, every-take Byte k bs h) in
     (p, every-pieces k n (drop k bs) b (every-drop Byte k bs h))
+
+-- a turn of a loop over n pieces from a place on takes the next of those that are left
+module _ (k start n : ℕ) (bs : List ℕ) (i : ℕ) where
+  pub pieces-turn : i < n → pieces k (n - i) (drop (start + k * i) bs) ≡
+      part (start + k * i) k bs ∷ pieces k (n - (i + 1)) (drop (start + k * (i + 1)) bs)
+  unfolding pieces part
+  pieces-turn h =
+      let m : n - i ≡ suc (n - (i + 1)) = omega arith in
+      let z : start + k * i + k ≡ start + k * (i + 1) = omega arith in
+      rw (m, drop-drop k (start + k * i) bs, z)
+
+  pub pieces-end : n ≤ i → pieces k (n - i) (drop (start + k * i) bs) ≡ []
+  unfolding pieces
+  pieces-end h = let z : n - i ≡ 0 = omega arith in rw z

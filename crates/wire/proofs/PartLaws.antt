@@ -182,35 +182,18 @@ module _ (n from : ℕ) (bs : List ℕ) {i size v : ℕ} (bytes : Bytes bs) (lef
       let agree = eq-eqb (field (from + i) n bs) 0 (sym number ∙ none) in
       (more, rw (left .1, zero-turn n from i size bs bytes more, agree))
 
-same-turn : (n i size : ℕ) (xs ys : List ℕ) → Bytes xs × Bytes ys → (size ≤ length xs) × (size ≤ length ys)
-    → i + n ≤ size
-    → same (part i (size - i) xs) (part i (size - i) ys)
-    ≡ (eqb (field i n xs) (field i n ys) and same (part (i + n) (size - (i + n)) xs) (part (i + n) (size - (i + n)) ys))
-unfolding field
-same-turn n i size xs ys bytes room more =
-    let x : List ℕ = part i n xs in
-    let y : List ℕ = part i n ys in
-    let rest : ℕ = size - (i + n) in
-    let k : size - i ≡ n + rest = omega arith in
-    let l : length x ≡ length y = length-part i n xs (omega arith) ∙ sym (length-part i n ys (omega arith)) in
-    let both = same-append x y (part (i + n) rest xs) (part (i + n) rest ys) l in
-    let number = same-number x y l (bytes-part i n xs (bytes .0)) (bytes-part i n ys (bytes .1)) in
-    rw (k, part-split n rest i xs, part-split n rest i ys, both, number)
+-- BY HALVES of n bytes each
+module _ (n i : ℕ) (xs ys : List ℕ) where
+  pub same-halves : i + n ≤ length xs → i + n ≤ length ys → same (part i (n + n) xs) (part i (n + n) ys) ≡
+      (same (part i n xs) (part i n ys) and same (part (i + n) n xs) (part (i + n) n ys))
+  same-halves h k =
+      rw (part-split n n i xs, part-split n n i ys)
+      (same-append (part i n xs) (part i n ys) (part (i + n) n xs) (part (i + n) n ys)
+      (length-part i n xs h ∙ sym (length-part i n ys k)))
 
-abbrev pub SameLeft : (size i : ℕ) (xs ys : List ℕ) → Type 0
-SameLeft size i xs ys = (i ≤ size) × (same xs ys ≡ same (part i (size - i) xs) (part i (size - i) ys))
-
-module _ (n : ℕ) (xs ys : List ℕ) {i size v w : ℕ} (bytes : Bytes xs × Bytes ys)
-    (room : (size ≤ length xs) × (size ≤ length ys)) (left : SameLeft size i xs ys) (more : i + n ≤ size)
-    (number : v ≡ field i n xs) (number′ : w ≡ field i n ys) where
-  pub same-stop : (v ≡ w → ⊥) → false ≡ same xs ys
-  unfolding _and_
-  same-stop other =
-      let differ = ne-eqb (field i n xs) (field i n ys) (λ e. other (number ∙ e ∙ sym number′)) in
-      rw (left .1, same-turn n i size xs ys bytes room more, differ)
-
-  pub same-next : v ≡ w → SameLeft size (i + n) xs ys
-  unfolding _and_
-  same-next equal =
-      let agree = eq-eqb (field i n xs) (field i n ys) (sym number ∙ equal ∙ number′) in
-      (more, rw (left .1, same-turn n i size xs ys bytes room more, agree))
+  pub same-numbers : Bytes xs → Bytes ys → i + n ≤ length xs → i + n ≤ length ys →
+      same (part i n xs) (part i n ys) ≡ eqb (field i n xs) (field i n ys)
+  unfolding field
+  same-numbers b c h k =
+      same-number (part i n xs) (part i n ys) (length-part i n xs h ∙ sym (length-part i n ys k))
+      (bytes-part i n xs b) (bytes-part i n ys c)

@@ -135,18 +135,18 @@ pub fn put_digest(s: &mut [u8], at: usize, d: [u8; 32])
     }
 }
 
-// By words of eight bytes.
+// Sixteen bytes, as two words.
+fn same_half(a: &[u8], b: &[u8], at: usize) -> bool
+    requires { ⌜ (at + 16 ≤ length (now a)) × (at + 16 ≤ length (now b)) ⌝ }
+    ensures { λ r. ⌜ r ≡ same (part at 16 (now (a .entry))) (part at 16 (now (b .entry))) ⌝ }
+{
+    (u64_at(a, at) == u64_at(b, at)) & (u64_at(a, at + 8) == u64_at(b, at + 8))
+}
+
 pub fn same_digest(a: [u8; 32], b: [u8; 32]) -> bool
     ensures { λ r. ⌜ r ≡ same a b ⌝ }
 {
-    let mut i: usize = 0;
-    while i < 32 {
-        if u64_at(&a, i) != u64_at(&b, i) {
-            return false;
-        }
-        i += 8;
-    }
-    true
+    same_half(&a, &b, 0) & same_half(&a, &b, 16)
 }
 
 pub fn is_zero_digest(d: [u8; 32]) -> bool

@@ -33,8 +33,9 @@ returns-2 c =
     let d = x .before in
     let o = d .before .before .before in
     slot-taken recordBytes recordIn (recordFits (storeIn (now (o .args .s)))) sameKey (slot o) (behind o)
-    (d .before .are-zero .ensures) (d .if1 .left) (o .args .i + 1) (x .record-at .ensures) (c .before .before .before .is-record-exact .ensures)
-    (c .before .before .record-fits .ensures) (c .is-found .ensures ∙ ap isAt (c .before .first-record .ensures))
+    (d .before .are-zero .ensures) (d .if1 .left) (o .args .i + 1) (x .record-at .ensures)
+    (c .before .before .before .is-record-exact .ensures) (c .before .before .record-fits .ensures)
+    (c .is-found .ensures ∙ ap isAt (c .before .first-record .ensures))
 
 pub record-slot-fits-spec : {M : Type 1} → statement M
 record-slot-fits-spec =

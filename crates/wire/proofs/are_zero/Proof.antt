@@ -5,7 +5,7 @@ use native.Mathlib.Omega.{arith}
 use native.Mathlib.Nat.{add-zero, sub-zero}
 use denote.Ref.{now}
 use Rattle.wire.specs.Bytes.{Bytes, part, areZero}
-use Rattle.wire.proofs.PartLaws.{bytes-getD, ZeroLeft, zero-stop, zero-next}
+use Rattle.wire.proofs.PartLaws.{bytes-array, ZeroLeft, zero-stop, zero-next}
 use Rattle.wire.proofs.are_zero.Statement.{statement}
 use Rattle.wire.proofs.are_zero.Tie as tie
 
@@ -22,7 +22,7 @@ abbrev μ-loop2 : tie.MeasureT-loop2
 μ-loop2 s from size i₀ i = size - i
 
 bytes : (o : tie.After-shared-slice-known Inv-loop μ-loop Inv-loop2 μ-loop2) → Bytes (now (o .before .args .s))
-bytes o = bytes-getD (now (o .before .args .s)) (λ k. omega (arith, o .shared-slice-known .given k))
+bytes o = bytes-array (now (o .before .args .s)) (o .shared-slice-known .given)
 
 loop-holds : tie.Need-loop-holds Inv-loop μ-loop Inv-loop2 μ-loop2
 loop-holds c = (omega arith, rw (add-zero, sub-zero))
