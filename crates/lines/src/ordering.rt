@@ -5,7 +5,6 @@ use tables::ordering::is_ordered;
 use tables::scan::has_record;
 ghost use mathlib.Core.Path.{_≡_};
 ghost use mathlib.Core.Bool.{true};
-ghost use lib.Dec.{eqb};
 ghost use lib.ListN.{length};
 ghost use Rattle.wire.specs.Choice.{pick};
 ghost use Rattle.store.specs.Layout.{sizeFor, storeIn};
@@ -15,12 +14,12 @@ ghost use Rattle.rules.specs.Ordering.{absenceSequence, isReceiptThere, isAtTop
 
 const TOP: u64 = 18446744073709551615;
 
-// On an ordered channel the sequence is the one that comes next; an unordered one takes any.
-fn is_next(c: Channel, sequence: u64, next: u64) -> bool
-    ensures { λ r. ⌜ r ≡ pick (isOrdered c) (eqb sequence next) true ⌝ }
+// An ordered channel takes what passes a test; an unordered one takes all.
+fn if_ordered(c: Channel, test: bool) -> bool
+    ensures { λ r. ⌜ r ≡ pick (isOrdered c) test true ⌝ }
 {
     if is_ordered(c) {
-        return sequence == next;
+        return test;
     }
     true
 }
@@ -29,21 +28,21 @@ fn is_next(c: Channel, sequence: u64, next: u64) -> bool
 pub fn receives_in_order(c: Channel, sequence: u64) -> bool
     ensures { λ r. ⌜ r ≡ receivesInOrder c sequence ⌝ }
 {
-    is_next(c, sequence, c.next.receive)
+    if_ordered(c, sequence == c.next.receive)
 }
 
 // 15, for 4.
 pub fn acknowledges_in_order(c: Channel, sequence: u64) -> bool
     ensures { λ r. ⌜ r ≡ acknowledgesInOrder c sequence ⌝ }
 {
-    is_next(c, sequence, c.next.acknowledge)
+    if_ordered(c, sequence == c.next.acknowledge)
 }
 
 // 15, for 5: by the next receive that the verdict claims.
 pub fn times_out_in_order(c: Channel, sequence: u64, claimed: u64) -> bool
     ensures { λ r. ⌜ r ≡ timesOutInOrder c sequence claimed ⌝ }
 {
-    is_next(c, sequence, claimed)
+    if_ordered(c, sequence == claimed)
 }
 
 // 16, for 2: a receipt is there. Only an unordered channel has any.

@@ -17,8 +17,7 @@ use Rattle.rules.specs.Names.{goesBack, noChannel, fitsPacket, isLate, i
 use Rattle.rules.specs.Names.{verdictDifference, isInOrder, isThere, table, sentPacket, commitment, sends}
 use Rattle.rules.specs.Names.{receives, writesAcknowledgement, acknowledges, timesOut, effectOf, edited, applied}
 use Rattle.rules.specs.Names.{answerTo, effectIn, nextStore, called, Cases, anOpening, aSlice, openings, fresh}
-use Rattle.rules.specs.Names.{aContext, aDigest, aSend, aPacket, aVerdict, aReceive, aTimeout, anOutput, afterOne}
-use Rattle.rules.specs.Names.{afterThirteen}
+use Rattle.rules.specs.Names.{aContext, aDigest, aSend, aPacket, aVerdict, aReceive, aTimeout, anOutput}
 
 pub cases : Cases
 unfolding _and_ _or_ same areZero little numberOf part field pieces isPast sameTimeout find replace insert hasFree
@@ -32,7 +31,7 @@ unfolding _and_ _or_ same areZero little numberOf part field pieces isPast sameT
     isAtTop needsRecord only lowest goesBack noChannel fitsPacket isLate isProvedLate isCommitted verdictDifference
     isInOrder isThere table sentPacket commitment sends receives writesAcknowledgement acknowledges timesOut effectOf
     edited applied answerTo effectIn nextStore called anOpening aSlice openings fresh aContext aDigest aSend aPacket
-    aVerdict aReceive aTimeout anOutput afterOne afterThirteen
+    aVerdict aReceive aTimeout anOutput
 cases =
     record {
       made = refl;

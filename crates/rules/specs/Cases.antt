@@ -63,10 +63,10 @@ numberFrom bs d = callTold bs anOutput d .number
 abbrev pub after : (store datagram : List ℕ) → List ℕ
 after bs d = callStore bs anOutput d
 
-unfoldable pub afterOne : List ℕ
+abbrev pub afterOne : List ℕ
 afterOne = after fresh (aSend 5 60 0)
 
-unfoldable pub afterThirteen : List ℕ
+abbrev pub afterThirteen : List ℕ
 afterThirteen = after afterOne (aTimeout 60 1)
 
 -- the state of channel 7

@@ -16,8 +16,7 @@ pub use Rattle.rules.specs.Acceptance.{Effect, effect}
 unfoldable pub use Rattle.rules.specs.Call.{answerTo, effectIn, nextStore, called}
 pub use Rattle.rules.specs.Call.{Answer, accepted, refused, callTold, callStore, callOutput}
 unfoldable pub use Rattle.rules.specs.Cases.{anOpening, aSlice, openings, fresh, aContext, aDigest, aSend}
-unfoldable pub use Rattle.rules.specs.Cases.{aPacket, aVerdict, aReceive, aTimeout, anOutput, afterOne}
-unfoldable pub use Rattle.rules.specs.Cases.{afterThirteen}
+unfoldable pub use Rattle.rules.specs.Cases.{aPacket, aVerdict, aReceive, aTimeout, anOutput}
 pub use Rattle.rules.specs.Cases.{numberFrom, after, stateOfSeven, Cases}
 unfoldable pub use Rattle.rules.specs.Promise.{fold}
 pub use Rattle.rules.specs.Promise.{Side, first, second, across, isSide, Call, Met, At, storeAfter, howMany, isOn}

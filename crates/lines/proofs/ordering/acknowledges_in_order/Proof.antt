@@ -6,7 +6,7 @@ use Rattle.lines.proofs.ordering.acknowledges_in_order.Tie as tie
 
 returns : tie.Need-returns
 unfolding acknowledgesInOrder
-returns c = c .is-next .ensures
+returns c = c .if-ordered .ensures
 
 pub acknowledges-in-order-spec : {M : Type 1} → statement M
 acknowledges-in-order-spec = tie.close (tie.spec (λ c κs. search needs) returns)

@@ -6,7 +6,7 @@ use Rattle.lines.proofs.ordering.receives_in_order.Tie as tie
 
 returns : tie.Need-returns
 unfolding receivesInOrder
-returns c = c .is-next .ensures
+returns c = c .if-ordered .ensures
 
 pub receives-in-order-spec : {M : Type 1} → statement M
 receives-in-order-spec = tie.close (tie.spec (λ c κs. search needs) returns)

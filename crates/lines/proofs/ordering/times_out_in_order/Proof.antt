@@ -6,7 +6,7 @@ use Rattle.lines.proofs.ordering.times_out_in_order.Tie as tie
 
 returns : tie.Need-returns
 unfolding timesOutInOrder
-returns c = c .is-next .ensures
+returns c = c .if-ordered .ensures
 
 pub times-out-in-order-spec : {M : Type 1} → statement M
 times-out-in-order-spec = tie.close (tie.spec (λ c κs. search needs) returns)
