@@ -1,5 +1,5 @@
-// The answer to a datagram: the number of the first line of the table that applies, 0 where none does. Lines 1 to 7 are
-// for every kind, and stand here in their order.
+// The answer to a datagram: the number of the first line of the table that applies, 0 where none does. Lines 1 to 7,
+// which are not for one kind or two, stand here in their order.
 mod rows; // the lines of the table for each kind
 
 use datagram::Context;
@@ -37,6 +37,8 @@ ghost use Rattle.rules.specs.Refusals.{lowest, refusals, orNone, endFor};
 ghost use Rattle.answer.specs.Lines.{numberBehind, Known};
 
 const OPEN: u8 = 3;
+
+const TIME_OUT: u16 = 5;
 
 // Lines 1 to 3: a fit store, room for every record that is emitted, a sound datagram.
 pub fn answer(store: &[u8], room: usize, datagram: &[u8]) -> u8
@@ -84,12 +86,12 @@ fn answer_sound(store: &[u8], datagram: &[u8]) -> u8
     answer_on(store, count, datagram, kind, x, c)
 }
 
-// Lines 6 and 7: an open channel end, and its port.
+// Lines 6 and 7: an open channel end, for all but a time-out, and its port.
 fn answer_on(store: &[u8], count: usize, datagram: &[u8], kind: u16, x: Context, c: Channel) -> u8
     requires { ⌜ Known (now store) count (now datagram) kind x ⌝ }
     ensures { λ r. ⌜ r ≡ numberBehind 5 kind (storeIn (now (store .entry))) (datagramIn (now (datagram .entry))) c ⌝ }
 {
-    if c.state != OPEN {
+    if (kind != TIME_OUT) & (c.state != OPEN) {
         return 6;
     }
     if x.port != c.own.port {

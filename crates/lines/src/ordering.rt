@@ -38,11 +38,11 @@ pub fn acknowledges_in_order(c: Channel, sequence: u64) -> bool
     if_ordered(c, sequence == c.next.acknowledge)
 }
 
-// 15, for 5: by the next receive that the verdict claims.
+// 15, for 5: the next receive that the verdict claims is not above the sequence, so that the packet was not taken.
 pub fn times_out_in_order(c: Channel, sequence: u64, claimed: u64) -> bool
     ensures { λ r. ⌜ r ≡ timesOutInOrder c sequence claimed ⌝ }
 {
-    if_ordered(c, sequence == claimed)
+    if_ordered(c, claimed <= sequence)
 }
 
 // 16, for 2: a receipt is there. Only an unordered channel has any.

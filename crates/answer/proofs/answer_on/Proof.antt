@@ -3,23 +3,25 @@ use mathlib.Core.Path.{_≡_, sym, _∙_}
 use denote.Ref.{now}
 use borrow.Author.Needs.{needs}
 use borrow.Author.Tests.{eq-eqb, ne-eqb}
+use Rattle.wire.specs.Choice.{_and_}
 use Rattle.store.specs.Layout.{storeIn}
 use Rattle.datagram.specs.Datagram.{datagramIn}
 use Rattle.rules.specs.Refusals.{lowest, table}
+use Rattle.rules.proofs.RefusalLaws.{given-both}
 use Rattle.answer.specs.Lines.{numberBehind}
 use Rattle.answer.proofs.answer_on.Statement.{statement}
 use Rattle.answer.proofs.answer_on.Tie as tie
 
 returns : tie.Need-returns
-unfolding numberBehind table lowest
-returns c = rw (ne-eqb _ _ (c .if1 .taken))
+unfolding numberBehind table lowest _and_
+returns c = rw (given-both, c .if1 .taken)
 
 returns-2 : tie.Need-returns-2
-unfolding numberBehind table lowest datagramIn
+unfolding numberBehind table lowest datagramIn _and_
 returns-2 c =
     let e1 = c .before .before .before in
     let o = e1 .before .before .before .before in
-    rw (eq-eqb _ _ (e1 .if1 .left), o .pre .context, ne-eqb _ _ (c .if2 .taken))
+    rw (given-both, e1 .if1 .left, o .pre .context, ne-eqb _ _ (c .if2 .taken))
 
 -- the answer is that of the lines behind the seventh
 past : (e : tie.Else2) →
@@ -27,11 +29,11 @@ past : (e : tie.Else2) →
     let d = datagramIn (now (a .datagram)) in
     numberBehind 5 (a .kind) (storeIn (now (a .store))) d (a .c)
     ≡ numberBehind 7 (a .kind) (storeIn (now (a .store))) d (a .c)
-unfolding numberBehind table lowest datagramIn
+unfolding numberBehind table lowest datagramIn _and_
 past e =
     let e1 = e .before .before .before in
     let o = e1 .before .before .before .before in
-    rw (eq-eqb _ _ (e1 .if1 .left), o .pre .context, eq-eqb _ _ (e .if2 .left))
+    rw (given-both, e1 .if1 .left, o .pre .context, eq-eqb _ _ (e .if2 .left))
 
 returns-3 : tie.Need-returns-3
 returns-3 c = c .answer-by-kind .ensures ∙ sym (past (c .before))
