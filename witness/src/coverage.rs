@@ -6,9 +6,11 @@ use std::collections::BTreeMap;
 use std::fmt;
 
 use crate::bytes::get_u16;
+use crate::datagram::{read, Body};
 use crate::generate::{Call, Origin, Row, Task};
 use crate::places::frame;
 use crate::refusal::*;
+use crate::store::find_channel;
 use cell::{Cell, KINDS, SORTS};
 
 const COLUMNS: usize = KINDS.len() + 2;
@@ -66,9 +68,14 @@ impl Coverage {
     /// it was hit.
     pub fn count(&mut self, call: &Call, number: u8, applying: &[u8]) {
         match &call.task {
-            Task::Handle { datagram, .. } => {
+            Task::Handle { store, datagram, .. } => {
                 let column = column_of(datagram);
                 self.answers.add(column, number);
+                // A subject may accept what it must not: only where nothing applies can the end be looked up.
+                let accepted = number == 0 && applying.is_empty();
+                if let Some(cell) = accepted.then(|| time_out_cell(store, datagram)).flatten() {
+                    self.reach(cell);
+                }
                 if column < OTHER {
                     self.reach(Cell::Answer(column as u16 + 1, number));
                 }
@@ -108,6 +115,15 @@ impl Coverage {
 fn both_hit(applying: &[u8], low: u8, high: u8) -> bool {
     let hidden = low == NO_CHANNEL || matches!(low, STORE_NOT_FIT | MALFORMED) && high > MALFORMED;
     applying.contains(&low) && (hidden || applying.contains(&high))
+}
+
+/// The cell of a time-out that is accepted.
+fn time_out_cell(store: &[u8], bytes: &[u8]) -> Option<Cell> {
+    let Body::TimeOut { packet, verdict } = read(bytes)?.body else {
+        return None;
+    };
+    let (_, end) = find_channel(store, packet.source_channel)?;
+    Some(Cell::TimedOut { ordered: end.is_ordered(), open: end.is_open(), below: verdict.sequence < packet.sequence })
 }
 
 fn column_of(datagram: &[u8]) -> usize {

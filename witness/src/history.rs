@@ -26,8 +26,8 @@ const STEPS: u64 = 300;
 pub struct Outcome {
     pub calls: u64,
     pub answers: Table,
-    /// Packets sent, delivered at paired ends, acknowledged and timed out.
-    pub totals: [u64; 4],
+    /// Packets sent, delivered at paired ends, acknowledged, timed out, and timed out on a closed end.
+    pub totals: [u64; 5],
     pub broken: Vec<String>,
     pub differences: Vec<String>,
 }
@@ -230,7 +230,7 @@ impl History {
             let claimed = next.filter(|_| self.truthful).unwrap_or(packet.sequence);
             at_moment(needed_verdict(TIME_OUT, ordered, &packet, [0; 32], claimed), moment)
         };
-        let good = |verdict: &Verdict| other.is_true(verdict) && verdict.sequence == packet.sequence;
+        let good = |verdict: &Verdict| other.is_true(verdict) && verdict.sequence <= packet.sequence;
         let passed = |verdict: &Verdict| {
             packet.timeout_height != 0 && verdict.proof_height >= packet.timeout_height
                 || packet.timeout_timestamp != 0 && verdict.proof_time >= packet.timeout_timestamp

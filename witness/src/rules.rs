@@ -24,7 +24,7 @@ pub fn decide(store: &[u8], output_length: usize, bytes: &[u8]) -> Result<Effect
             Call::enter(store, context, packet.source_channel)?.acknowledge(packet, acknowledgement, verdict)
         }
         Body::TimeOut { packet, verdict } => {
-            Call::enter(store, context, packet.source_channel)?.time_out(packet, verdict)
+            Call::find(store, context, packet.source_channel)?.owned()?.time_out(packet, verdict)
         }
     }
 }
@@ -38,15 +38,26 @@ struct Call<'a> {
 }
 
 impl Call<'_> {
-    /// The refusals 4 to 7, which every datagram can get.
+    /// The refusals 4 to 7, which every datagram but a time-out can get.
     fn enter(store: &[u8], context: Context, channel: u32) -> Result<Call<'_>, u8> {
+        let call = Call::find(store, context, channel)?;
+        refuse_if(!call.end.is_open(), NOT_OPEN)?;
+        call.owned()
+    }
+
+    /// The refusals 4 and 5.
+    fn find(store: &[u8], context: Context, channel: u32) -> Result<Call<'_>, u8> {
         let (height, time) = (last_height(store), last_time(store));
         let before = context.height < height || context.time < time;
         refuse_if(before || context.height == height && context.time != time, BEFORE_LAST)?;
         let (index, end) = find_channel(store, channel).ok_or(NO_CHANNEL)?;
-        refuse_if(!end.is_open(), NOT_OPEN)?;
-        refuse_if(context.port != end.port, NOT_OWNER)?;
         Ok(Call { store, context, index, end })
+    }
+
+    /// The refusal 7.
+    fn owned(self) -> Result<Self, u8> {
+        refuse_if(self.context.port != self.end.port, NOT_OWNER)?;
+        Ok(self)
     }
 
     fn send(&self, timeout_height: u64, timeout_timestamp: u64, digest: Digest) -> Result<Effect, u8> {
@@ -127,7 +138,8 @@ impl Call<'_> {
         let place = self.commitment(&packet).ok_or(NO_COMMITMENT)?;
         refuse_if(!shows_not_received(&verdict, &packet, end.is_ordered()), OTHER_VERDICT)?;
         if end.is_ordered() {
-            refuse_if(packet.sequence != verdict.sequence, OUT_OF_ORDER)?;
+            // Above the sequence, the claimed next receive says that the packet was taken.
+            refuse_if(verdict.sequence > packet.sequence, OUT_OF_ORDER)?;
             end.state = CLOSED;
         }
         Ok(self.effect(end, Some((place, Record::FREE)), Emitted::TimedOut(packet)))
@@ -190,7 +202,7 @@ pub fn shows_acknowledgement(verdict: &Verdict, packet: &Packet, acknowledgement
         && verdict.digest == *acknowledgement
 }
 
-/// On an ordered channel any sequence will do here: whether it is the packet's is a matter of order.
+/// On an ordered channel any sequence will do here: whether it is above the packet's is a matter of order.
 pub fn shows_not_received(verdict: &Verdict, packet: &Packet, ordered: bool) -> bool {
     let claimed = if ordered {
         verdict.claim == NEXT_RECV_EQUALS

@@ -3,7 +3,7 @@
 use std::slice::{from_raw_parts, from_raw_parts_mut};
 
 use crate::bytes::*;
-use crate::datagram::{self, Body, ACKNOWLEDGE, RECEIVE};
+use crate::datagram::{self, Body, Packet, Verdict, ACKNOWLEDGE, RECEIVE};
 use crate::places::{frame, header, PACKET_RECORDS};
 use crate::store::*;
 use crate::subject::{Handle, Subject};
@@ -11,7 +11,7 @@ use crate::subject::{Handle, Subject};
 pub const RIGHT: Subject = with(right);
 
 /// Handlers that each break one rule.
-pub const WRONG: [(&str, Handle); 10] = [
+pub const WRONG: [(&str, Handle); 12] = [
     ("refuses always", refuses_always),
     ("answers 0 always", answers_zero),
     ("accepts and stores nothing", stores_nothing),
@@ -19,6 +19,8 @@ pub const WRONG: [(&str, Handle); 10] = [
     ("frees every commitment at an acknowledgement", FREES_ALL),
     ("receives at the very timeout", AT_TIMEOUT),
     ("receives out of order", OUT_OF_TURN),
+    ("asks for an OPEN end at a time-out", asks_open),
+    ("times out no packet but the next", next_alone),
     ("gives 7 before 6", seven_before_six),
     ("changes the last height on refusal 20", changes_on_refusal),
     ("writes behind the output", writes_behind),
@@ -144,6 +146,22 @@ behind_c!(out_of_turn, |store, output, datagram| {
     answer
 });
 
+// Leaves packets behind a timeout stranded on the end that it closed.
+behind_c!(asks_open, |store, output, datagram| {
+    let closed = time_out_of(datagram).and_then(|(packet, _)| find_channel(store, packet.source_channel));
+    let closed = closed.is_some_and(|(_, end)| !end.is_open());
+    refuse_where(store, output, datagram, |number| closed && (number == 0 || number > 6), 6)
+});
+
+// The claimed next receive has to be the packet's sequence.
+behind_c!(next_alone, |store, output, datagram| {
+    let below = time_out_of(datagram).is_some_and(|(packet, verdict)| {
+        let end = find_channel(store, packet.source_channel);
+        end.is_some_and(|(_, end)| end.is_ordered()) && verdict.sequence < packet.sequence
+    });
+    refuse_where(store, output, datagram, |number| below && number == 0, 15)
+});
+
 behind_c!(seven_before_six, |store, output, datagram| {
     let answer = crate::handle(store, output, datagram);
     if answer.0 != 6 {
@@ -184,6 +202,28 @@ unsafe extern "C" fn writes_behind(
         *output.add(output_len) ^= 0xff;
     }
     number
+}
+
+fn time_out_of(bytes: &[u8]) -> Option<(Packet, Verdict)> {
+    match datagram::read(bytes)?.body {
+        Body::TimeOut { packet, verdict } => Some((packet, verdict)),
+        _ => None,
+    }
+}
+
+/// Gives another refusal in place of these answers.
+fn refuse_where(
+    store: &mut [u8],
+    output: &mut [u8],
+    datagram: &[u8],
+    wrong: impl Fn(u8) -> bool,
+    refusal: u8,
+) -> (u8, u32) {
+    let (number, _) = crate::handle(&mut store.to_vec(), &mut output.to_vec(), datagram);
+    if wrong(number) {
+        return (refusal, 0);
+    }
+    crate::handle(store, output, datagram)
 }
 
 fn kind_of(datagram: &[u8]) -> u16 {

@@ -40,10 +40,11 @@ fn own_channel(body: &Body) -> u32 {
     }
 }
 
-/// The lines behind 5: two for all kinds, then those of the kind.
+/// The lines behind 5: 6 for all kinds but a time-out, 7 for all, then those of the kind.
 fn of_end(store: &[u8], datagram: &Datagram, end: &Channel) -> Vec<(u8, bool)> {
     let Datagram { context, body } = datagram;
-    let mut lines = vec![(NOT_OPEN, end.state != OPEN), (NOT_OWNER, context.port != end.port)];
+    let asks_open = !matches!(body, Body::TimeOut { .. });
+    let mut lines = vec![(NOT_OPEN, asks_open && end.state != OPEN), (NOT_OWNER, context.port != end.port)];
     lines.extend(match body {
         Body::Send { timeout_height, timeout_timestamp, .. } => {
             of_send(store, context, end, *timeout_height, *timeout_timestamp)
@@ -120,7 +121,7 @@ fn of_time_out(store: &[u8], end: &Channel, packet: &Packet, verdict: &Verdict) 
         (TIMEOUT_NOT_PASSED, !passed),
         (NO_COMMITMENT, !is_committed(store, end, packet)),
         (OTHER_VERDICT, !shows_not_received(verdict, packet, ordered)),
-        (OUT_OF_ORDER, ordered && packet.sequence != verdict.sequence),
+        (OUT_OF_ORDER, ordered && packet.sequence < verdict.sequence),
     ]
 }
 

@@ -1,4 +1,4 @@
-//! The sixteen worked cases. The bytes are written here field by field, and not by the code under test.
+//! The worked cases. The bytes are written here field by field, and not by the code under test.
 
 const ORDERED_END: u32 = 7;
 const UNORDERED_END: u32 = 8;
@@ -76,9 +76,9 @@ fn receive(channel: u32, sequence: u64, timeout_height: u64, timeout_timestamp: 
         .0
 }
 
-/// Times out the packet of case 1.
-fn time_out(proof_height: u64, claimed: u64) -> Vec<u8> {
-    let sent = start(186, 5, 5).n64(1).n64(60).n64(0).n16(5).n32(ORDERED_END).n16(6).n32(9).digest(0xd1);
+/// Times out a packet that was sent as in case 1.
+fn time_out(sequence: u64, proof_height: u64, claimed: u64) -> Vec<u8> {
+    let sent = start(186, 5, 5).n64(sequence).n64(60).n64(0).n16(5).n32(ORDERED_END).n16(6).n32(9).digest(0xd1);
     sent.n16(4).n64(proof_height).n64(0).n16(6).n32(9).n64(claimed).n64(0).n64(0).digest(0).0
 }
 
@@ -166,7 +166,7 @@ fn cases_11_and_12_unordered_receive_twice() {
 #[test]
 fn cases_13_and_16_time_out_closes() {
     let mut store = after_case_1();
-    let (number_13, emitted) = answer(&mut store, &time_out(60, 1));
+    let (number_13, emitted) = answer(&mut store, &time_out(1, 60, 1));
     let packet = Bytes::default().n64(1).n64(60).n64(0).n16(5).n32(7).n16(6).n32(9).digest(0xd1).0;
     assert_eq!((number_13, emitted), (0, [Bytes::default().n32(74).n16(0x0105).0, packet].concat()));
     assert_eq!(channel(&store, 0)[2], 4);
@@ -176,11 +176,27 @@ fn cases_13_and_16_time_out_closes() {
 
 #[test]
 fn cases_14_and_15_time_out_refused() {
-    assert_eq!(number(&mut after_case_1(), &time_out(59, 1)), 12);
-    assert_eq!(number(&mut after_case_1(), &time_out(60, 2)), 15);
+    assert_eq!(number(&mut after_case_1(), &time_out(1, 59, 1)), 12);
+    assert_eq!(number(&mut after_case_1(), &time_out(1, 60, 2)), 15);
 }
 
-/// Not among the sixteen: the two emissions that they leave out.
+#[test]
+fn cases_17_and_18_packets_behind_a_timeout() {
+    let mut store = after_case_1();
+    assert_eq!(number(&mut store, &send(5, 60)), 0);
+    let mut emitted = Vec::new();
+    for sequence in [2, 1] {
+        let (number, bytes) = answer(&mut store, &time_out(sequence, 60, 1));
+        assert_eq!((number, channel(&store, 0)[2]), (0, 4));
+        emitted.push(bytes);
+    }
+    let packet = |sequence| Bytes::default().n64(sequence).n64(60).n64(0).n16(5).n32(7).n16(6).n32(9).digest(0xd1).0;
+    let timed_out = |sequence| [Bytes::default().n32(74).n16(0x0105).0, packet(sequence)].concat();
+    assert_eq!(emitted, [timed_out(2), timed_out(1)]);
+    assert_eq!((record(&store, 0), record(&store, 1)), (&[0; 64][..], &[0; 64][..]));
+}
+
+/// Not among the cases: the two emissions that they leave out.
 #[test]
 fn acknowledgement_is_written_and_taken() {
     let mut store = fresh();

@@ -52,10 +52,9 @@ fn run_histories(histories: u64, seed: u64, truthful: bool) -> u64 {
     let outcome = history::run(&ROUTE, histories, seed, truthful);
     let verdicts = if truthful { "true" } else { "lying" };
     println!("\n{histories} histories of two ledgers with {verdicts} verdicts, {} calls", outcome.calls);
-    let [sent, delivered, acknowledged, timed_out] = outcome.totals;
-    println!(
-        "{sent} packets sent, {delivered} delivered at paired ends, {acknowledged} acknowledged, {timed_out} timed out"
-    );
+    let [sent, delivered, acknowledged, timed_out, behind] = outcome.totals;
+    println!("{sent} packets sent, {delivered} delivered at paired ends, {acknowledged} acknowledged");
+    println!("{timed_out} timed out, {behind} of them on a closed end");
     println!("{}", outcome.answers);
     println!("{} calls differ, {} promises broken", outcome.differences.len(), outcome.broken.len());
     show(&outcome.differences, seed);

@@ -2,6 +2,7 @@
 
 use std::fmt;
 
+use crate::datagram::TIME_OUT;
 use crate::generate::{damage, fault, malform, Row};
 use crate::refusal::*;
 
@@ -17,6 +18,9 @@ pub enum Cell {
     Alone(Row, u8),
     /// These two refusals applied, the lower one first.
     Pair(Row, u8, u8),
+    /// A time-out was accepted on an end of this order, OPEN or CLOSED, its claimed next receive below the packet's
+    /// sequence or at it.
+    TimedOut { ordered: bool, open: bool, below: bool },
     /// The store was damaged in the way of this index.
     Damage(usize),
     /// A datagram of this kind was malformed in the way of this index.
@@ -28,8 +32,16 @@ pub enum Cell {
 }
 
 /// The sorts of cells, as a run tells them.
-pub const SORTS: [&str; 7] =
-    ["answers by kind", "refusals alone", "pairs", "damages", "malformed ways", "maker's answers", "lengths"];
+pub const SORTS: [&str; 8] = [
+    "answers by kind",
+    "refusals alone",
+    "pairs",
+    "time-outs accepted",
+    "damages",
+    "malformed ways",
+    "maker's answers",
+    "lengths",
+];
 
 impl Cell {
     /// The index of its sort.
@@ -38,10 +50,11 @@ impl Cell {
             Cell::Answer(..) => 0,
             Cell::Alone(..) => 1,
             Cell::Pair(..) => 2,
-            Cell::Damage(_) => 3,
-            Cell::Way(..) => 4,
-            Cell::Maker(_) => 5,
-            Cell::Length => 6,
+            Cell::TimedOut { .. } => 3,
+            Cell::Damage(_) => 4,
+            Cell::Way(..) => 5,
+            Cell::Maker(_) => 6,
+            Cell::Length => 7,
         }
     }
 }
@@ -62,12 +75,21 @@ impl fmt::Display for Cell {
             Cell::Answer(kind, number) => write!(out, "{}: answer {number}", name(*kind)),
             Cell::Alone(row, number) => write!(out, "{row}: {number} alone"),
             Cell::Pair(row, low, high) => write!(out, "{row}: {low} with {high}"),
+            Cell::TimedOut { ordered, open, below } => {
+                let state = if *open { "OPEN" } else { "CLOSED" };
+                let claimed = if *below { "below" } else { "at" };
+                write!(out, "{}: accepted on an {state} end, claim {claimed} the sequence", of_time_out(*ordered))
+            }
             Cell::Damage(way) => write!(out, "damage: {}", damage::KINDS[*way].0),
             Cell::Way(kind, way) => write!(out, "{}: malformed by {}", name(*kind), malform::WAYS[*way].0),
             Cell::Maker(number) => write!(out, "maker: answer {number}"),
             Cell::Length => write!(out, "length of a store"),
         }
     }
+}
+
+fn of_time_out(ordered: bool) -> Row {
+    Row { kind: TIME_OUT, ordered }
 }
 
 pub fn rows() -> impl Iterator<Item = Row> {
@@ -104,6 +126,10 @@ pub fn possible() -> Vec<Cell> {
         cells.extend(answers(kind).into_iter().map(|number| Cell::Answer(kind, number)));
         let ways = malform::WAYS.iter().enumerate().filter(|(_, (_, kinds, _))| kinds.contains(&kind));
         cells.extend(ways.map(|(way, _)| Cell::Way(kind, way)));
+    }
+    for open in [true, false] {
+        let claims = [(false, false), (true, false), (true, true)];
+        cells.extend(claims.map(|(ordered, below)| Cell::TimedOut { ordered, open, below }));
     }
     cells.extend((0..damage::KINDS.len()).map(Cell::Damage));
     cells.extend(maker.map(Cell::Maker));

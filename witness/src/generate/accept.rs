@@ -8,9 +8,10 @@ use crate::store::*;
 
 /// A call of this kind that the store accepts, or nothing when the dice find none.
 pub fn accepted(rng: &mut Rng, store: &[u8], kind: u16) -> Option<Draft> {
-    let open: Vec<usize> =
-        (0..CHANNELS).filter(|index| channel_at(store, *index).is_some_and(|end| end.is_open())).collect();
-    let index = rng.pick_any(&open)?;
+    // A time-out is taken on a CLOSED end too.
+    let takes = |end: Channel| kind == TIME_OUT || end.is_open();
+    let ends: Vec<usize> = (0..CHANNELS).filter(|index| channel_at(store, *index).is_some_and(takes)).collect();
+    let index = rng.pick_any(&ends)?;
     let end = channel_at(store, index)?;
     let mut draft = blank(rng, store, index, kind);
     match kind {
@@ -126,10 +127,10 @@ fn fill_finish(rng: &mut Rng, draft: &mut Draft, end: &Channel) -> Option<()> {
     draft.packet.timeout_height = record.timeout_height;
     draft.packet.timeout_timestamp = record.timeout_timestamp;
     draft.packet.digest = record.digest;
-    draft.claimed = record.sequence;
     if draft.kind == ACKNOWLEDGE {
         return Some(());
     }
+    draft.claimed = rng.between(0, record.sequence);
     pass_timeout(rng, &draft.packet, &mut draft.verdict)
 }
 

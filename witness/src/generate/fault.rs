@@ -20,8 +20,8 @@ pub fn possible(kind: u16, ordered: bool) -> &'static [u8] {
         (WRITE, _) => &[4, 5, 6, 7, 16, 17, 18, 20],
         (ACKNOWLEDGE, true) => &[4, 5, 6, 7, 8, 9, 13, 14, 15, 19],
         (ACKNOWLEDGE, false) => &[4, 5, 6, 7, 8, 9, 13, 14],
-        (_, true) => &[4, 5, 6, 7, 9, 12, 13, 14, 15],
-        (_, false) => &[4, 5, 6, 7, 9, 12, 13, 14],
+        (_, true) => &[4, 5, 7, 9, 12, 13, 14, 15],
+        (_, false) => &[4, 5, 7, 9, 12, 13, 14],
     }
 }
 
@@ -178,8 +178,10 @@ fn out_of_order(rng: &mut Rng, draft: &mut Draft) -> bool {
             end.next_sequence_ack != draft.packet.sequence
         }
         _ => {
-            draft.claimed = rng.other_than(draft.packet.sequence);
-            true
+            let above = draft.packet.sequence.saturating_add(1);
+            let far = rng.pick(&[0, 1, 9, u64::MAX]);
+            draft.claimed = rng.between(above, above.saturating_add(far));
+            draft.claimed > draft.packet.sequence
         }
     }
 }

@@ -11,7 +11,7 @@ use crate::store::store_length;
 pub fn any_accepted(rng: &mut Rng, store: &[u8]) -> Option<Draft> {
     let kind = rng.pick(&[SEND, RECEIVE, WRITE, ACKNOWLEDGE, TIME_OUT]);
     let draft = accept::accepted(rng, store, kind)?;
-    let closes = kind == TIME_OUT && draft.end().is_ordered();
+    let closes = kind == TIME_OUT && draft.end().is_ordered() && draft.end().is_open();
     (!closes || rng.one_in(3)).then_some(draft)
 }
 

@@ -30,6 +30,8 @@ pub struct Tally {
     delivered: BTreeSet<Name>,
     finished: BTreeSet<Name>,
     timed_out: BTreeSet<Name>,
+    /// Time-outs behind the first one of an ordered end, which closed it.
+    behind: u64,
     last_delivered: BTreeMap<End, u64>,
     pub broken: Vec<String>,
 }
@@ -39,11 +41,13 @@ impl Tally {
         Tally { truthful, ends, ..Tally::default() }
     }
 
-    /// Packets sent, delivered at paired ends, acknowledged and timed out.
-    pub fn totals(&self) -> [u64; 4] {
+    /// Packets sent, delivered at paired ends, acknowledged, timed out, and timed out on a closed end.
+    pub fn totals(&self) -> [u64; 5] {
         let timed_out = self.timed_out.len();
         let acknowledged = self.finished.len() - timed_out;
-        [self.sent.len(), self.delivered.len(), acknowledged, timed_out].map(|count| count as u64)
+        let [sent, delivered, acknowledged, timed_out] =
+            [self.sent.len(), self.delivered.len(), acknowledged, timed_out].map(|count| count as u64);
+        [sent, delivered, acknowledged, timed_out, self.behind]
     }
 
     /// Takes what an accepted call on this ledger emitted, and the store that it left.
@@ -90,8 +94,10 @@ impl Tally {
 
     fn take_finished(&mut self, ledger: usize, packet: &Packet, by_timeout: bool) {
         let name = (ledger, packet.source_channel, packet.sequence);
-        let sums = self.sums.entry((ledger, packet.source_channel)).or_default();
+        let end = (ledger, packet.source_channel);
+        let sums = self.sums.entry(end).or_default();
         if by_timeout {
+            self.behind += u64::from(sums.timed_out > 0 && self.ends.ordered.get(&end) == Some(&true));
             sums.timed_out += 1;
             self.timed_out.insert(name);
         } else {
