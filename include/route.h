@@ -6,9 +6,9 @@
  * written where it is not const. The memory lent to one call does not overlap: not the store with the output, the
  * datagram or the openings, not the output with the datagram, and none of them with `size`. Nobody else reads or writes
  * it while the call runs. Bytes need no alignment. NULL with the length 0 is allowed and is an empty slice; with
- * another length it is not. The functions keep no pointer, allocate nothing and have no state of their own, so calls with
- * different memory may run at the same time. Any bytes may stand in the memory: none makes a call fail in another way
- * than by its answer. */
+ * another length it is not. The functions keep no pointer, allocate nothing and have no state of their own, so calls
+ * with different memory may run at the same time. Any bytes may stand in the memory: none makes a call fail in another
+ * way than by its answer. */
 
 #ifndef ROUTE_H
 #define ROUTE_H
@@ -71,7 +71,7 @@ enum route_answer {
     ROUTE_MALFORMED = 3,             /* the datagram is malformed */
     ROUTE_GOES_BACK = 4,             /* height or time is below the last, or the same height has another time */
     ROUTE_NO_CHANNEL = 5,            /* the channel is not in the store */
-    ROUTE_NOT_OPEN = 6,              /* the channel is not OPEN */
+    ROUTE_NOT_OPEN = 6,              /* 1, 2, 3, 4: the channel is not OPEN */
     ROUTE_NOT_OWNER = 7,             /* the caller's port is not the channel's port */
     ROUTE_NO_CONNECTION = 8,         /* 2, 4: the connection is not open */
     ROUTE_WRONG_END = 9,             /* 2, 4, 5: the packet's ports and other channel do not fit this end */
@@ -80,7 +80,7 @@ enum route_answer {
     ROUTE_TIMEOUT_NOT_PASSED = 12,   /* 5: the timeout has not passed */
     ROUTE_NO_COMMITMENT = 13,        /* 4, 5: no commitment with this sequence, timeouts and digest */
     ROUTE_OTHER_VERDICT = 14,        /* 2, 4, 5: the verdict is about something else */
-    ROUTE_OUT_OF_ORDER = 15,         /* 2, 4, 5 on an ordered channel: another packet's turn */
+    ROUTE_OUT_OF_ORDER = 15,         /* on an ordered channel, 2, 4: another packet's turn; 5: it was received */
     ROUTE_ALREADY_THERE = 16,        /* 2 on an unordered channel: the receipt; 3: the acknowledgement */
     ROUTE_NOT_RECEIVED = 17,         /* 3: the packet was not received */
     ROUTE_EMPTY_ACKNOWLEDGEMENT = 18, /* 3: the digest is all zero */

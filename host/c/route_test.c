@@ -61,17 +61,18 @@ static void make_send(uint8_t *datagram, uint64_t timeout_height)
 }
 
 /* Times out the packet that a send with timeout height 60 gave sequence 1. */
-static void make_time_out(uint8_t *datagram, uint64_t proof_height)
+/* A time-out of a packet that was sent with timeout height 60, where the other end waits for the first one. */
+static void make_time_out(uint8_t *datagram, uint64_t sequence, uint64_t proof_height)
 {
     start(datagram, ROUTE_TIME_OUT_LENGTH, ROUTE_TIME_OUT);
-    put(datagram + 38, 1, 8);
+    put(datagram + 38, sequence, 8);
     put(datagram + 46, 60, 8);
     put(datagram + 62, 5, 2);
     put(datagram + 64, 7, 4);
     put(datagram + 68, 6, 2);
     put(datagram + 70, 9, 4);
     datagram[74] = 1;
-    put(datagram + 106, 4, 2); /* claim 4: next receive equals the sequence */
+    put(datagram + 106, 4, 2); /* claim 4: next receive equals the verdict's sequence */
     put(datagram + 108, proof_height, 8);
     put(datagram + 124, 6, 2);
     put(datagram + 126, 9, 4);
@@ -167,22 +168,26 @@ static void test_refusals(void)
     EXPECT(call(send, sizeof send) == ROUTE_ACCEPTED);
 }
 
-/* An ordered channel is closed by a time-out, and then takes no send. */
+/* An ordered channel is closed by a time-out. It then takes no send, but the time-out of a packet behind it. */
 static void test_time_out(void)
 {
     uint8_t send[ROUTE_SEND_LENGTH], time_out[ROUTE_TIME_OUT_LENGTH];
     fresh();
     make_send(send, 60);
     EXPECT(call(send, sizeof send) == ROUTE_ACCEPTED);
-    make_time_out(time_out, 59);
+    EXPECT(call(send, sizeof send) == ROUTE_ACCEPTED);
+    make_time_out(time_out, 1, 59);
     EXPECT(call(time_out, sizeof time_out) == ROUTE_TIMEOUT_NOT_PASSED);
-    make_time_out(time_out, 60);
+    make_time_out(time_out, 1, 60);
     EXPECT(call(time_out, sizeof time_out) == ROUTE_ACCEPTED && size == ROUTE_TIMED_OUT_LENGTH);
     EXPECT(output[4] == (ROUTE_TIMED_OUT & 0xff) && output[5] == ROUTE_TIMED_OUT >> 8);
     EXPECT(memcmp(output + 6, time_out + 38, 68) == 0);
-    EXPECT(store[66] == 4 && all_are(store + 1088, 128, 0));
-    EXPECT(call(time_out, sizeof time_out) == ROUTE_NOT_OPEN);
+    EXPECT(store[66] == 4 && all_are(store + 1088, 64, 0) && !all_are(store + 1152, 64, 0));
+    EXPECT(call(time_out, sizeof time_out) == ROUTE_NO_COMMITMENT);
     EXPECT(call(send, sizeof send) == ROUTE_NOT_OPEN);
+    make_time_out(time_out, 2, 60);
+    EXPECT(call(time_out, sizeof time_out) == ROUTE_ACCEPTED && memcmp(output + 6, time_out + 38, 68) == 0);
+    EXPECT(store[66] == 4 && all_are(store + 1088, 128, 0));
 }
 
 static void test_lengths(void)

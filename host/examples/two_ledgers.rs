@@ -1,5 +1,5 @@
 //! Two ledgers in one program. Warehouse receipts are moved between them: one arrives and is acknowledged, one does not
-//! arrive in time and is given back, and the last one closes an ordered channel.
+//! arrive in time and is given back, one closes an ordered channel, and the one behind it is given back too.
 //!
 //! Run it with `cargo run --example two_ledgers`.
 
@@ -131,11 +131,14 @@ fn late(north: &mut Ledger, south: &mut Ledger) -> Result<(), Refusal> {
 
 fn closed(north: &mut Ledger, south: &mut Ledger) -> Result<(), Refusal> {
     println!("On an ordered channel a time-out closes the channel.");
-    let packet = send(north, south, 7, blocks_ahead(south, 1), "receipt 3: 5 t of oats")?;
+    let first = send(north, south, 7, blocks_ahead(south, 1), "receipt 3: 5 t of oats")?;
+    let behind = send(north, south, 7, blocks_ahead(south, 1), "receipt 4: 7 t of rye")?;
     south.close_block();
-    time_out(north, south, &packet)?;
-    let refused = send(north, south, 7, blocks_ahead(south, 9), "receipt 4: 7 t of rye");
+    time_out(north, south, &first)?;
+    let refused = send(north, south, 7, blocks_ahead(south, 9), "receipt 5: 2 t of peas");
     assert_eq!(refused, Err(Refusal::NotOpen));
+    println!("  The packet behind it is given back too.");
+    time_out(north, south, &behind)?;
     Ok(())
 }
 

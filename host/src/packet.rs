@@ -28,7 +28,8 @@ impl fmt::Display for End {
 #[derive(Clone, Copy, Debug, PartialEq, Eq, Hash)]
 #[non_exhaustive]
 pub enum Order {
-    /// Packets are received and acknowledged one after the other, and a time-out closes the channel.
+    /// Packets are received and acknowledged one after the other. A time-out closes the channel; after that there
+    /// are only time-outs.
     Ordered,
     /// Packets are received in any order; a receipt tells which were.
     Unordered,

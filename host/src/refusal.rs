@@ -25,7 +25,7 @@ pub enum Refusal {
     GoesBack = 4,
     /// The channel is not in the store.
     NoChannel = 5,
-    /// The channel is not open.
+    /// The channel is not open. A time-out does not ask for it.
     NotOpen = 6,
     /// The caller's port does not own the channel.
     NotOwner = 7,
@@ -43,7 +43,7 @@ pub enum Refusal {
     NoCommitment = 13,
     /// The verdict is about something else.
     OtherVerdict = 14,
-    /// It is another packet's turn on this ordered channel.
+    /// It is another packet's turn on this ordered channel; or, at a time-out, the packet was received.
     OutOfOrder = 15,
     /// The receipt, or the acknowledgement, is already there.
     AlreadyThere = 16,

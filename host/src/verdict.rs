@@ -75,7 +75,8 @@ impl Verdict {
         Verdict::of_receiver(packet, block)
     }
 
-    /// The receiver's next receive is this: what a time-out on an ordered channel needs.
+    /// The receiver's next receive is this: what a time-out on an ordered channel needs, with a number that is not
+    /// above the packet's sequence.
     pub fn next_receive(packet: &Packet, next: u64, block: Block) -> Verdict {
         Verdict { claim: Claim::NextReceive, sequence: next, ..Verdict::of_receiver(packet, block) }
     }

@@ -1,4 +1,4 @@
-//! The sixteen worked cases, through the types of the package.
+//! The worked cases, through the types of the package.
 
 mod common;
 
@@ -39,15 +39,27 @@ fn cases_07_to_12_receives() {
 fn cases_13_to_16_time_outs() {
     let mut store = fresh();
     store.handle(send(60)).unwrap();
-    assert_eq!(store.clone().handle(time_out(59, 1)), Err(Refusal::TimeoutNotPassed));
-    assert_eq!(store.clone().handle(time_out(60, 2)), Err(Refusal::OutOfOrder));
-    assert_eq!(store.handle(time_out(60, 1)), Ok(Emitted::TimedOut(sent())));
+    assert_eq!(store.clone().handle(time_out(&sent(), 59, 1)), Err(Refusal::TimeoutNotPassed));
+    assert_eq!(store.clone().handle(time_out(&sent(), 60, 2)), Err(Refusal::OutOfOrder));
+    assert_eq!(store.handle(time_out(&sent(), 60, 1)), Ok(Emitted::TimedOut(sent())));
     assert_eq!(store.channel(7).unwrap().state, State::Closed);
     assert_eq!(store.free_records(), 2);
     assert_eq!(store.handle(send(60)), Err(Refusal::NotOpen));
 }
 
-/// Not among the sixteen: an acknowledgement, written at one end and taken at the other.
+#[test]
+fn cases_17_and_18_packets_behind_a_timeout() {
+    let mut store = fresh();
+    store.handle(send(60)).unwrap();
+    store.handle(send(60)).unwrap();
+    for packet in [Packet { sequence: 2, ..sent() }, sent()] {
+        assert_eq!(store.handle(time_out(&packet, 60, 1)), Ok(Emitted::TimedOut(packet)));
+        assert_eq!(store.channel(7).unwrap().state, State::Closed);
+    }
+    assert_eq!(store.free_records(), 2);
+}
+
+/// Not among the cases: an acknowledgement, written at one end and taken at the other.
 #[test]
 fn acknowledgement() {
     let mut store = fresh();

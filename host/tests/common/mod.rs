@@ -42,6 +42,6 @@ pub fn sent() -> Packet {
     Packet { sequence: 1, timeout: Timeout::at_height(OtherHeight(60)), source, destination, digest: DIGEST }
 }
 
-pub fn time_out(proof_height: u64, claimed: u64) -> Datagram {
-    Datagram::time_out(&CONTEXT, &sent(), &Verdict::next_receive(&sent(), claimed, block(proof_height)))
+pub fn time_out(packet: &Packet, proof_height: u64, claimed: u64) -> Datagram {
+    Datagram::time_out(&CONTEXT, packet, &Verdict::next_receive(packet, claimed, block(proof_height)))
 }
