@@ -60,7 +60,6 @@ static void make_send(uint8_t *datagram, uint64_t timeout_height)
     datagram[58] = 1; /* digest */
 }
 
-/* Times out the packet that a send with timeout height 60 gave sequence 1. */
 /* A time-out of a packet that was sent with timeout height 60, where the other end waits for the first one. */
 static void make_time_out(uint8_t *datagram, uint64_t sequence, uint64_t proof_height)
 {

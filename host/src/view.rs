@@ -3,20 +3,20 @@
 use crate::bytes::Reader;
 use crate::{Digest, End, Order, Timeout};
 
-/// Whether a channel takes datagrams.
+/// Whether a channel is open.
 #[derive(Clone, Copy, Debug, PartialEq, Eq, Hash)]
 #[non_exhaustive]
 pub enum State {
-    /// It does.
+    /// It takes datagrams of every kind.
     Open,
-    /// It does not: a packet was timed out on it while it was ordered. Nothing opens it again.
+    /// It takes time-outs only. A packet was timed out on it while it was ordered, and nothing opens it again.
     Closed,
 }
 
 /// One ledger's side of a channel.
 #[derive(Clone, Copy, Debug, PartialEq, Eq, Hash)]
 pub struct Channel {
-    /// Whether it takes datagrams.
+    /// Whether it is open.
     pub state: State,
     /// Whether its packets are taken in order.
     pub order: Order,

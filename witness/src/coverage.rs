@@ -71,9 +71,8 @@ impl Coverage {
             Task::Handle { store, datagram, .. } => {
                 let column = column_of(datagram);
                 self.answers.add(column, number);
-                // A subject may accept what it must not: only where nothing applies can the end be looked up.
-                let accepted = number == 0 && applying.is_empty();
-                if let Some(cell) = accepted.then(|| time_out_cell(store, datagram)).flatten() {
+                // An accepted call has a fit store, so its end can be looked up.
+                if let Some(cell) = (number == 0).then(|| time_out_cell(store, datagram)).flatten() {
                     self.reach(cell);
                 }
                 if column < OTHER {

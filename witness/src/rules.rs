@@ -38,7 +38,7 @@ struct Call<'a> {
 }
 
 impl Call<'_> {
-    /// The refusals 4 to 7, which every datagram but a time-out can get.
+    /// The refusals 4 to 7, for every datagram but a time-out, which does not get 6.
     fn enter(store: &[u8], context: Context, channel: u32) -> Result<Call<'_>, u8> {
         let call = Call::find(store, context, channel)?;
         refuse_if(!call.end.is_open(), NOT_OPEN)?;

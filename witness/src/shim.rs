@@ -11,7 +11,7 @@ use crate::subject::{Handle, Subject};
 pub const RIGHT: Subject = with(right);
 
 /// Handlers that each break one rule.
-pub const WRONG: [(&str, Handle); 12] = [
+pub const WRONG: [(&str, Handle); 13] = [
     ("refuses always", refuses_always),
     ("answers 0 always", answers_zero),
     ("accepts and stores nothing", stores_nothing),
@@ -21,6 +21,7 @@ pub const WRONG: [(&str, Handle); 12] = [
     ("receives out of order", OUT_OF_TURN),
     ("asks for an OPEN end at a time-out", asks_open),
     ("times out no packet but the next", next_alone),
+    ("gives back what was received", GIVES_BACK),
     ("gives 7 before 6", seven_before_six),
     ("changes the last height on refusal 20", changes_on_refusal),
     ("writes behind the output", writes_behind),
@@ -30,6 +31,7 @@ pub const WITHOUT_RECEIPT: Handle = without_receipt;
 pub const FREES_ALL: Handle = frees_all;
 pub const AT_TIMEOUT: Handle = at_timeout;
 pub const OUT_OF_TURN: Handle = out_of_turn;
+pub const GIVES_BACK: Handle = gives_back;
 
 pub const fn with(handle: Handle) -> Subject {
     Subject { handle, make_store, store_length }
@@ -148,18 +150,26 @@ behind_c!(out_of_turn, |store, output, datagram| {
 
 // Leaves packets behind a timeout stranded on the end that it closed.
 behind_c!(asks_open, |store, output, datagram| {
-    let closed = time_out_of(datagram).and_then(|(packet, _)| find_channel(store, packet.source_channel));
-    let closed = closed.is_some_and(|(_, end)| !end.is_open());
-    refuse_where(store, output, datagram, |number| closed && (number == 0 || number > 6), 6)
+    refuse_where(store, output, datagram, 6, |end, _, _| !end.is_open())
 });
 
 // The claimed next receive has to be the packet's sequence.
 behind_c!(next_alone, |store, output, datagram| {
-    let below = time_out_of(datagram).is_some_and(|(packet, verdict)| {
-        let end = find_channel(store, packet.source_channel);
-        end.is_some_and(|(_, end)| end.is_ordered()) && verdict.sequence < packet.sequence
-    });
-    refuse_where(store, output, datagram, |number| below && number == 0, 15)
+    refuse_where(store, output, datagram, 15, |end, packet, verdict| {
+        end.is_ordered() && verdict.sequence < packet.sequence
+    })
+});
+
+// Takes any claimed next receive.
+behind_c!(gives_back, |store, output, datagram| {
+    let answer = crate::handle(store, output, datagram);
+    let Some((packet, _)) = time_out_of(datagram).filter(|_| answer.0 == 15) else {
+        return answer;
+    };
+    let mut lower = datagram.to_vec();
+    // The verdict's sequence.
+    put_u64(&mut lower, 130, packet.sequence);
+    crate::handle(store, output, &lower)
 });
 
 behind_c!(seven_before_six, |store, output, datagram| {
@@ -211,17 +221,23 @@ fn time_out_of(bytes: &[u8]) -> Option<(Packet, Verdict)> {
     }
 }
 
-/// Gives another refusal in place of these answers.
+/// Refuses a time-out that gets 0 or a higher refusal, where the test says so.
 fn refuse_where(
     store: &mut [u8],
     output: &mut [u8],
     datagram: &[u8],
-    wrong: impl Fn(u8) -> bool,
     refusal: u8,
+    test: impl Fn(Channel, Packet, Verdict) -> bool,
 ) -> (u8, u32) {
     let (number, _) = crate::handle(&mut store.to_vec(), &mut output.to_vec(), datagram);
-    if wrong(number) {
-        return (refusal, 0);
+    if number == 0 || number > refusal {
+        // The store is fit and the channel is there: both were asked before.
+        let call = time_out_of(datagram).and_then(|(packet, verdict)| {
+            find_channel(store, packet.source_channel).map(|(_, end)| (end, packet, verdict))
+        });
+        if call.is_some_and(|(end, packet, verdict)| test(end, packet, verdict)) {
+            return (refusal, 0);
+        }
     }
     crate::handle(store, output, datagram)
 }

@@ -79,6 +79,7 @@ fn wrong_histories_break_promises() {
         ("frees all", shim::FREES_ALL, true, "left"),
         ("frees all", shim::FREES_ALL, false, "left"),
         ("at the very timeout", shim::AT_TIMEOUT, true, "timed out after its delivery"),
+        ("gives back", shim::GIVES_BACK, true, "timed out after its delivery"),
         ("out of turn", shim::OUT_OF_TURN, true, "out of order"),
         ("out of turn", shim::OUT_OF_TURN, false, "out of order"),
     ] {

@@ -1,5 +1,5 @@
-// The answer to a datagram: the number of the first line of the table that applies, 0 where none does. Lines 1 to 7,
-// which are not for one kind or two, stand here in their order.
+// The answer to a datagram: the number of the first line of the table that applies, 0 where none does. Lines 1 to 7 are
+// for every kind, but 6 not for a time-out, and stand here in their order.
 mod rows; // the lines of the table for each kind
 
 use datagram::Context;

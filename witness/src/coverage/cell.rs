@@ -18,8 +18,8 @@ pub enum Cell {
     Alone(Row, u8),
     /// These two refusals applied, the lower one first.
     Pair(Row, u8, u8),
-    /// A time-out was accepted on an end of this order, OPEN or CLOSED, its claimed next receive below the packet's
-    /// sequence or at it.
+    /// A time-out was accepted on an end of this order, OPEN or CLOSED, the sequence of its claim below the packet's or
+    /// at it.
     TimedOut { ordered: bool, open: bool, below: bool },
     /// The store was damaged in the way of this index.
     Damage(usize),
@@ -78,7 +78,7 @@ impl fmt::Display for Cell {
             Cell::TimedOut { ordered, open, below } => {
                 let state = if *open { "OPEN" } else { "CLOSED" };
                 let claimed = if *below { "below" } else { "at" };
-                write!(out, "{}: accepted on an {state} end, claim {claimed} the sequence", of_time_out(*ordered))
+                write!(out, "{}: accepted, end {state}, claim {claimed} the sequence", of_time_out(*ordered))
             }
             Cell::Damage(way) => write!(out, "damage: {}", damage::KINDS[*way].0),
             Cell::Way(kind, way) => write!(out, "{}: malformed by {}", name(*kind), malform::WAYS[*way].0),

@@ -7,7 +7,7 @@ use crate::datagram::*;
 use crate::places::{CHANNELS, OUTPUT};
 use crate::store::store_length;
 
-/// An accepted call of any kind. Time-outs on ordered channels, which close them, are made seldom.
+/// An accepted call of any kind. Time-outs that close an ordered channel are made seldom.
 pub fn any_accepted(rng: &mut Rng, store: &[u8]) -> Option<Draft> {
     let kind = rng.pick(&[SEND, RECEIVE, WRITE, ACKNOWLEDGE, TIME_OUT]);
     let draft = accept::accepted(rng, store, kind)?;
