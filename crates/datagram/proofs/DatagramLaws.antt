@@ -1,44 +1,81 @@
 -- What a sound datagram tells, and bounds of its parts. Assumes nothing.
-use Rattle.wire.proofs.Prelude.{_≡_, Bool, true, not, List, inl, inr, ℕ, _+_, _^_, _≤_, _<_, arith, eqb, length}
-use Rattle.wire.proofs.Prelude.{ltb-true, leb-true, eqb-true, eq-eqb, not-true}
-use Rattle.wire.specs.Names.{_or_, Bytes, digestSize}
+use Rattle.wire.proofs.Prelude.{_≡_, refl, sym, ap, _∙_, true, false, List, [], _∷_, Option, some, inl, inr, ℕ, _+_}
+use Rattle.wire.proofs.Prelude.{_^_, _≤_, _<_, arith, eqb, length, ltb-true, eqb-true}
+use Rattle.wire.specs.Names.{_or_, isSome, withNumber, Bytes, digestSize}
 use Rattle.wire.proofs.Laws.{and-both, or-either, clash, cases, field-below, length-part, bytes-part}
 use Rattle.store.proofs.Laws.{EndFields, TimeoutFields}
 use Rattle.datagram.specs.declared.Packet.{Packet}
-use Rattle.datagram.specs.Names.{bodyFrom, packetSize, sizeOfKind, isProved, isSound, kindIn, contextIn, packetIn}
-use Rattle.datagram.specs.Names.{packetFrom, timeoutFrom, sequenceFrom, digestFrom}
-use Rattle.datagram.specs.Names.{verdictSize, digestPlace, verdictPlace}
+use Rattle.datagram.specs.Names.{Kind, kinds, kindNumber, kindOf, packetSize, sizeOf, isSound, kindIn, contextIn}
+use Rattle.datagram.specs.Names.{Part, channelPart, sequencePart, timeoutPart, digestPart, packetPart}
+use Rattle.datagram.specs.Names.{verdictPart, partNumber, isPart, partSize, bodyOf, hasPart, partsSize}
+use Rattle.datagram.specs.Names.{sizeBefore, placeOf, packetIn, packetFrom, timeoutFrom, sequenceFrom}
+use Rattle.datagram.specs.Names.{digestFrom, Datagram, datagramIn, isPartSound, arePartsSound}
+
+-- PARTS are known by their numbers
+abbrev parts : List Part
+parts = channelPart ∷ sequencePart ∷ timeoutPart ∷ digestPart ∷ packetPart ∷ verdictPart ∷ []
+
+part-of : (p : Part) → withNumber partNumber (partNumber p) parts ≡ some p
+unfolding withNumber
+part-of channelPart = refl
+part-of sequencePart = refl
+part-of timeoutPart = refl
+part-of digestPart = refl
+part-of packetPart = refl
+part-of verdictPart = refl
+
+is-part : (p q : Part) → isPart p q ≡ true → p ≡ q
+is-part p q h =
+    some-is (sym (part-of p) ∙ ap (λ (n : ℕ). withNumber partNumber n parts) (eqb-true _ _ h) ∙ part-of q)
+  where
+    some-is : {x y : Part} → some x ≡ some y → x ≡ y
+    some-is h = cc
+
+-- a part of a body lies within it
+pub part-room : (p : Part) (ps : List Part) → hasPart p ps ≡ true → sizeBefore p ps + partSize p ≤ partsSize ps
+unfolding hasPart sizeBefore partsSize
+part-room p [] h = clash {b = false} h refl
+part-room p (q ∷ qs) h =
+    let ih = part-room p qs in
+    cases (isPart p q)
+    (λ e. let s : partSize p ≡ partSize q = ap partSize (is-part p q e) in rw (sizeBefore, e) (omega arith))
+    (λ e. elim (or-either h) [
+      | inl y ↦ clash y e
+      | inr y ↦ let k = ih y in rw (sizeBefore, e) (omega arith)
+    ])
+
+parts-sound : (d : Datagram) (p : Part) (ps : List Part) → arePartsSound d ps ≡ true → hasPart p ps ≡ true →
+    isPartSound d p ≡ true
+unfolding hasPart arePartsSound
+parts-sound d p [] h k = clash {b = false} k refl
+parts-sound d p (q ∷ qs) h k =
+    let a = and-both h in
+    elim (or-either k) [
+      | inl y ↦ ap (isPartSound d) (is-part p q y) ∙ a .0
+      | inr y ↦ parts-sound d p qs (a .1) y
+    ]
 
 -- what a well-formed datagram tells
 pub record Sound (d : List ℕ) : Type 0 where
-  pub low : 1 ≤ kindIn d
-  pub high : kindIn d ≤ 5
-  pub size : length d ≡ sizeOfKind (kindIn d)
+  pub known : isSome (kindOf (kindIn d)) ≡ true
+  pub size : length d ≡ sizeOf (kindOf (kindIn d))
   pub height : 0 < contextIn d .height .0
-  pub numbered : isProved (kindIn d) ≡ true → 0 < packetFrom d .sequence
-  pub written : kindIn d ≡ 3 → 0 < sequenceFrom d
+  pub parts : (p : Part) → hasPart p (bodyOf (kindOf (kindIn d))) ≡ true → isPartSound (datagramIn d) p ≡ true
 
 pub sound-is : (d : List ℕ) → isSound d ≡ true → Sound d
-unfolding isSound
+unfolding isSound isContextSound
 sound-is d h =
     let a = and-both h in
     let b = and-both (a .0) in
     let c = and-both (b .0) in
-    let e = and-both (and-both (and-both (c .0) .0) .0) in
-    let k = and-both (and-both (e .0) .1) in
     record {
-      low = leb-true 1 (kindIn d) (k .0);
-      high = leb-true (kindIn d) 5 (k .1);
-      size = eqb-true (length d) (sizeOfKind (kindIn d)) (e .1);
-      height = ltb-true 0 (contextIn d .height .0) (c .1);
-      numbered = λ p. ltb-true 0 (packetFrom d .sequence) (and-both (then (b .1) p) .0);
-      written = λ p. ltb-true 0 (sequenceFrom d) (then (a .1) (eq-eqb (kindIn d) 3 p));
+      known = and-both (c .0) .1;
+      size = eqb-true (length d) (sizeOf (kindOf (kindIn d))) (c .1);
+      height = ltb-true 0 (contextIn d .height .0) (and-both (b .1) .1);
+      parts = λ p q. parts-sound (datagramIn d) p (bodyOf (kindOf (kindIn d))) (a .1) q;
     }
-  where
-    then : {p q : Bool} → (not p or q) ≡ true → p ≡ true → q ≡ true
-    then {p} h e = elim (or-either h) [ inl n ↦ clash e (not-true p n) | inr y ↦ y ]
 
--- BOUNDS of the parts: a part that its kind lacks is bounded all the same
+-- BOUNDS of the parts: a number is bounded where its kind lacks it too
 pub record PacketFields (p : Packet) : Type 0 where
   pub sequence : p .sequence < 256 ^ 8
   pub timeout : TimeoutFields (p .timeout)
@@ -46,32 +83,6 @@ pub record PacketFields (p : Packet) : Type 0 where
   pub destination : EndFields (p .destination)
   pub size : length (p .digest) ≡ digestSize
   pub bytes : Bytes (p .digest)
-
--- every kind has room where its digest is read (2 and 5, which have none, read their verdict there)
-pub digest-room : (k : ℕ) → digestPlace k + digestSize ≤ sizeOfKind k
-unfolding sizeOfKind
-digest-room k =
-    cases (eqb k 1) (λ e. rw (sizeOfKind, e) (omega arith))
-    (λ e. cases (eqb k 3) (λ f. rw (sizeOfKind, e, f) (omega arith))
-    (λ f. cases (eqb k 4) (λ g. rw (sizeOfKind, e, f, g) (omega arith)) (λ g. rw (sizeOfKind, e, f, g) (omega arith))))
-
--- the kinds that carry a packet and a verdict, one by one
-pub by-proved : (P : ℕ → Type 0) (k : ℕ) → isProved k ≡ true → P 2 → P 4 → P 5 → P k
-unfolding isProved
-by-proved P k h receive acknowledge timeOut =
-    elim (or-either h) [
-      | inl p ↦ elim (or-either p) [
-        | inl q ↦ rw (eqb-true k 2 q) receive
-        | inr q ↦ rw (eqb-true k 4 q) acknowledge
-      ]
-      | inr q ↦ rw (eqb-true k 5 q) timeOut
-    ]
-
--- they have room for both
-pub verdict-room : (k : ℕ) → isProved k ≡ true → verdictPlace k + verdictSize ≤ sizeOfKind k
-unfolding sizeOfKind
-verdict-room k h =
-    by-proved (λ n. verdictPlace n + verdictSize ≤ sizeOfKind n) k h (omega arith) (omega arith) (omega arith)
 
 packet-in : (i : ℕ) (d : List ℕ) → Bytes d → i + packetSize ≤ length d → PacketFields (packetIn i d)
 unfolding packetIn
@@ -85,30 +96,35 @@ packet-in i d b l =
       bytes = bytes-part _ _ d b;
     }
 
-pub packet-fields : (d : List ℕ) → Bytes d → Sound d → isProved (kindIn d) ≡ true → PacketFields (packetFrom d)
-unfolding packetFrom
-packet-fields d b s p = packet-in bodyFrom d b (omega (arith, s .size, verdict-room (kindIn d) p))
+-- the parts of a sound datagram
+module _ (d : List ℕ) (b : Bytes d) where
+  pub timeout-fields : TimeoutFields (datagramIn d .timeout)
+  unfolding datagramIn timeoutFrom
+  timeout-fields = record { height = field-below _ _ d b; time = field-below _ _ d b }
 
-pub timeout-fields : (d : List ℕ) → Bytes d → TimeoutFields (timeoutFrom d)
-unfolding timeoutFrom
-timeout-fields d b = record { height = field-below _ _ d b; time = field-below _ _ d b }
+  pub sequence-below : datagramIn d .sequence < 256 ^ 8
+  unfolding datagramIn sequenceFrom
+  sequence-below = field-below _ _ d b
 
-pub sequence-below : (d : List ℕ) → Bytes d → sequenceFrom d < 256 ^ 8
-unfolding sequenceFrom
-sequence-below d b = field-below _ _ d b
+  pub bytes-digest : Bytes (datagramIn d .digest)
+  unfolding datagramIn digestFrom
+  bytes-digest = bytes-part _ digestSize d b
 
-pub length-digest : (d : List ℕ) → Sound d → length (digestFrom (kindIn d) d) ≡ digestSize
-unfolding digestFrom
-length-digest d s = length-part _ digestSize d (omega (arith, s .size, digest-room (kindIn d)))
+  pub height-below : datagramIn d .context .height .0 < 256 ^ 8
+  unfolding datagramIn contextIn
+  height-below = field-below _ _ d b
 
-pub bytes-digest : (k : ℕ) (d : List ℕ) → Bytes d → Bytes (digestFrom k d)
-unfolding digestFrom
-bytes-digest k d b = bytes-part _ digestSize d b
+  pub time-below : datagramIn d .context .time < 256 ^ 8
+  unfolding datagramIn contextIn
+  time-below = field-below _ _ d b
 
-pub height-below : (d : List ℕ) → Bytes d → contextIn d .height .0 < 256 ^ 8
-unfolding contextIn
-height-below d b = field-below _ _ d b
+  module _ (s : Sound d) where
+    pub packet-fields : hasPart packetPart (bodyOf (datagramIn d .kind)) ≡ true → PacketFields (datagramIn d .packet)
+    unfolding datagramIn packetFrom
+    packet-fields p = packet-in _ d b (omega (arith, s .size, part-room packetPart (bodyOf (kindOf (kindIn d))) p))
 
-pub time-below : (d : List ℕ) → Bytes d → contextIn d .time < 256 ^ 8
-unfolding contextIn
-time-below d b = field-below _ _ d b
+    pub length-digest : hasPart digestPart (bodyOf (datagramIn d .kind)) ≡ true →
+        length (datagramIn d .digest) ≡ digestSize
+    unfolding datagramIn digestFrom
+    length-digest p =
+        length-part _ digestSize d (omega (arith, s .size, part-room digestPart (bodyOf (kindOf (kindIn d))) p))

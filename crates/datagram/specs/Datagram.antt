@@ -1,11 +1,11 @@
--- Datagrams by their bytes: a frame (length, kind), the context, and a body by kind.
--- Kinds: 1 send, 2 receive, 3 write acknowledgement, 4 acknowledge, 5 time out.
-use mathlib.Core.Bool.{Bool, not}
-use mathlib.Core.List.{List}
+-- Datagrams by their bytes: a frame (length, kind), the context, and a body of parts by kind.
+use mathlib.Core.Bool.{Bool, true}
+use mathlib.Core.List.{List, [], _∷_}
+use mathlib.Core.Option.{Option, none, some}
 use Prim.Native.Nat.{ℕ, _+_}
 use lib.Dec.{ltb, leb, eqb}
 use lib.ListN.{length, getD}
-use Rattle.wire.specs.Choice.{_and_, _or_, pick, isIn}
+use Rattle.wire.specs.Choice.{_and_, isSome, isIn}
 use Rattle.wire.specs.Bytes.{areZero, part, field, digestSize}
 use Rattle.store.specs.declared.Timeout.{Timeout}
 use Rattle.store.specs.Height.{ownHeight, otherHeight}
@@ -13,25 +13,12 @@ use Rattle.store.specs.Part.{endIn, timeoutIn}
 use Rattle.datagram.specs.declared.Context.{Context}
 use Rattle.datagram.specs.declared.Packet.{Packet}
 use Rattle.datagram.specs.declared.Verdict.{Verdict}
+use Rattle.datagram.specs.Kind.{Kind, send, receive, write, acknowledge, timeOut, kindOf, frameSize}
+use Rattle.datagram.specs.Kind.{Part, channelPart, sequencePart, timeoutPart, digestPart, packetPart, verdictPart}
+use Rattle.datagram.specs.Kind.{bodyOf, placeOf, sizeOf}
+use Rattle.datagram.specs.Claim.{claimOf}
 
--- SIZES, each stated once
-abbrev pub frameSize : ℕ
-frameSize = 6
-
-abbrev pub contextSize : ℕ
-contextSize = 32
-
-abbrev pub packetSize : ℕ
-packetSize = 68
-
-abbrev pub verdictSize : ℕ
-verdictSize = 80
-
--- the body's place
-abbrev pub bodyFrom : ℕ
-bodyFrom = frameSize + contextSize
-
--- THE PARTS
+-- THE PARTS by their bytes
 unfoldable pub kindIn : List ℕ → ℕ
 kindIn d = field 4 2 d
 
@@ -67,44 +54,37 @@ verdictIn i d =
       digest = part (i + 48) digestSize d;
     }
 
--- THE BODY by kind
--- 1: channel, timeouts, digest. 2 and 5: packet, verdict. 3: channel, sequence, digest. 4: packet, digest, verdict
-unfoldable pub sizeOfKind : (kind : ℕ) → ℕ
-sizeOfKind k =
-    pick (eqb k 1) (bodyFrom + 20 + digestSize) (pick (eqb k 3) (bodyFrom + 12 + digestSize)
-    (pick (eqb k 4) (bodyFrom + packetSize + digestSize + verdictSize) (bodyFrom + packetSize + verdictSize)))
+-- EACH at its place in the datagrams of a kind
+unfoldable pub packetFrom : Option Kind → List ℕ → Packet
+packetFrom k d = packetIn (placeOf packetPart k) d
 
-unfoldable pub timeoutFrom : List ℕ → Timeout
-timeoutFrom d = timeoutIn (bodyFrom + 4) d
+unfoldable pub verdictFrom : Option Kind → List ℕ → Verdict
+verdictFrom k d = verdictIn (placeOf verdictPart k) d
 
-unfoldable pub sequenceFrom : List ℕ → ℕ
-sequenceFrom d = field (bodyFrom + 4) 8 d
+unfoldable pub timeoutFrom : Option Kind → List ℕ → Timeout
+timeoutFrom k d = timeoutIn (placeOf timeoutPart k) d
 
-unfoldable pub packetFrom : List ℕ → Packet
-packetFrom d = packetIn bodyFrom d
+unfoldable pub sequenceFrom : Option Kind → List ℕ → ℕ
+sequenceFrom k d = field (placeOf sequencePart k) 8 d
 
--- where a digest and a verdict lie
-abbrev pub digestPlace : (kind : ℕ) → ℕ
-digestPlace k = bodyFrom + pick (eqb k 1) 20 (pick (eqb k 3) 12 packetSize)
+unfoldable pub digestFrom : Option Kind → List ℕ → List ℕ
+digestFrom k d = part (placeOf digestPart k) digestSize d
 
-abbrev pub verdictPlace : (kind : ℕ) → ℕ
-verdictPlace k = bodyFrom + packetSize + pick (eqb k 4) digestSize 0
+-- THE CHANNEL that it is about: its own part, or the packet's destination for a receive, its source for the others
+abbrev pub ownChannel : Kind → List ℕ → ℕ
+ownChannel k d = field (placeOf channelPart (some k)) 4 d
 
-unfoldable pub digestFrom : (kind : ℕ) → List ℕ → List ℕ
-digestFrom k d = part (digestPlace k) digestSize d
-
-unfoldable pub verdictFrom : (kind : ℕ) → List ℕ → Verdict
-verdictFrom k d = verdictIn (verdictPlace k) d
-
--- the channel that it is about: its own for 1 and 3, the destination for 2, the source for 4 and 5
-unfoldable pub channelFrom : (kind : ℕ) → List ℕ → ℕ
-channelFrom k d =
-    pick (eqb k 1 or eqb k 3) (field bodyFrom 4 d)
-    (pick (eqb k 2) (packetFrom d .destination .channel) (packetFrom d .source .channel))
+unfoldable pub channelFrom : Option Kind → List ℕ → ℕ
+channelFrom none d = 0
+channelFrom (some send) d = ownChannel send d
+channelFrom (some receive) d = packetFrom (some receive) d .destination .channel
+channelFrom (some write) d = ownChannel write d
+channelFrom (some acknowledge) d = packetFrom (some acknowledge) d .source .channel
+channelFrom (some timeOut) d = packetFrom (some timeOut) d .source .channel
 
 -- A DATAGRAM as the rules see it. A part that its kind lacks is read all the same, and no rule looks at it
 pub record Datagram : Type 0 where
-  pub kind : ℕ
+  pub kind : Option Kind
   pub context : Context
   pub channel : ℕ
   pub sequence : ℕ
@@ -113,29 +93,41 @@ pub record Datagram : Type 0 where
   pub digest : List ℕ
   pub verdict : Verdict
 
-unfoldable pub datagramIn : List ℕ → Datagram
-datagramIn d =
+abbrev pub datagramOf : Option Kind → List ℕ → Datagram
+datagramOf k d =
     record {
-      kind = kindIn d;
+      kind = k;
       context = contextIn d;
-      channel = channelFrom (kindIn d) d;
-      sequence = sequenceFrom d;
-      timeout = timeoutFrom d;
-      packet = packetFrom d;
-      digest = digestFrom (kindIn d) d;
-      verdict = verdictFrom (kindIn d) d;
+      channel = channelFrom k d;
+      sequence = sequenceFrom k d;
+      timeout = timeoutFrom k d;
+      packet = packetFrom k d;
+      digest = digestFrom k d;
+      verdict = verdictFrom k d;
     }
 
--- the kinds that carry a packet and a verdict
-unfoldable pub isProved : (kind : ℕ) → Bool
-isProved k = eqb k 2 or eqb k 4 or eqb k 5
+unfoldable pub datagramIn : List ℕ → Datagram
+datagramIn d = datagramOf (kindOf (kindIn d)) d
 
--- WELL FORMED: at least 6 bytes, the length field is the slice's length, a known kind of the right length,
--- zero bytes zero, connection 0 or 1, own height not 0, sequence not 0 in a packet or kind 3, claim 1 to 4
+-- WELL FORMED: at least 6 bytes, the length field is the slice's length, a known kind of the right length, zero bytes
+-- zero, connection 0 or 1, own height not 0, and each part sound: sequence not 0 in a packet or by itself, a known claim
+unfoldable pub isPartSound : Datagram → Part → Bool
+isPartSound d channelPart = true
+isPartSound d sequencePart = ltb 0 (d .sequence)
+isPartSound d timeoutPart = true
+isPartSound d digestPart = true
+isPartSound d packetPart = ltb 0 (d .packet .sequence)
+isPartSound d verdictPart = isSome (claimOf (d .verdict .claim))
+
+unfoldable pub arePartsSound : Datagram → List Part → Bool
+arePartsSound d [] = true
+arePartsSound d (p ∷ ps) = isPartSound d p and arePartsSound d ps
+
+unfoldable pub isContextSound : List ℕ → Bool
+isContextSound d = areZero (part 33 5 d) and leb (getD d 32 9) 1 and ltb 0 (contextIn d .height .0)
+
 unfoldable pub isSound : List ℕ → Bool
 isSound d =
-    leb frameSize (length d) and eqb (field 0 4 d) (length d) and isIn 1 5 (kindIn d) and
-    eqb (length d) (sizeOfKind (kindIn d)) and areZero (part 33 5 d) and leb (getD d 32 9) 1 and
-    ltb 0 (contextIn d .height .0) and
-    (not (isProved (kindIn d)) or ltb 0 (packetFrom d .sequence) and isIn 1 4 (verdictFrom (kindIn d) d .claim)) and
-    (not (eqb (kindIn d) 3) or ltb 0 (sequenceFrom d))
+    leb frameSize (length d) and eqb (field 0 4 d) (length d) and isSome (kindOf (kindIn d)) and
+    eqb (length d) (sizeOf (kindOf (kindIn d))) and isContextSound d and
+    arePartsSound (datagramIn d) (bodyOf (kindOf (kindIn d)))

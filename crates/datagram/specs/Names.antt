@@ -1,8 +1,16 @@
 -- All definitions of this crate under one name, for those who use them.
-unfoldable pub use Rattle.datagram.specs.Datagram.{kindIn, contextIn, packetIn, verdictIn, sizeOfKind}
-unfoldable pub use Rattle.datagram.specs.Datagram.{timeoutFrom, sequenceFrom, packetFrom, digestFrom, verdictFrom}
-unfoldable pub use Rattle.datagram.specs.Datagram.{channelFrom, datagramIn, isProved, isSound}
-pub use Rattle.datagram.specs.Datagram.{frameSize, contextSize, packetSize, verdictSize, bodyFrom, Datagram}
-pub use Rattle.datagram.specs.Datagram.{digestPlace, verdictPlace}
+unfoldable pub use Rattle.datagram.specs.Kind.{only, body, hasPart, partsSize, sizeBefore}
+pub use Rattle.datagram.specs.Kind.{Kind, send, receive, write, acknowledge, timeOut, kinds, kindNumber, kindOf}
+pub use Rattle.datagram.specs.Kind.{isKind, frameSize, contextSize, packetSize, verdictSize, bodyFrom}
+pub use Rattle.datagram.specs.Kind.{Part, channelPart, sequencePart, timeoutPart, digestPart, packetPart}
+pub use Rattle.datagram.specs.Kind.{verdictPart, partSize, bodyOf, partNumber, isPart, placeOf, sizeOf}
+pub use Rattle.datagram.specs.Claim.{Claim, commitmentPresent, acknowledgementPresent, receiptAbsent}
+pub use Rattle.datagram.specs.Claim.{nextReceiveIs, claims, claimNumber, claimOf}
+unfoldable pub use Rattle.datagram.specs.Datagram.{kindIn, contextIn, packetIn, verdictIn, packetFrom}
+unfoldable pub use Rattle.datagram.specs.Datagram.{verdictFrom, timeoutFrom, sequenceFrom, digestFrom}
+unfoldable pub use Rattle.datagram.specs.Datagram.{channelFrom, datagramIn, isPartSound, arePartsSound}
+unfoldable pub use Rattle.datagram.specs.Datagram.{isContextSound, isSound}
+pub use Rattle.datagram.specs.Datagram.{ownChannel, Datagram, datagramOf}
 unfoldable pub use Rattle.datagram.specs.Emitted.{framed, packetBytes}
+pub use Rattle.datagram.specs.Emitted.{sentKind, deliveredKind, writtenKind, acknowledgedKind, timedOutKind}
 pub use Rattle.datagram.specs.Emitted.{emittedPacket}

@@ -5,7 +5,7 @@ use lib.ListN.{length, drop}
 use Rattle.wire.specs.Bytes.{little}
 use Rattle.store.specs.declared.End.{End}
 use Rattle.datagram.specs.declared.Packet.{Packet}
-use Rattle.datagram.specs.Emitted.{framed, packetBytes}
+use Rattle.datagram.specs.Emitted.{writtenKind, acknowledgedKind, framed, packetBytes}
 
 abbrev pub atFront : (emitted output : List ℕ) → List ℕ
 atFront e o = e ++ drop (length e) o
@@ -18,7 +18,7 @@ abbrev pub packetRecord : (kind : ℕ) → Packet → List ℕ
 packetRecord k p = framed k (packetBytes p)
 
 abbrev pub writtenRecord : End → (sequence : ℕ) → (digest : List ℕ) → List ℕ
-writtenRecord e n a = framed 0x0103 (endBytes e ++ little 8 n ++ a)
+writtenRecord e n a = framed writtenKind (endBytes e ++ little 8 n ++ a)
 
 abbrev pub acknowledgedRecord : Packet → (digest : List ℕ) → List ℕ
-acknowledgedRecord p a = framed 0x0104 (packetBytes p ++ a)
+acknowledgedRecord p a = framed acknowledgedKind (packetBytes p ++ a)

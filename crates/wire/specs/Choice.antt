@@ -1,8 +1,9 @@
 -- Tests and choices that every layer uses. `_and_` and `_or_` stay shut, so that a law finds their arguments.
 use mathlib.Core.Bool.{Bool, true, false}
+use mathlib.Core.List.{List, [], _∷_}
 use mathlib.Core.Option.{Option, none, some}
 use Prim.Native.Nat.{ℕ}
-use lib.Dec.{leb}
+use lib.Dec.{leb, eqb}
 
 infixl 30 _or_
 infixl 35 _and_
@@ -24,3 +25,8 @@ isSome (some x) = true
 
 abbrev pub isIn : (low high x : ℕ) → Bool
 isIn a b x = leb a x and leb x b
+
+-- the first of a list that has a number, by a numbering; none where no one has it
+unfoldable pub withNumber : {A : Type 0} → (A → ℕ) → (number : ℕ) → List A → Option A
+withNumber f n [] = none
+withNumber f n (x ∷ xs) = pick (eqb n (f x)) (some x) (withNumber f n xs)

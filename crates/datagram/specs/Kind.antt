@@ -1,0 +1,106 @@
+-- The kinds of datagrams: their numbers, and the parts of their bodies. A new kind is a constructor and a line of each.
+use mathlib.Core.Bool.{Bool, true, false}
+use mathlib.Core.List.{List, [], _∷_}
+use mathlib.Core.Option.{Option, none, some}
+use Prim.Native.Nat.{ℕ, _+_}
+use lib.Dec.{eqb}
+use Rattle.wire.specs.Choice.{_or_, pick, withNumber}
+use Rattle.wire.specs.Bytes.{digestSize}
+
+pub data Kind : Type 0 where
+  send receive write acknowledge timeOut : Kind
+
+abbrev pub kinds : List Kind
+kinds = send ∷ receive ∷ write ∷ acknowledge ∷ timeOut ∷ []
+
+abbrev pub kindNumber : Kind → ℕ
+kindNumber send = 1
+kindNumber receive = 2
+kindNumber write = 3
+kindNumber acknowledge = 4
+kindNumber timeOut = 5
+
+-- THE KIND of a number: none where no datagram has it
+abbrev pub kindOf : ℕ → Option Kind
+kindOf n = withNumber kindNumber n kinds
+
+-- whether a kind is one of these; an unknown one is not
+abbrev pub isKind : Kind → Kind → Bool
+isKind j k = eqb (kindNumber j) (kindNumber k)
+
+unfoldable pub only : List Kind → Option Kind → Bool
+only [] k = false
+only (j ∷ js) none = false
+only (j ∷ js) (some k) = isKind j k or only js (some k)
+
+-- SIZES, each stated once
+abbrev pub frameSize : ℕ
+frameSize = 6
+
+abbrev pub contextSize : ℕ
+contextSize = 32
+
+abbrev pub packetSize : ℕ
+packetSize = 68
+
+abbrev pub verdictSize : ℕ
+verdictSize = 80
+
+-- THE PARTS of a body
+pub data Part : Type 0 where
+  channelPart sequencePart timeoutPart digestPart packetPart verdictPart : Part
+
+abbrev pub partSize : Part → ℕ
+partSize channelPart = 4
+partSize sequencePart = 8
+partSize timeoutPart = 16
+partSize digestPart = digestSize
+partSize packetPart = packetSize
+partSize verdictPart = verdictSize
+
+-- THE BODY by kind, behind the context
+unfoldable pub body : Kind → List Part
+body send = channelPart ∷ timeoutPart ∷ digestPart ∷ []
+body receive = packetPart ∷ verdictPart ∷ []
+body write = channelPart ∷ sequencePart ∷ digestPart ∷ []
+body acknowledge = packetPart ∷ digestPart ∷ verdictPart ∷ []
+body timeOut = packetPart ∷ verdictPart ∷ []
+
+abbrev pub bodyOf : Option Kind → List Part
+bodyOf none = []
+bodyOf (some k) = body k
+
+-- parts are told apart by a number
+abbrev pub partNumber : Part → ℕ
+partNumber channelPart = 1
+partNumber sequencePart = 2
+partNumber timeoutPart = 3
+partNumber digestPart = 4
+partNumber packetPart = 5
+partNumber verdictPart = 6
+
+abbrev pub isPart : Part → Part → Bool
+isPart p q = eqb (partNumber p) (partNumber q)
+
+unfoldable pub hasPart : Part → List Part → Bool
+hasPart p [] = false
+hasPart p (q ∷ qs) = isPart p q or hasPart p qs
+
+unfoldable pub partsSize : List Part → ℕ
+partsSize [] = 0
+partsSize (p ∷ ps) = partSize p + partsSize ps
+
+-- the sizes of the parts before one
+unfoldable pub sizeBefore : Part → List Part → ℕ
+sizeBefore p [] = 0
+sizeBefore p (q ∷ qs) = pick (isPart p q) 0 (partSize q + sizeBefore p qs)
+
+-- where the body lies, where a part of it does, and the size of a whole datagram
+abbrev pub bodyFrom : ℕ
+bodyFrom = frameSize + contextSize
+
+abbrev pub placeOf : Part → Option Kind → ℕ
+placeOf p k = bodyFrom + sizeBefore p (bodyOf k)
+
+abbrev pub sizeOf : Option Kind → ℕ
+sizeOf k = bodyFrom + partsSize (bodyOf k)
