@@ -9,7 +9,7 @@ use Rattle.datagram.specs.Names.{Kind, kinds, kindNumber, kindOf, packet
 use Rattle.datagram.specs.Names.{Part, channelPart, sequencePart, timeoutPart, digestPart, packetPart}
 use Rattle.datagram.specs.Names.{verdictPart, partNumber, isPart, partSize, bodyOf, hasPart, partsSize}
 use Rattle.datagram.specs.Names.{sizeBefore, placeOf, packetIn, packetFrom, timeoutFrom, sequenceFrom}
-use Rattle.datagram.specs.Names.{digestFrom, Datagram, datagramIn, isPartSound, arePartsSound}
+use Rattle.datagram.specs.Names.{digestFrom, Datagram, datagramIn, isPartSound, arePartsSound, isContextSound}
 
 -- PARTS are known by their numbers
 abbrev parts : List Part
