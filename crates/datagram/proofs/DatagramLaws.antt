@@ -1,15 +1,39 @@
 -- What a sound datagram tells, and bounds of its parts. Assumes nothing.
 use Rattle.wire.proofs.Prelude.{_≡_, refl, sym, ap, _∙_, true, false, List, [], _∷_, Option, some, inl, inr, ℕ, _+_}
-use Rattle.wire.proofs.Prelude.{_^_, _≤_, _<_, arith, eqb, length, ltb-true, eqb-true}
+use Rattle.wire.proofs.Prelude.{none, _^_, _≤_, _<_, arith, eqb, length, ltb-true, eqb-true, eq-eqb}
 use Rattle.wire.specs.Names.{_or_, isSome, withNumber, Bytes, digestSize}
-use Rattle.wire.proofs.Laws.{and-both, or-either, clash, cases, field-below, length-part, bytes-part}
+use Rattle.wire.proofs.Laws.{and-both, or-either, clash, cases, some-is, with-number, same-number, field-below}
+use Rattle.wire.proofs.Laws.{length-part, bytes-part}
 use Rattle.store.proofs.Laws.{EndFields, TimeoutFields}
 use Rattle.datagram.specs.declared.Packet.{Packet}
-use Rattle.datagram.specs.Names.{Kind, kinds, kindNumber, kindOf, packetSize, sizeOf, isSound, kindIn, contextIn}
+use Rattle.datagram.specs.Names.{Kind, send, receive, write, acknowledge, timeOut, kinds, kindNumber, kindOf}
+use Rattle.datagram.specs.Names.{isKind, isOf, packetSize, sizeOf, isSound, kindIn, contextIn}
 use Rattle.datagram.specs.Names.{Part, channelPart, sequencePart, timeoutPart, digestPart, packetPart}
 use Rattle.datagram.specs.Names.{verdictPart, partNumber, isPart, partSize, bodyOf, hasPart, partsSize}
 use Rattle.datagram.specs.Names.{sizeBefore, placeOf, packetIn, packetFrom, timeoutFrom, sequenceFrom}
 use Rattle.datagram.specs.Names.{digestFrom, Datagram, datagramIn, isPartSound, arePartsSound, isContextSound}
+
+-- KINDS are known by their numbers
+pub kind-of : (k : Kind) → kindOf (kindNumber k) ≡ some k
+unfolding withNumber
+kind-of send = refl
+kind-of receive = refl
+kind-of write = refl
+kind-of acknowledge = refl
+kind-of timeOut = refl
+
+pub number-of : (n : ℕ) (k : Kind) → kindOf n ≡ some k → n ≡ kindNumber k
+number-of n k h = with-number kindNumber n kinds k h
+
+pub is-of : (j : Kind) (x : Option Kind) → isOf j x ≡ true → x ≡ some j
+is-of j none h = clash {b = false} h refl
+is-of j (some k) h = ap some (sym (same-number kindNumber kinds kind-of j k h))
+
+-- a datagram is not of two kinds
+pub kinds-apart {ℓ} : {A : Type ℓ} {x : Option Kind} (j k : Kind) → x ≡ some j → x ≡ some k → isKind j k ≡ false → A
+kinds-apart j k p q n =
+    let e : j ≡ k = some-is (sym p ∙ q) in
+    clash (eq-eqb (kindNumber j) (kindNumber k) (ap kindNumber e)) n
 
 -- PARTS are known by their numbers
 abbrev parts : List Part
@@ -25,11 +49,7 @@ part-of packetPart = refl
 part-of verdictPart = refl
 
 is-part : (p q : Part) → isPart p q ≡ true → p ≡ q
-is-part p q h =
-    some-is (sym (part-of p) ∙ ap (λ (n : ℕ). withNumber partNumber n parts) (eqb-true _ _ h) ∙ part-of q)
-  where
-    some-is : {x y : Part} → some x ≡ some y → x ≡ y
-    some-is h = cc
+is-part = same-number partNumber parts part-of
 
 -- a part of a body lies within it
 pub part-room : (p : Part) (ps : List Part) → hasPart p ps ≡ true → sizeBefore p ps + partSize p ≤ partsSize ps

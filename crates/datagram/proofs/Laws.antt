@@ -1,4 +1,5 @@
 -- All laws of this crate under one name, for the crates above.
+pub use Rattle.datagram.proofs.DatagramLaws.{kind-of, number-of, is-of, kinds-apart, part-room}
 pub use Rattle.datagram.proofs.DatagramLaws.{Sound, sound-is, PacketFields, packet-fields, timeout-fields}
 pub use Rattle.datagram.proofs.DatagramLaws.{sequence-below, length-digest, bytes-digest, height-below}
 pub use Rattle.datagram.proofs.DatagramLaws.{time-below}

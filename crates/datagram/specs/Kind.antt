@@ -24,14 +24,17 @@ kindNumber timeOut = 5
 abbrev pub kindOf : ℕ → Option Kind
 kindOf n = withNumber kindNumber n kinds
 
--- whether a kind is one of these; an unknown one is not
+-- whether a kind is this one, or one of these; an unknown one is none
 abbrev pub isKind : Kind → Kind → Bool
 isKind j k = eqb (kindNumber j) (kindNumber k)
 
+abbrev pub isOf : Kind → Option Kind → Bool
+isOf j none = false
+isOf j (some k) = isKind j k
+
 unfoldable pub only : List Kind → Option Kind → Bool
 only [] k = false
-only (j ∷ js) none = false
-only (j ∷ js) (some k) = isKind j k or only js (some k)
+only (j ∷ js) k = isOf j k or only js k
 
 -- SIZES, each stated once
 abbrev pub frameSize : ℕ

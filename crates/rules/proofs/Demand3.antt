@@ -1,9 +1,8 @@
 -- Demand 3, for every pair of made stores and every list of calls. Assumes nothing.
 use Rattle.wire.proofs.Prelude.{_≡_, sym, ap, _∙_, List, ℕ, eqb, length, eqb-true}
 use Rattle.wire.proofs.Laws.{cases}
-use Rattle.datagram.specs.Names.{datagramIn}
 use Rattle.rules.specs.declared.Told.{Told}
-use Rattle.rules.specs.Names.{refusals, answerTo, called, Call, Met, Answered, Demand3Holds}
+use Rattle.rules.specs.Names.{refusals, answerTo, called, Call, heard, Met, Answered, Demand3Holds}
 use Rattle.rules.proofs.RefusalLaws.{lowest-zero}
 use Rattle.rules.proofs.Acted.{accepted-store, accepted-record, accepted-size, accepted-rest, refused-call}
 use Rattle.rules.proofs.History.{World}
@@ -22,7 +21,7 @@ unfolding answerTo
 answered c m =
     let n : c .told .number ≡ answerTo (c .store) (c .output) (c .datagram) =
     ap (λ (t : Told). t .number) (m .told) ∙ number (c .store) (c .output) (c .datagram) in
-    let l = lowest-zero (datagramIn (c .datagram) .kind) (refusals (c .store) (length (c .output)) (c .datagram)) in
+    let l = lowest-zero (heard c .kind) (refusals (c .store) (length (c .output)) (c .datagram)) in
     record {
       number = n;
       accepts = (λ t. l .0 (sym n ∙ t), λ q. n ∙ l .1 q);

@@ -2,13 +2,14 @@
 -- Pairing is used here and nowhere else. Assumes nothing.
 use Rattle.wire.proofs.Prelude.{_≡_, refl, sym, ap, subst, _∙_, true, _⊎_, inl, inr, Option, none, some, ℕ, arith}
 use Rattle.wire.proofs.Prelude.{eqb-true}
+use Rattle.wire.specs.Names.{_or_}
 use Rattle.wire.proofs.Laws.{and-both}
 use Rattle.store.specs.declared.End.{End}
 use Rattle.store.specs.declared.Channel.{Channel}
 use Rattle.store.specs.Names.{channelAt, sameEnd, Store, storeIn}
 use Rattle.datagram.specs.declared.Packet.{Packet}
-use Rattle.rules.specs.Names.{fitsPacket, Side, across, Call, At, fold, Paired, Peers, packetOf, isDelivery}
-use Rattle.rules.proofs.Acted.{heard}
+use Rattle.datagram.specs.Names.{receive, body, hasPart}
+use Rattle.rules.specs.Names.{fitsDestination, Side, across, Call, heard, At, fold, Paired, Peers, packetOf, isDelivery}
 use Rattle.rules.proofs.Step.{Grown, Later, later, later-refl}
 use Rattle.rules.proofs.Receipt.{receive-of, receive-destination, receive-found}
 use Rattle.rules.proofs.History.{World, ledger, kept}
@@ -79,7 +80,7 @@ module _ (w : World) where
 
   -- A DELIVERY, on the end that its packet names
   pub record Delivered (i : ℕ) (c : Call) : Type 0 where
-    pub did : Did w 2 i c
+    pub did : Did w receive i c
     pub packet : packetOf c ≡ heard c .packet
     pub end : Channel
     pub found : channelAt (packetOf c .destination .channel) (ledger w (c .side) i .channels) ≡ some end
@@ -94,11 +95,11 @@ module _ (w : World) where
       λ i. record { port = p i; channel = q i }
 
   pub delivered : (i : ℕ) (c : Call) → At (w .calls) i c → isDelivery c ≡ true → Delivered i c
-  unfolding fitsPacket
+  unfolding fitsDestination body hasPart _or_
   delivered i c h e =
-      let d = did w 2 i c h e in
+      let d = did w receive i c h e in
       let st = d .acts .acted .step in
-      let q = did-packet w 2 i c d (λ v. omega arith) (λ v. omega arith) in
+      let q = did-packet w receive i c d refl in
       let f = and-both (receive-of st (d .kind) .0 .fits) in
       let port = eqb-true (heard c .packet .destination .port) (st .channel .own .port) (f .0) in
       let number = sym (receive-destination st (d .kind)) in

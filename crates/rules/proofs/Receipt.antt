@@ -6,9 +6,10 @@ use Rattle.wire.proofs.Laws.{clash, cases, of-pick}
 use Rattle.store.specs.declared.Channel.{Channel}
 use Rattle.store.specs.declared.Record.{Record}
 use Rattle.store.specs.Names.{receiptKey, channelAt, hasFree, Store, isOrdered, isReceived}
-use Rattle.datagram.specs.Names.{Datagram}
+use Rattle.datagram.specs.Names.{send, receive, write, acknowledge, timeOut, Datagram}
+use Rattle.datagram.proofs.Laws.{kinds-apart}
 use Rattle.rules.specs.Names.{counted, closed, receivedEnd, receivedEdit, raisesAcknowledge, raisedAcknowledge}
-use Rattle.rules.specs.Names.{acknowledgedEnd, timedOutEnd, isInOrder, Effect, sends, receives}
+use Rattle.rules.specs.Names.{acknowledgedEnd, timedOutEnd, Effect, sends, receives}
 use Rattle.rules.specs.Names.{writesAcknowledgement, acknowledges, timesOut, edited}
 use Rattle.rules.proofs.Accepted.{ReceiveOk}
 use Rattle.rules.proofs.Step.{How, sending, receiving, writing, acknowledging, timing, Step, single, later}
@@ -35,17 +36,17 @@ received-stays {s} {t} {n = n} {m} st r =
     }
 
 -- A DELIVERY
-module _ {s t : Store} {d : Datagram} (st : Step s d t) (k : d .kind ≡ 2) where
+module _ {s t : Store} {d : Datagram} (st : Step s d t) (k : d .kind ≡ some receive) where
   pub receive-of : ReceiveOk s d (st .channel) × (st .effect ≡ receives (st .channel) (d .packet))
   receive-of = go (st .effect) (st .how)
     where
       go : (e : Effect) → How s d (st .channel) e → ReceiveOk s d (st .channel) ×
           (e ≡ receives (st .channel) (d .packet))
-      go e (sending q ok) = absurd (omega arith)
+      go e (sending q ok) = kinds-apart send receive q k refl
       go e (receiving q ok) = (ok, refl)
-      go e (writing q ok) = absurd (omega arith)
-      go e (acknowledging q ok) = absurd (omega arith)
-      go e (timing q ok) = absurd (omega arith)
+      go e (writing q ok) = kinds-apart write receive q k refl
+      go e (acknowledging q ok) = kinds-apart acknowledge receive q k refl
+      go e (timing q ok) = kinds-apart timeOut receive q k refl
 
   pub receive-destination : st .channel .own .channel ≡ d .packet .destination .channel
   receive-destination = own-number st ∙ st .shape .toDestination k
@@ -54,7 +55,6 @@ module _ {s t : Store} {d : Datagram} (st : Step s d t) (k : d .kind ≡ 2) wher
   receive-found = ap (λ (n : ℕ). channelAt n (s .channels)) (sym receive-destination) ∙ own-found st
 
   pub receive-first : Received s (d .packet .destination .channel) (d .packet .sequence) → ⊥
-  unfolding isInOrder
   receive-first r =
       let f = r .found in
       let g = receive-found in
@@ -68,7 +68,7 @@ module _ {s t : Store} {d : Datagram} (st : Step s d t) (k : d .kind ≡ 2) wher
   receive-end = ap (λ (e : Effect). e .end) (receive-of .1)
 
   pub receive-makes : Received t (d .packet .destination .channel) (d .packet .sequence)
-  unfolding isInOrder receives
+  unfolding receives
   receive-makes =
       let ok = receive-of .0 in
       let q = ordering.receive-received (s .records) (st .channel) (d .packet .sequence) (single st) (ok .inOrder)
@@ -90,7 +90,7 @@ pub record Waits (s : Store) (n m : ℕ) : Type 0 where
   pub ordered : isOrdered channel ≡ true
   pub next : channel .next .receive ≡ m
 
-receive-kept : {s : Store} {d : Datagram} {c : Channel} {e : Effect} → How s d c e → (d .kind ≡ 2 → ⊥) →
+receive-kept : {s : Store} {d : Datagram} {c : Channel} {e : Effect} → How s d c e → (d .kind ≡ some receive → ⊥) →
     e .end .next .receive ≡ c .next .receive
 unfolding sends writesAcknowledgement acknowledges timesOut acknowledgedEnd timedOutEnd counted closed
 receive-kept {c = c} (sending q ok) k = refl
@@ -125,7 +125,7 @@ module _ {s t : Store} {d : Datagram} {n m : ℕ} (st : Step s d t) (w : Waits s
       }
 
   -- a call that delivers nothing there leaves it waiting
-  pub waits-on : (d .kind ≡ 2 → d .packet .destination .channel ≡ n → ⊥) → Waits t n m
+  pub waits-on : (d .kind ≡ some receive → d .packet .destination .channel ≡ n → ⊥) → Waits t n m
   waits-on h =
       cases (eqb (st .channel .own .channel) n)
       (λ q.
@@ -139,8 +139,7 @@ module _ {s t : Store} {d : Datagram} {n m : ℕ} (st : Step s d t) (w : Waits s
       })
 
   -- a delivery there is the one that it waits for
-  pub waits-next : d .kind ≡ 2 → d .packet .destination .channel ≡ n → (d .packet .sequence ≡ m) × Waits t n (suc m)
-  unfolding isInOrder
+  pub waits-next : d .kind ≡ some receive → d .packet .destination .channel ≡ n → (d .packet .sequence ≡ m) × Waits t n (suc m)
   waits-next k q =
       let e : st .channel .own .channel ≡ n = receive-destination st k ∙ q in
       let o : isOrdered (st .channel) ≡ true = ap isOrdered (own-waits e) ∙ w .ordered in

@@ -1,7 +1,7 @@
 -- What a verdict that matches is about, and what a claim that holds says. Assumes nothing.
 use Rattle.wire.proofs.Prelude.{_≡_, refl, sym, ap, _∙_, Bool, true, false, not, List, Option, none, some, ℕ, suc}
 use Rattle.wire.proofs.Prelude.{arith, eqb, eqb-true, not-true}
-use Rattle.wire.specs.Names.{pick, isSome, same}
+use Rattle.wire.specs.Names.{pick, isSome, withNumber, same}
 use Rattle.wire.proofs.Laws.{and-both, clash, same-eq}
 use Rattle.store.specs.declared.End.{End}
 use Rattle.store.specs.declared.Timeout.{Timeout}
@@ -9,10 +9,12 @@ use Rattle.store.specs.declared.Channel.{Channel}
 use Rattle.store.specs.declared.Record.{Record}
 use Rattle.store.specs.Names.{sameTimeout, commitmentKey, receiptKey, lookup, channelAt, Store}
 use Rattle.datagram.specs.declared.Verdict.{Verdict}
-use Rattle.rules.specs.Names.{firstDifference, hasValues, holdsOn, claimHolds}
+use Rattle.datagram.specs.Names.{Claim, commitmentPresent, acknowledgementPresent, receiptAbsent}
+use Rattle.datagram.specs.Names.{nextReceiveIs, claimNumber, claimOf}
+use Rattle.rules.specs.Names.{firstDifference, hasValues, isAsStated, holdsOn, claimHolds}
 
-pub record About (v : Verdict) (k : ℕ) (e : End) (n : ℕ) (t : Timeout) (d : List ℕ) : Type 0 where
-  pub claim : v .claim ≡ k
+pub record About (v : Verdict) (k : Claim) (e : End) (n : ℕ) (t : Timeout) (d : List ℕ) : Type 0 where
+  pub claim : v .claim ≡ claimNumber k
   pub end : v .end ≡ e
   pub sequence : v .sequence ≡ n
   pub timeout : v .timeout ≡ t
@@ -30,11 +32,11 @@ passed : (b : Bool) (n m : ℕ) → pick (not b) (suc n) m ≡ 0 → (b ≡ true
 passed true n m h = (refl, h)
 passed false n m h = let z : suc n ≡ 0 = h in absurd (omega arith)
 
-pub about : (v : Verdict) (k : ℕ) (e : End) (n : ℕ) (t : Timeout) (d : List ℕ) → firstDifference v k e n t d ≡ 0 →
+pub about : (v : Verdict) (k : Claim) (e : End) (n : ℕ) (t : Timeout) (d : List ℕ) → firstDifference v k e n t d ≡ 0 →
     About v k e n t d
 unfolding firstDifference
 about v k e n t d h =
-    let a = passed (eqb (v .claim) k) 0 _ h in
+    let a = passed (eqb (v .claim) (claimNumber k)) 0 _ h in
     let b = passed (eqb (v .end .port) (e .port)) 1 _ (a .1) in
     let c = passed (eqb (v .end .channel) (e .channel)) 2 _ (b .1) in
     let f = passed (eqb (v .sequence) n) 3 _ (c .1) in
@@ -44,7 +46,7 @@ about v k e n t d h =
     let q = eqb-true (v .end .channel) (e .channel) (c .0) in
     let w : v .end ≡ e = λ j. record { port = p j; channel = q j } in
     record {
-      claim = eqb-true (v .claim) k (a .0);
+      claim = eqb-true (v .claim) (claimNumber k) (a .0);
       end = w;
       sequence = eqb-true (v .sequence) n (f .0);
       timeout = same-timeout (v .timeout) t (g .0);
@@ -69,33 +71,44 @@ has-values t d (some r) h =
       digest = same-eq (r .digest) d (and-both h .1);
     }
 
--- CLAIMS, each by its number
-module _ (v : Verdict) (s : Store) (h : claimHolds v s ≡ true) where
-  held : (x : Option Channel) → channelAt (v .end .channel) (s .channels) ≡ x → holdsOn v s x ≡ true
-  unfolding claimHolds
-  held x e = ap (λ (y : Option Channel). holdsOn v s y) (sym e) ∙ h
+-- CLAIMS: one that holds is as stated
+claim-of : (k : Claim) → claimOf (claimNumber k) ≡ some k
+unfolding withNumber
+claim-of commitmentPresent = refl
+claim-of acknowledgementPresent = refl
+claim-of receiptAbsent = refl
+claim-of nextReceiveIs = refl
 
-  pub claim-committed : v .claim ≡ 1 → Has (lookup (commitmentKey (v .end .channel) (v .sequence)) (s .records))
-      (v .timeout) (v .digest)
-  unfolding holdsOn
-  claim-committed k = go (channelAt (v .end .channel) (s .channels)) (held _ refl)
-    where
-      go : (x : Option Channel) → holdsOn v s x ≡ true →
-          Has (lookup (commitmentKey (v .end .channel) (v .sequence)) (s .records)) (v .timeout) (v .digest)
-      go none e = clash {b = false} e refl
-      go (some c) e =
-          let b = and-both e .1 in
-          has-values (v .timeout) (v .digest) (lookup (commitmentKey (v .end .channel) (v .sequence)) (s .records)) (cc)
+module _ (v : Verdict) (s : Store) (h : claimHolds v s ≡ true) where
+  stated : (k : Claim) → v .claim ≡ claimNumber k → (x : Option Channel) →
+      channelAt (v .end .channel) (s .channels) ≡ x → (c : Channel) × (x ≡ some c) × (isAsStated (some k) v s c ≡ true)
+  unfolding claimHolds holdsOn
+  stated k e none f = clash {b = false} (ap (λ (y : Option Channel). holdsOn v s y) (sym f) ∙ h) refl
+  stated k e (some c) f =
+      let b = and-both (ap (λ (y : Option Channel). holdsOn v s y) (sym f) ∙ h) .1 in
+      let q : claimOf (v .claim) ≡ some k = ap (λ (n : ℕ). claimOf n) e ∙ claim-of k in
+      (c, refl, ap (λ (y : Option Claim). isAsStated y v s c) (sym q) ∙ b)
+
+  pub claim-committed : v .claim ≡ claimNumber commitmentPresent →
+      Has (lookup (commitmentKey (v .end .channel) (v .sequence)) (s .records)) (v .timeout) (v .digest)
+  unfolding isAsStated
+  claim-committed k = has-values (v .timeout) (v .digest) _ (stated commitmentPresent k _ refl .2)
 
   module _ (c : Channel) (found : channelAt (v .end .channel) (s .channels) ≡ some c) where
-    pub claim-absent : v .claim ≡ 3 → isSome (lookup (receiptKey (v .end .channel) (v .sequence)) (s .records)) ≡ false
-    unfolding holdsOn
-    claim-absent k =
-        let b = and-both (held (some c) found) .1 in
-        not-true (isSome (lookup (receiptKey (v .end .channel) (v .sequence)) (s .records))) (cc)
+    stated-on : (k : Claim) → v .claim ≡ claimNumber k → isAsStated (some k) v s c ≡ true
+    stated-on k e =
+        let a = stated k e (some c) found in
+        let q : a .0 ≡ c = some-is (sym (a .1)) in
+        rw q at (a .2)
+      where
+        some-is : {x y : Channel} → some x ≡ some y → x ≡ y
+        some-is h = cc
 
-    pub claim-next : v .claim ≡ 4 → c .next .receive ≡ v .sequence
-    unfolding holdsOn
-    claim-next k =
-        let b = and-both (held (some c) found) .1 in
-        eqb-true (c .next .receive) (v .sequence) (cc)
+    pub claim-absent : v .claim ≡ claimNumber receiptAbsent →
+        isSome (lookup (receiptKey (v .end .channel) (v .sequence)) (s .records)) ≡ false
+    unfolding isAsStated
+    claim-absent k = not-true _ (stated-on receiptAbsent k)
+
+    pub claim-next : v .claim ≡ claimNumber nextReceiveIs → c .next .receive ≡ v .sequence
+    unfolding isAsStated
+    claim-next k = eqb-true (c .next .receive) (v .sequence) (stated-on nextReceiveIs k)

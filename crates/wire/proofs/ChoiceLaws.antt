@@ -1,7 +1,7 @@
 -- Tests as facts. Assumes nothing.
-use Rattle.wire.proofs.Prelude.{_≡_, refl, Bool, true, false, not, Option, none, some, _⊎_, inl, inr, ℕ, suc}
-use Rattle.wire.proofs.Prelude.{arith}
-use Rattle.wire.specs.Names.{_and_, _or_, pick, isSome}
+use Rattle.wire.proofs.Prelude.{_≡_, refl, sym, ap, _∙_, Bool, true, false, not, List, [], _∷_, Option, none}
+use Rattle.wire.proofs.Prelude.{some, _⊎_, inl, inr, ℕ, suc, arith, eqb, eqb-true}
+use Rattle.wire.specs.Names.{_and_, _or_, pick, isSome, withNumber}
 
 pub and-both : {a b : Bool} → (a and b) ≡ true → (a ≡ true) × (b ≡ true)
 unfolding _and_
@@ -78,3 +78,20 @@ some-if (some a) h = (a, refl)
 pub pick-zero : (b : Bool) (n m : ℕ) → pick b (suc n) m ≡ 0 → (b ≡ false) × (m ≡ 0)
 pick-zero true n m h = let z : suc n ≡ 0 = h in absurd (omega arith)
 pick-zero false n m h = (refl, h)
+
+pub some-is : {A : Type 0} {x y : A} → some x ≡ some y → x ≡ y
+some-is h = cc
+
+-- NUMBERED: what is found by a number has it
+pub with-number : {A : Type 0} (f : A → ℕ) (n : ℕ) (xs : List A) (x : A) → withNumber f n xs ≡ some x → n ≡ f x
+unfolding withNumber
+with-number f n [] x h = let z : _≡_ {A = ℕ} 0 1 = cc in absurd (omega arith)
+with-number f n (y ∷ ys) x h =
+    let ih = with-number f n ys x in
+    cases (eqb n (f y)) (λ e. let q : y ≡ x = some-is (rw e at h) in eqb-true n (f y) e ∙ ap f q) (λ e. ih (rw e at h))
+
+-- and of two that have one number, each found by it, one is the other
+pub same-number : {A : Type 0} (f : A → ℕ) (xs : List A) → ((x : A) → withNumber f (f x) xs ≡ some x) → (x y : A) →
+    eqb (f x) (f y) ≡ true → x ≡ y
+same-number f xs found x y h =
+    some-is (sym (found x) ∙ ap (λ (n : ℕ). withNumber f n xs) (eqb-true (f x) (f y) h) ∙ found y)
