@@ -13,7 +13,7 @@ use datagram::read::timeout_in;
 use datagram::read::verdict_in;
 use datagram::sound::is_sound;
 use fit::is_fit;
-use lines::height::goes_back;
+use heights::goes_back;
 use rows::acknowledge_row;
 use rows::receive_row;
 use rows::send_row;

@@ -22,7 +22,7 @@ use Rattle.datagram.specs.Datagram.{bodyFrom, kindIn, contextIn, sizeOfKind, ch
 use Rattle.datagram.proofs.DatagramLaws.{sound-is, digest-room}
 use Rattle.rules.specs.Refusals.{lowest, goesBack, table, orNone, endFor}
 use Rattle.answer.specs.Lines.{numberBehind}
-use Rattle.lines.proofs.TestedLaws.{came}
+use Rattle.verdicts.proofs.TestedLaws.{came}
 use Rattle.answer.proofs.answer_sound.Statement.{statement}
 use Rattle.answer.proofs.answer_sound.Tie as tie
 

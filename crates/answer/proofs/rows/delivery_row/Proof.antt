@@ -8,7 +8,7 @@ use Rattle.store.specs.Layout.{storeIn}
 use Rattle.datagram.specs.Datagram.{Datagram}
 use Rattle.rules.specs.Refusals.{only, lowest, table, isInOrder, isThere}
 use Rattle.answer.specs.Lines.{numberBehind}
-use Rattle.lines.proofs.TestedLaws.{came, holds, fails}
+use Rattle.verdicts.proofs.TestedLaws.{came, holds, fails}
 use Rattle.answer.proofs.rows.delivery_row.Statement.{statement}
 use Rattle.answer.proofs.rows.delivery_row.Tie as tie
 

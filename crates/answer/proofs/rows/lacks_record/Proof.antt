@@ -1,6 +1,6 @@
 -- By the need, then the room. Assumes nothing.
 use Rattle.wire.specs.Choice.{_and_}
-use Rattle.lines.proofs.TestedLaws.{holds, fails}
+use Rattle.verdicts.proofs.TestedLaws.{holds, fails}
 use borrow.Author.Needs.{needs}
 use Rattle.answer.proofs.rows.lacks_record.Statement.{statement}
 use Rattle.answer.proofs.rows.lacks_record.Tie as tie

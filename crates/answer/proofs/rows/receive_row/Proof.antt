@@ -8,7 +8,7 @@ use Rattle.store.specs.Layout.{storeIn}
 use Rattle.datagram.specs.Datagram.{Datagram}
 use Rattle.rules.specs.Refusals.{only, lowest, table, verdictDifference}
 use Rattle.answer.specs.Lines.{numberBehind}
-use Rattle.lines.proofs.TestedLaws.{came, holds, fails, is-zero, is-not-zero}
+use Rattle.verdicts.proofs.TestedLaws.{came, holds, fails, is-zero, is-not-zero}
 use Rattle.answer.proofs.rows.receive_row.Statement.{statement}
 use Rattle.answer.proofs.rows.receive_row.Tie as tie
 

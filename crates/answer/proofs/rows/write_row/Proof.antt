@@ -9,7 +9,7 @@ use Rattle.datagram.specs.Datagram.{Datagram}
 use Rattle.rules.specs.Ordering.{needsRecord}
 use Rattle.rules.specs.Refusals.{only, lowest, table, isThere}
 use Rattle.answer.specs.Lines.{numberBehind}
-use Rattle.lines.proofs.TestedLaws.{came, holds, fails}
+use Rattle.verdicts.proofs.TestedLaws.{came, holds, fails}
 use Rattle.answer.proofs.rows.write_row.Statement.{statement}
 use Rattle.answer.proofs.rows.write_row.Tie as tie
 
