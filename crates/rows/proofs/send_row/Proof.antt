@@ -8,10 +8,10 @@ use Rattle.store.specs.Layout.{storeIn}
 use Rattle.datagram.specs.Datagram.{Datagram}
 use Rattle.rules.specs.Ordering.{needsRecord}
 use Rattle.rules.specs.Refusals.{only, lowest, table}
-use Rattle.answer.specs.Lines.{numberBehind}
+use Rattle.rows.specs.Lines.{numberBehind}
 use Rattle.verdicts.proofs.TestedLaws.{came, holds, fails}
-use Rattle.answer.proofs.rows.send_row.Statement.{statement}
-use Rattle.answer.proofs.rows.send_row.Tie as tie
+use Rattle.rows.proofs.send_row.Statement.{statement}
+use Rattle.rows.proofs.send_row.Tie as tie
 
 -- the answer is that of the lines behind the first n
 abbrev Left : ℕ → tie.Start → Type 0

@@ -2,8 +2,8 @@
 use Rattle.wire.specs.Choice.{_and_}
 use Rattle.verdicts.proofs.TestedLaws.{holds, fails}
 use borrow.Author.Needs.{needs}
-use Rattle.answer.proofs.rows.lacks_record.Statement.{statement}
-use Rattle.answer.proofs.rows.lacks_record.Tie as tie
+use Rattle.rows.proofs.lacks_record.Statement.{statement}
+use Rattle.rows.proofs.lacks_record.Tie as tie
 
 returns : tie.Need-returns
 unfolding _and_

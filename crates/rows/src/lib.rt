@@ -36,7 +36,7 @@ ghost use Rattle.store.specs.Table.{hasFree};
 ghost use Rattle.store.specs.Layout.{Store, sizeFor, storeIn};
 ghost use Rattle.datagram.specs.Datagram.{Datagram};
 ghost use Rattle.rules.specs.Ordering.{needsRecord};
-ghost use Rattle.answer.specs.Lines.{numberBehind};
+ghost use Rattle.rows.specs.Lines.{numberBehind};
 
 // Send (1): lines 10, 11, 19 and 20.
 pub fn send_row(store: &[u8], count: usize, x: Context, t: Timeout, c: Channel) -> u8

@@ -7,10 +7,10 @@ use Rattle.wire.specs.Choice.{_or_}
 use Rattle.store.specs.Layout.{storeIn}
 use Rattle.datagram.specs.Datagram.{Datagram}
 use Rattle.rules.specs.Refusals.{only, lowest, table, verdictDifference}
-use Rattle.answer.specs.Lines.{numberBehind}
+use Rattle.rows.specs.Lines.{numberBehind}
 use Rattle.verdicts.proofs.TestedLaws.{came, holds, fails, is-zero, is-not-zero}
-use Rattle.answer.proofs.rows.receive_row.Statement.{statement}
-use Rattle.answer.proofs.rows.receive_row.Tie as tie
+use Rattle.rows.proofs.receive_row.Statement.{statement}
+use Rattle.rows.proofs.receive_row.Tie as tie
 
 -- the answer is that of the lines behind the first n
 abbrev Left : ℕ → tie.Start → Type 0
