@@ -1,8 +1,5 @@
 // What an accepted datagram does, by its kind: to the packet records, to the output, and to the channel end that it is
 // about. Every kind ends alike: the end and the times are stored.
-mod effect_end; // to the channel end
-mod effect_record; // to the packet records
-
 use datagram::Packet;
 use datagram::emit::emit_acknowledged;
 use datagram::emit::emit_packet;
@@ -14,14 +11,14 @@ use datagram::read::kind_in;
 use datagram::read::packet_in;
 use datagram::read::sequence_in;
 use datagram::read::timeout_in;
-use effect_end::acknowledged_end;
-use effect_end::received_end;
-use effect_end::sent_end;
-use effect_end::timed_out_end;
-use effect_record::free_commitment;
-use effect_record::plain_record;
-use effect_record::write_receipt;
-use effect_record::write_record;
+use ends::acknowledged_end;
+use ends::received_end;
+use ends::sent_end;
+use ends::timed_out_end;
+use records::free_commitment;
+use records::plain_record;
+use records::write_receipt;
+use records::write_record;
 use store::Channel;
 use store::Found;
 use store::Record;

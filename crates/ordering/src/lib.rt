@@ -1,5 +1,5 @@
-// The tests that depend on a channel's ordering: 14 for 5, 15, 16 for 2, 19, and 20 for 2. The store has that of 17,
-// and no other test does.
+// What depends on a channel's ordering: the tests 14 for 5, 15, 16 for 2, 19, and 20 for 2, and whether a counter rises.
+// The store has the test 17, and no other test does.
 use store::Channel;
 use tables::ordering::is_ordered;
 use tables::scan::has_record;
@@ -10,7 +10,8 @@ ghost use Rattle.wire.specs.Choice.{pick};
 ghost use Rattle.store.specs.Layout.{sizeFor, storeIn};
 ghost use Rattle.store.specs.Ordering.{isOrdered};
 ghost use Rattle.rules.specs.Ordering.{receivesInOrder, acknowledgesInOrder, timesOutInOrder, absenceClaim};
-ghost use Rattle.rules.specs.Ordering.{absenceSequence, isReceiptThere, isAtTop, needsRecord};
+ghost use Rattle.rules.specs.Ordering.{absenceSequence, isReceiptThere, raisesReceive, raisesAcknowledge};
+ghost use Rattle.rules.specs.Ordering.{isAtTop, needsRecord};
 
 const TOP: u64 = 18446744073709551615;
 
@@ -73,6 +74,13 @@ pub fn absence_sequence(c: Channel, sequence: u64, claimed: u64) -> u64
         return claimed;
     }
     sequence
+}
+
+// On an ordered channel a receive and an acknowledge raise their counter.
+pub fn raises_counter(c: Channel) -> bool
+    ensures { λ r. ⌜ (r ≡ raisesReceive c) × (r ≡ raisesAcknowledge c) ⌝ }
+{
+    is_ordered(c)
 }
 
 // 19: a counter at its top can't be raised. A send (1) raises one on every channel, a receive (2) and an acknowledge
