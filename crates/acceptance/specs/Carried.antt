@@ -8,7 +8,7 @@ use Rattle.store.specs.declared.Channel.{Channel}
 use Rattle.store.specs.Table.{channelAt}
 use Rattle.store.specs.Layout.{storeIn, bytesOf}
 use Rattle.datagram.specs.Datagram.{datagramIn}
-use Rattle.datagram.specs.Output.{atFront}
+use Rattle.emit.specs.Output.{atFront}
 use Rattle.rules.specs.Acceptance.{Effect}
 use Rattle.rules.specs.Call.{answerTo}
 use Rattle.records.specs.Edited.{withEdit}

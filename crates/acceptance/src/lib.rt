@@ -1,9 +1,6 @@
 // What an accepted datagram does, by its kind: to the packet records, to the output, and to the channel end that it is
 // about. Every kind ends alike: the end and the times are stored.
 use datagram::Packet;
-use datagram::emit::emit_acknowledged;
-use datagram::emit::emit_packet;
-use datagram::emit::emit_written;
 use datagram::read::channel_in;
 use datagram::read::context_in;
 use datagram::read::digest_in;
@@ -11,6 +8,9 @@ use datagram::read::kind_in;
 use datagram::read::packet_in;
 use datagram::read::sequence_in;
 use datagram::read::timeout_in;
+use emit::emit_acknowledged;
+use emit::emit_packet;
+use emit::emit_written;
 use ends::acknowledged_end;
 use ends::received_end;
 use ends::sent_end;
@@ -37,7 +37,7 @@ ghost use Rattle.store.specs.Table.{isNumbered, channelAt};
 ghost use Rattle.store.specs.Layout.{recordsFrom, bytesOf, storeIn};
 ghost use Rattle.store.specs.Scan.{firstThat};
 ghost use Rattle.datagram.specs.Datagram.{kindIn, sizeOfKind, datagramIn};
-ghost use Rattle.datagram.specs.Output.{atFront};
+ghost use Rattle.emit.specs.Output.{atFront};
 ghost use Rattle.rules.specs.Acceptance.{sentPacket, commitment, sends, receives, writesAcknowledgement};
 ghost use Rattle.rules.specs.Acceptance.{acknowledges, timesOut, effectOf};
 ghost use Rattle.rules.specs.Call.{answerTo, effectIn, nextStore};

@@ -21,17 +21,17 @@ ghost use Rattle.datagram.specs.Datagram.{kindIn, contextIn, packetIn, v
 ghost use Rattle.datagram.specs.Datagram.{timeoutFrom, sequenceFrom, packetFrom};
 ghost use Rattle.datagram.specs.Datagram.{digestPlace, digestFrom, verdictPlace, verdictFrom, channelFrom};
 
-pub(crate) const FRAME: usize = 6;
+pub const FRAME: usize = 6;
 
 const CONTEXT: usize = 32;
 
-pub(crate) const BODY: usize = FRAME + CONTEXT;
+pub const BODY: usize = FRAME + CONTEXT;
 
-pub(crate) const PACKET: usize = 68;
+pub const PACKET: usize = 68;
 
-pub(crate) const VERDICT: usize = 80;
+pub const VERDICT: usize = 80;
 
-pub(crate) const DIGEST: usize = 32;
+pub const DIGEST: usize = 32;
 
 pub fn context_in(d: &[u8]) -> Context
     requires { ⌜ bodyFrom ≤ length (now d) ⌝ }
@@ -122,7 +122,7 @@ pub fn digest_in(d: &[u8], kind: u16) -> [u8; 32]
     digest_at(d, digest_place(kind))
 }
 
-pub(crate) fn verdict_place(kind: u16) -> usize
+pub fn verdict_place(kind: u16) -> usize
     ensures { λ r. ⌜ r ≡ verdictPlace kind ⌝ }
 {
     match kind {
