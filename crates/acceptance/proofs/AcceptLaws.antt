@@ -1,32 +1,32 @@
 -- What carrying out an accepted datagram may lean on, and why its steps one after another leave the next store.
 -- Assumes nothing.
-use Rattle.wire.proofs.Prelude.{_≡_, refl, sym, ap, subst₂, _∙_, true, List, _⊎_, inl, inr, Option, none, some}
+use Rattle.wire.proofs.Prelude.{_≡_, refl, sym, ap, subst₂, _∙_, true, List, _⊎_, inl, inr, Option, some}
 use Rattle.wire.proofs.Prelude.{ℕ, _≤_, arith, length, ltb-false, not-false}
 use Rattle.wire.specs.Names.{_or_, isSome, Bytes}
 use Rattle.wire.proofs.Laws.{some-if}
 use Rattle.store.specs.declared.End.{End}
 use Rattle.store.specs.declared.Channel.{Channel}
-use Rattle.store.specs.declared.Record.{Record}
 use Rattle.store.specs.declared.Found.the-variants.{At}
-use Rattle.store.specs.Names.{outputLimit, Key, hasKey, isNumbered, commitmentKey, lookup}
+use Rattle.store.specs.Names.{outputLimit, isNumbered, commitmentKey, lookup}
 use Rattle.store.specs.Names.{Store, bytesOf, storeIn, isFit}
-use Rattle.store.specs.Effect.{Exact, withTimes, withChannelSlot, withRecordSlot}
-use Rattle.store.specs.Scan.{firstThat, firstFree}
+use Rattle.store.specs.Effect.{Exact, withTimes, withChannelSlot}
+use Rattle.store.specs.Scan.{firstThat}
 use Rattle.store.proofs.Laws.{channel-number, fit-fields}
-use Rattle.store.proofs.ScanLaws.{set-insert, set-replace}
+use Rattle.store.proofs.ScanLaws.{set-replace}
 use Rattle.store.proofs.HeldLaws.{Held, fit-exact, held-store}
 use Rattle.datagram.specs.declared.Context.{Context}
 use Rattle.datagram.specs.Names.{datagramIn, kindIn, sizeOfKind, channelFrom, isSound}
 use Rattle.datagram.proofs.Laws.{Sound, sound-is}
-use Rattle.rules.specs.Names.{writes, frees, lowest, table, refusals, orNone, endFor, isCommitted}
-use Rattle.rules.specs.Names.{Effect, effectOf, edited, applied, answerTo, effectIn, nextStore}
+use Rattle.rules.specs.Names.{lowest, table, refusals, orNone, endFor, isCommitted}
+use Rattle.rules.specs.Names.{Effect, effectOf, applied, answerTo, effectIn, nextStore}
 use Rattle.rules.proofs.RefusalLaws.{givenAt, silent, not-given}
 use Rattle.rules.proofs.Accepted.{SendOk, ReceiveOk, WriteOk, AcknowledgeOk, TimeoutOk, send-ok, receive-ok}
 use Rattle.rules.proofs.Accepted.{write-ok, acknowledge-ok, timeout-ok}
 use Rattle.rules.proofs.Step.{committed-there, own-grown}
 use Rattle.rules.proofs.Step as steps
 use Rattle.rules.proofs.Bridge.{Acceptance, accepted-step}
-use Rattle.acceptance.specs.Carried.{Accepts, withEdit}
+use Rattle.records.specs.Edited.{withRecords, withEdit}
+use Rattle.acceptance.specs.Carried.{Accepts}
 
 -- AN ACCEPTED DATAGRAM of a kind
 module _ {s o d : List ℕ} {k : ℕ} {c : Channel} (a : Accepts s o d k c) where
@@ -102,22 +102,6 @@ module _ {s o d : List ℕ} {c : Channel} where
 
   pub timing : Accepts s o d 5 c → TimeoutOk (storeIn s) (datagramIn d) c
   timing a = timeout-ok s (length o) d (storeIn s) (datagramIn d) c (lines a)
-
--- THE RECORDS: the slot at the index found is the one that the edit is on
-abbrev withRecords : Store → List (Option Record) → Store
-withRecords s rs = record { height = s .height; time = s .time; channels = s .channels; records = rs }
-
-pub written : (s : Store) (i : ℕ) (r : Record) → firstFree (s .records) ≡ At i →
-    bytesOf (withRecordSlot s i (some r)) ≡ bytesOf (withEdit s (writes r))
-unfolding edited
-written s i r h =
-    ap (λ (rs : List (Option Record)). bytesOf (withRecords s rs)) (set-insert r i (s .records) h)
-
-pub freed : (s : Store) (i : ℕ) (k : Key) → firstThat (hasKey k) (s .records) ≡ At i →
-    bytesOf (withRecordSlot s i none) ≡ bytesOf (withEdit s (frees k))
-unfolding edited
-freed s i k h =
-    ap (λ (rs : List (Option Record)). bytesOf (withRecords s rs)) (set-replace (hasKey k) none i (s .records) h)
 
 -- THE STEPS one after another leave the next store: the records, the end, the times
 module _ {s o d : List ℕ} {k : ℕ} {c : Channel} (bytes : Bytes s) (heard : Bytes d) (a : Accepts s o d k c) where

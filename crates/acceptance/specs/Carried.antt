@@ -6,12 +6,12 @@ use Prim.Native.Nat.{ℕ}
 use lib.ListN.{length}
 use Rattle.store.specs.declared.Channel.{Channel}
 use Rattle.store.specs.Table.{channelAt}
-use Rattle.store.specs.Layout.{Store, storeIn, bytesOf}
+use Rattle.store.specs.Layout.{storeIn, bytesOf}
 use Rattle.datagram.specs.Datagram.{datagramIn}
-use Rattle.datagram.specs.Output.{atFront}
-use Rattle.rules.specs.Ordering.{Edit}
-use Rattle.rules.specs.Acceptance.{Effect, edited}
+use Rattle.emit.specs.Output.{atFront}
+use Rattle.rules.specs.Acceptance.{Effect}
 use Rattle.rules.specs.Call.{answerTo}
+use Rattle.records.specs.Edited.{withEdit}
 use Rattle.acceptance.specs.declared.Carried.{Carried}
 
 -- an accepted datagram of a kind, and the end that it is about
@@ -19,10 +19,6 @@ pub record Accepts (store output datagram : List ℕ) (k : ℕ) (c : Channel) : 
   pub answer : answerTo store output datagram ≡ 0
   pub kind : datagramIn datagram .kind ≡ k
   pub found : channelAt (datagramIn datagram .channel) (storeIn store .channels) ≡ some c
-
--- the packet records alone
-abbrev pub withEdit : Store → Edit → Store
-withEdit s e = record { height = s .height; time = s .time; channels = s .channels; records = edited e (s .records) }
 
 -- what an effect leaves of the store and the output, and what is handed back of it
 pub record CarriedOut (e : Effect) (s o storeLeft outputLeft : List ℕ) (r : Carried) : Type 0 where

@@ -1,12 +1,6 @@
 // What an accepted datagram does, by its kind: to the packet records, to the output, and to the channel end that it is
 // about. Every kind ends alike: the end and the times are stored.
-mod effect_end; // to the channel end
-mod effect_record; // to the packet records
-
 use datagram::Packet;
-use datagram::emit::emit_acknowledged;
-use datagram::emit::emit_packet;
-use datagram::emit::emit_written;
 use datagram::read::channel_in;
 use datagram::read::context_in;
 use datagram::read::digest_in;
@@ -14,14 +8,17 @@ use datagram::read::kind_in;
 use datagram::read::packet_in;
 use datagram::read::sequence_in;
 use datagram::read::timeout_in;
-use effect_end::acknowledged_end;
-use effect_end::received_end;
-use effect_end::sent_end;
-use effect_end::timed_out_end;
-use effect_record::free_commitment;
-use effect_record::plain_record;
-use effect_record::write_receipt;
-use effect_record::write_record;
+use emit::emit_acknowledged;
+use emit::emit_packet;
+use emit::emit_written;
+use ends::acknowledged_end;
+use ends::received_end;
+use ends::sent_end;
+use ends::timed_out_end;
+use records::free_commitment;
+use records::plain_record;
+use records::write_receipt;
+use records::write_record;
 use store::Channel;
 use store::Found;
 use store::Record;
@@ -40,7 +37,7 @@ ghost use Rattle.store.specs.Table.{isNumbered, channelAt};
 ghost use Rattle.store.specs.Layout.{recordsFrom, bytesOf, storeIn};
 ghost use Rattle.store.specs.Scan.{firstThat};
 ghost use Rattle.datagram.specs.Datagram.{kindIn, sizeOfKind, datagramIn};
-ghost use Rattle.datagram.specs.Output.{atFront};
+ghost use Rattle.emit.specs.Output.{atFront};
 ghost use Rattle.rules.specs.Acceptance.{sentPacket, commitment, sends, receives, writesAcknowledgement};
 ghost use Rattle.rules.specs.Acceptance.{acknowledges, timesOut, effectOf};
 ghost use Rattle.rules.specs.Call.{answerTo, effectIn, nextStore};

@@ -1,7 +1,5 @@
 // The answer to a datagram: the number of the first line of the table that applies, 0 where none does. Lines 1 to 7 are
 // for every kind, but 6 not for a time-out, and stand here in their order.
-mod rows; // the lines of the table for each kind
-
 use datagram::Context;
 use datagram::read::channel_in;
 use datagram::read::context_in;
@@ -11,14 +9,14 @@ use datagram::read::packet_in;
 use datagram::read::sequence_in;
 use datagram::read::timeout_in;
 use datagram::read::verdict_in;
-use datagram::sound::is_sound;
 use fit::is_fit;
-use lines::height::goes_back;
+use heights::goes_back;
 use rows::acknowledge_row;
 use rows::receive_row;
 use rows::send_row;
 use rows::time_out_row;
 use rows::write_row;
+use sound::is_sound;
 use store::Channel;
 use store::Found;
 use store::OwnHeight;
@@ -34,7 +32,8 @@ ghost use Rattle.store.specs.Layout.{storeIn};
 ghost use Rattle.store.specs.Fit.{isFit};
 ghost use Rattle.datagram.specs.Datagram.{kindIn, datagramIn, isSound};
 ghost use Rattle.rules.specs.Refusals.{lowest, refusals, orNone, endFor};
-ghost use Rattle.answer.specs.Lines.{numberBehind, Known};
+ghost use Rattle.rows.specs.Lines.{numberBehind};
+ghost use Rattle.answer.specs.Known.{Known};
 
 const OPEN: u8 = 3;
 

@@ -1,8 +1,8 @@
 -- What a sound datagram tells, and bounds of its parts. Assumes nothing.
-use Rattle.wire.proofs.Prelude.{_≡_, refl, sym, ap, _∙_, true, false, List, [], _∷_, Option, some, inl, inr, ℕ, _+_}
-use Rattle.wire.proofs.Prelude.{none, _^_, _≤_, _<_, arith, eqb, length, ltb-true, eqb-true, eq-eqb}
+use Rattle.wire.proofs.Prelude.{_≡_, refl, sym, ap, _∙_, true, false, List, [], _∷_, Option, some, _⊎_, inl, inr, ⊎-elim, ℕ}
+use Rattle.wire.proofs.Prelude.{none, _+_, _^_, _≤_, _<_, arith, eqb, length, ltb-true, eqb-true, eq-eqb}
 use Rattle.wire.specs.Names.{_or_, isSome, withNumber, Bytes, digestSize}
-use Rattle.wire.proofs.Laws.{and-both, or-either, clash, cases, some-is, with-number, same-number, field-below}
+use Rattle.wire.proofs.Laws.{and-both, or-either, clash, cases, none-if, some-if, some-is, with-number, same-number, field-below}
 use Rattle.wire.proofs.Laws.{length-part, bytes-part}
 use Rattle.store.proofs.Laws.{EndFields, TimeoutFields}
 use Rattle.datagram.specs.declared.Packet.{Packet}
@@ -35,6 +35,25 @@ kinds-apart j k p q n =
     let e : j ≡ k = some-is (sym p ∙ q) in
     clash (eq-eqb (kindNumber j) (kindNumber k) (ap kindNumber e)) n
 
+-- numbers that no kind has
+kind-range : (k : Kind) → (1 ≤ kindNumber k) × (kindNumber k ≤ 5)
+kind-range send = (omega arith, omega arith)
+kind-range receive = (omega arith, omega arith)
+kind-range write = (omega arith, omega arith)
+kind-range acknowledge = (omega arith, omega arith)
+kind-range timeOut = (omega arith, omega arith)
+
+pub unknown : (n : ℕ) → (n ≡ 0) ⊎ (6 ≤ n) → kindOf n ≡ none
+unknown n h =
+    none-if (kindOf n) (λ k e.
+    let q = number-of n k e in
+    let r = kind-range k in
+    ⊎-elim (λ z. omega (arith, q, r .0, z)) (λ z. omega (arith, q, r .1, z)) h)
+
+-- what holds of every kind holds of a number that has one
+pub by-kind : (P : ℕ → Type 0) → ((k : Kind) → P (kindNumber k)) → (n : ℕ) → isSome (kindOf n) ≡ true → P n
+by-kind P each n h = let q = some-if (kindOf n) h in rw (number-of n (q .0) (q .1)) (each (q .0))
+
 -- PARTS are known by their numbers
 abbrev parts : List Part
 parts = channelPart ∷ sequencePart ∷ timeoutPart ∷ digestPart ∷ packetPart ∷ verdictPart ∷ []
@@ -50,6 +69,12 @@ part-of verdictPart = refl
 
 is-part : (p q : Part) → isPart p q ≡ true → p ≡ q
 is-part = same-number partNumber parts part-of
+
+-- a kind that has a part is known
+pub part-known : (p : Part) (x : Option Kind) → hasPart p (bodyOf x) ≡ true → isSome x ≡ true
+unfolding hasPart
+part-known p none h = clash {b = false} h refl
+part-known p (some k) h = refl
 
 -- a part of a body lies within it
 pub part-room : (p : Part) (ps : List Part) → hasPart p ps ≡ true → sizeBefore p ps + partSize p ≤ partsSize ps

@@ -1,7 +1,5 @@
 // Datagrams and the records that are handed out, in lent bytes. Their types; specs/ says what they mean.
-pub mod emit;
 pub mod read;
-pub mod sound;
 
 use store::End;
 use store::OtherHeight;

@@ -16,22 +16,24 @@ ghost use mathlib.Core.Path.{_≡_};
 ghost use mathlib.Core.Bool.{true};
 ghost use Prim.Native.Nat.{_+_, _≤_};
 ghost use lib.ListN.{length};
-ghost use Rattle.datagram.specs.Datagram.{frameSize, bodyFrom, packetSize, verdictSize, sizeOfKind, isProved};
+ghost use Rattle.wire.specs.Bytes.{field};
+ghost use Rattle.store.specs.Part.{timeoutIn};
+ghost use Rattle.datagram.specs.Kind.{kindOf, frameSize, bodyFrom, packetSize, verdictSize};
+ghost use Rattle.datagram.specs.Kind.{digestPart, verdictPart, bodyOf, hasPart, placeOf, sizeOf};
 ghost use Rattle.datagram.specs.Datagram.{kindIn, contextIn, packetIn, verdictIn};
-ghost use Rattle.datagram.specs.Datagram.{timeoutFrom, sequenceFrom, packetFrom};
-ghost use Rattle.datagram.specs.Datagram.{digestPlace, digestFrom, verdictPlace, verdictFrom, channelFrom};
+ghost use Rattle.datagram.specs.Datagram.{digestFrom, verdictFrom, channelFrom};
 
-pub(crate) const FRAME: usize = 6;
+pub const FRAME: usize = 6;
 
 const CONTEXT: usize = 32;
 
-pub(crate) const BODY: usize = FRAME + CONTEXT;
+pub const BODY: usize = FRAME + CONTEXT;
 
-pub(crate) const PACKET: usize = 68;
+pub const PACKET: usize = 68;
 
-pub(crate) const VERDICT: usize = 80;
+pub const VERDICT: usize = 80;
 
-pub(crate) const DIGEST: usize = 32;
+pub const DIGEST: usize = 32;
 
 pub fn context_in(d: &[u8]) -> Context
     requires { ⌜ bodyFrom ≤ length (now d) ⌝ }
@@ -85,27 +87,28 @@ pub fn kind_in(d: &[u8]) -> u16
 // 4: packet, digest, verdict.
 pub fn timeout_in(d: &[u8]) -> Timeout
     requires { ⌜ bodyFrom + 20 ≤ length (now d) ⌝ }
-    ensures { λ r. ⌜ r ≡ timeoutFrom (now (d .entry)) ⌝ }
+    ensures { λ r. ⌜ r ≡ timeoutIn (bodyFrom + 4) (now (d .entry)) ⌝ }
 {
     timeout_at(d, BODY + 4)
 }
 
 pub fn sequence_in(d: &[u8]) -> u64
     requires { ⌜ bodyFrom + 12 ≤ length (now d) ⌝ }
-    ensures { λ r. ⌜ r ≡ sequenceFrom (now (d .entry)) ⌝ }
+    ensures { λ r. ⌜ r ≡ field (bodyFrom + 4) 8 (now (d .entry)) ⌝ }
 {
     u64_at(d, BODY + 4)
 }
 
 pub fn packet_in(d: &[u8]) -> Packet
     requires { ⌜ bodyFrom + packetSize ≤ length (now d) ⌝ }
-    ensures { λ r. ⌜ r ≡ packetFrom (now (d .entry)) ⌝ }
+    ensures { λ r. ⌜ r ≡ packetIn bodyFrom (now (d .entry)) ⌝ }
 {
     packet_at(d, BODY)
 }
 
 fn digest_place(kind: u16) -> usize
-    ensures { λ r. ⌜ r ≡ digestPlace kind ⌝ }
+    requires { ⌜ hasPart digestPart (bodyOf (kindOf kind)) ≡ true ⌝ }
+    ensures { λ r. ⌜ r ≡ placeOf digestPart (kindOf kind) ⌝ }
 {
     match kind {
         1 => BODY + 20,
@@ -116,14 +119,17 @@ fn digest_place(kind: u16) -> usize
 
 // The digest of the kinds 1, 3 and 4; the others have none.
 pub fn digest_in(d: &[u8], kind: u16) -> [u8; 32]
-    requires { ⌜ sizeOfKind kind ≤ length (now d) ⌝ }
-    ensures { λ r. ⌜ r ≡ digestFrom kind (now (d .entry)) ⌝ }
+    requires { ⌜
+        (hasPart digestPart (bodyOf (kindOf kind)) ≡ true) × (sizeOf (kindOf kind) ≤ length (now d))
+        ⌝ }
+    ensures { λ r. ⌜ r ≡ digestFrom (kindOf kind) (now (d .entry)) ⌝ }
 {
     digest_at(d, digest_place(kind))
 }
 
-pub(crate) fn verdict_place(kind: u16) -> usize
-    ensures { λ r. ⌜ r ≡ verdictPlace kind ⌝ }
+pub fn verdict_place(kind: u16) -> usize
+    requires { ⌜ hasPart verdictPart (bodyOf (kindOf kind)) ≡ true ⌝ }
+    ensures { λ r. ⌜ r ≡ placeOf verdictPart (kindOf kind) ⌝ }
 {
     match kind {
         4 => BODY + PACKET + DIGEST,
@@ -133,20 +139,24 @@ pub(crate) fn verdict_place(kind: u16) -> usize
 
 // The verdict of the kinds 2, 4 and 5; the others have none.
 pub fn verdict_in(d: &[u8], kind: u16) -> Verdict
-    requires { ⌜ (isProved kind ≡ true) × (sizeOfKind kind ≤ length (now d)) ⌝ }
-    ensures { λ r. ⌜ r ≡ verdictFrom kind (now (d .entry)) ⌝ }
+    requires { ⌜
+        (hasPart verdictPart (bodyOf (kindOf kind)) ≡ true) × (sizeOf (kindOf kind) ≤ length (now d))
+        ⌝ }
+    ensures { λ r. ⌜ r ≡ verdictFrom (kindOf kind) (now (d .entry)) ⌝ }
 {
     verdict_at(d, verdict_place(kind))
 }
 
-// The channel that it is about: its own for 1 and 3, the destination for 2, the source for 4 and 5.
+// The channel that it is about: its own for 1 and 3, the destination for 2, the source for 4 and 5; unknown kinds are
+// about none.
 pub fn channel_in(d: &[u8], kind: u16) -> u32
-    requires { ⌜ sizeOfKind kind ≤ length (now d) ⌝ }
-    ensures { λ r. ⌜ r ≡ channelFrom kind (now (d .entry)) ⌝ }
+    requires { ⌜ sizeOf (kindOf kind) ≤ length (now d) ⌝ }
+    ensures { λ r. ⌜ r ≡ channelFrom (kindOf kind) (now (d .entry)) ⌝ }
 {
     match kind {
+        0 | 6..=65535 => 0,
         1 | 3 => u32_at(d, BODY),
         2 => u32_at(d, BODY + 32),
-        _ => u32_at(d, BODY + 26),
+        4 | 5 => u32_at(d, BODY + 26),
     }
 }

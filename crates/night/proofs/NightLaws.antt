@@ -8,7 +8,7 @@ use lib.Seq.{length-take-le}
 use borrow.Author.Tests.{leb-true, eq-eqb, ne-eqb}
 use Rattle.wire.proofs.ChoiceLaws.{and-both}
 use Rattle.store.specs.Maker.{makeTold, makeStore}
-use Rattle.datagram.specs.Output.{atFront}
+use Rattle.emit.specs.Output.{atFront}
 use Rattle.night.specs.declared.Phase.the-variants.{Running}
 use Rattle.night.specs.declared.Night.{Night}
 use Rattle.night.specs.Line.{lineOf, openWord, endWord, tornWord}

@@ -9,7 +9,7 @@ use Rattle.wire.specs.Bytes.{field}
 use Rattle.store.specs.Limits.{outputLimit}
 use Rattle.store.specs.Length.{lengthFor}
 use Rattle.store.specs.Maker.{makeTold, makeStore}
-use Rattle.datagram.specs.Output.{atFront}
+use Rattle.emit.specs.Output.{atFront}
 use Rattle.rules.specs.Call.{callTold, callStore}
 use Rattle.night.specs.declared.Phase.{Phase}
 use Rattle.night.specs.declared.Phase.the-variants.{Before, Running, Over}

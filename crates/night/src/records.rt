@@ -13,7 +13,7 @@ ghost use Prim.Native.Nat.{_+_, _≤_};
 ghost use lib.ListN.{length, take};
 ghost use Rattle.wire.specs.Bytes.{patch};
 ghost use Rattle.store.specs.Maker.{makeTold, makeStore};
-ghost use Rattle.datagram.specs.Output.{atFront};
+ghost use Rattle.emit.specs.Output.{atFront};
 ghost use Rattle.rules.specs.Call.{callTold, callStore};
 ghost use Rattle.night.specs.Night.{freshNight, isOver, isOpening, freshOutput, openedText, openedNight};
 ghost use Rattle.night.specs.Night.{opens, answers, stepped};

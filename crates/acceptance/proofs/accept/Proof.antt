@@ -20,7 +20,7 @@ use Rattle.store.specs.Scan.{holds, firstThat}
 use Rattle.store.proofs.EffectLaws.{exact-room}
 use Rattle.store.proofs.HeldLaws.{held-exact}
 use Rattle.datagram.specs.Datagram.{kindIn, sizeOfKind, channelFrom, datagramIn}
-use Rattle.datagram.specs.Output.{atFront}
+use Rattle.emit.specs.Output.{atFront}
 use Rattle.datagram.proofs.DatagramLaws.{digest-room}
 use Rattle.rules.specs.Acceptance.{Effect}
 use Rattle.acceptance.specs.Carried.{Accepts}

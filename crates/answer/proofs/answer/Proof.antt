@@ -5,10 +5,10 @@ use borrow.Author.Needs.{needs}
 use borrow.Author.Tests.{lt-ltb, le-ltb}
 use Rattle.store.specs.Layout.{storeIn}
 use Rattle.datagram.specs.Datagram.{kindIn, datagramIn}
-use Rattle.datagram.proofs.SoundLaws.{malformed}
+use Rattle.sound.proofs.SoundLaws.{malformed}
 use Rattle.rules.specs.Refusals.{lowest, table, refusals, orNone, endFor}
-use Rattle.answer.specs.Lines.{numberBehind}
-use Rattle.lines.proofs.TestedLaws.{holds, fails}
+use Rattle.rows.specs.Lines.{numberBehind}
+use Rattle.verdicts.proofs.TestedLaws.{holds, fails}
 use Rattle.answer.proofs.answer.Statement.{statement}
 use Rattle.answer.proofs.answer.Tie as tie
 

@@ -8,7 +8,7 @@ use Rattle.store.specs.Layout.{storeIn}
 use Rattle.datagram.specs.Datagram.{datagramIn}
 use Rattle.rules.specs.Refusals.{lowest, table}
 use Rattle.rules.proofs.RefusalLaws.{given-both}
-use Rattle.answer.specs.Lines.{numberBehind}
+use Rattle.rows.specs.Lines.{numberBehind}
 use Rattle.answer.proofs.answer_on.Statement.{statement}
 use Rattle.answer.proofs.answer_on.Tie as tie
 

@@ -21,8 +21,8 @@ use Rattle.store.proofs.SlotTestLaws.{channel-index}
 use Rattle.datagram.specs.Datagram.{bodyFrom, kindIn, contextIn, sizeOfKind, channelFrom, datagramIn}
 use Rattle.datagram.proofs.DatagramLaws.{sound-is, digest-room}
 use Rattle.rules.specs.Refusals.{lowest, goesBack, table, orNone, endFor}
-use Rattle.answer.specs.Lines.{numberBehind}
-use Rattle.lines.proofs.TestedLaws.{came}
+use Rattle.rows.specs.Lines.{numberBehind}
+use Rattle.verdicts.proofs.TestedLaws.{came}
 use Rattle.answer.proofs.answer_sound.Statement.{statement}
 use Rattle.answer.proofs.answer_sound.Tie as tie
 

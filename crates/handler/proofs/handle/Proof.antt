@@ -8,7 +8,7 @@ use denote.Ref.{now}
 use borrow.Author.Needs.{needs}
 use Rattle.store.specs.Layout.{storeIn, bytesOf}
 use Rattle.datagram.specs.Datagram.{datagramIn}
-use Rattle.datagram.specs.Output.{atFront}
+use Rattle.emit.specs.Output.{atFront}
 use Rattle.rules.specs.declared.Told.{Told}
 use Rattle.rules.specs.Call.{answerTo, effectIn, nextStore, Answer, accepted, refused, called}
 use Rattle.rules.specs.Call.{callTold, callStore, callOutput}

@@ -1,48 +1,84 @@
 -- By the kind. Assumes nothing.
-use mathlib.Core.Logic.{inl, inr}
+use mathlib.Core.Path.{_≡_, refl}
+use mathlib.Core.Logic.{_⊎_, inl, inr}
+use Prim.Native.Nat.{ℕ, zero, suc, _<_}
 use native.Mathlib.Omega.{arith}
 use borrow.Author.Needs.{needs}
-use borrow.Author.Tests.{ne-eqb}
-use Rattle.wire.specs.Choice.{_or_}
-use Rattle.datagram.specs.Datagram.{sizeOfKind, packetIn, packetFrom, channelFrom}
-use Rattle.datagram.proofs.DatagramLaws.{digest-room}
+use Rattle.wire.specs.Choice.{withNumber}
+use Rattle.datagram.specs.Kind.{body, partsSize, sizeBefore}
+use Rattle.datagram.specs.Datagram.{packetIn, packetFrom, channelFrom}
+use Rattle.datagram.proofs.DatagramLaws.{unknown}
 use Rattle.datagram.proofs.read.channel_in.Statement.{statement}
 use Rattle.datagram.proofs.read.channel_in.Tie as tie
 
+-- the kinds of the last arm: none of the others, and below 6
+two-left : (k : ℕ) → k < 6 → (k ≡ 0 → ⊥) → ((k ≡ 1) ⊎ (k ≡ 3) → ⊥) → (k ≡ 2 → ⊥) → (k ≡ 4) ⊎ (k ≡ 5)
+two-left zero l a b c = absurd (a refl)
+two-left (suc zero) l a b c = absurd (b (inl refl))
+two-left (suc (suc zero)) l a b c = absurd (c refl)
+two-left (suc (suc (suc zero))) l a b c = absurd (b (inr refl))
+two-left (suc (suc (suc (suc zero)))) l a b c = inl refl
+two-left (suc (suc (suc (suc (suc zero))))) l a b c = inr refl
+two-left (suc (suc (suc (suc (suc (suc k)))))) l a b c = absurd (omega arith)
+
+last-two : (c : tie.Then1) → let k = c .before .before .before .args .kind in (k ≡ 4) ⊎ (k ≡ 5)
+last-two c =
+    let none = c .before .match .rest in
+    two-left (c .before .before .before .args .kind) (omega arith) (none .0 .0 .1) (none .0 .1) (none .1)
+
 u32-at-requires : tie.Need-u32-at-requires
-u32-at-requires c κs = omega (arith, digest-room (c .before .before .args .kind))
+unfolding withNumber body partsSize
+u32-at-requires c κs =
+    let o = c .before .before in
+    elim (c .match .keys2) [
+      | inl e ↦ omega (arith, rw e at (o .pre))
+      | inr e ↦ omega (arith, rw e at (o .pre))
+    ]
 
 u32-at-requires-2 : tie.Need-u32-at-requires-2
-unfolding sizeOfKind
-u32-at-requires-2 c κs = omega (arith, rw (c .match .keys2) at (c .before .before .pre))
+unfolding withNumber body partsSize
+u32-at-requires-2 c κs = omega (arith, rw (c .match .keys3) at (c .before .before .pre))
 
 u32-at-requires-3 : tie.Need-u32-at-requires-3
-u32-at-requires-3 c κs = omega (arith, digest-room (c .before .before .args .kind))
+unfolding withNumber body partsSize
+u32-at-requires-3 c κs =
+    let o = c .before .before .before in
+    elim (last-two c) [
+      | inl e ↦ omega (arith, rw e at (o .pre))
+      | inr e ↦ omega (arith, rw e at (o .pre))
+    ]
 
 returns : tie.Need-returns
-unfolding channelFrom _or_
+unfolding withNumber body sizeBefore channelFrom
 returns c =
-    elim (c .before .match .keys1) [
+    elim (c .before .match .keys2) [
       | inl e ↦ rw e (c .u32-at .ensures)
       | inr e ↦ rw e (c .u32-at .ensures)
     ]
 
 returns-2 : tie.Need-returns-2
-unfolding channelFrom _or_ packetFrom packetIn
-returns-2 c = rw (c .before .match .keys2) (c .u32-at2 .ensures)
+unfolding withNumber body sizeBefore channelFrom packetFrom packetIn
+returns-2 c = rw (c .before .match .keys3) (c .u32-at2 .ensures)
 
 returns-3 : tie.Need-returns-3
-unfolding channelFrom _or_ packetFrom packetIn
+unfolding withNumber body sizeBefore channelFrom packetFrom packetIn
 returns-3 c =
-    let k = c .before .before .before .args .kind in
-    let own = c .before .match .rest .0 .1 in
-    let one = ne-eqb k 1 (λ e. own (inl e)) in
-    let three = ne-eqb k 3 (λ e. own (inr e)) in
-    rw (one, three, ne-eqb k 2 (c .before .match .rest .1)) (c .u32-at3 .ensures)
+    elim (last-two (c .before)) [
+      | inl e ↦ rw e (c .u32-at3 .ensures)
+      | inr e ↦ rw e (c .u32-at3 .ensures)
+    ]
+
+returns-4 : tie.Need-returns-4
+unfolding channelFrom
+returns-4 c = rw (unknown (c .before .before .args .kind) (inl (c .match .keys1)))
+
+returns-5 : tie.Need-returns-5
+unfolding channelFrom
+returns-5 c = rw (unknown (c .before .before .before .args .kind) (inr (omega arith)))
 
 pub channel-in-spec : {M : Type 1} → statement M
 channel-in-spec =
     tie.close
     (tie.spec
     u32-at-requires (λ c. search needs) u32-at-requires-2 (λ c. search needs) u32-at-requires-3 returns returns-2
-    returns-3)
+    returns-3 returns-4 returns-5)

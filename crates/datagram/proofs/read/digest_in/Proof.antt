@@ -1,13 +1,16 @@
 -- It is read at its place. Assumes nothing.
 use native.Mathlib.Omega.{arith}
-use Rattle.datagram.specs.Datagram.{digestFrom}
-use Rattle.datagram.proofs.DatagramLaws.{digest-room}
 use borrow.Author.Needs.{needs}
+use Rattle.datagram.specs.Kind.{digestPart, bodyOf, kindOf}
+use Rattle.datagram.specs.Datagram.{digestFrom}
+use Rattle.datagram.proofs.DatagramLaws.{part-room}
 use Rattle.datagram.proofs.read.digest_in.Statement.{statement}
 use Rattle.datagram.proofs.read.digest_in.Tie as tie
 
 digest-at-requires : tie.Need-digest-at-requires
-digest-at-requires c κs = omega (arith, digest-room (c .before .before .args .kind))
+digest-at-requires c κs =
+    let o = c .before .before in
+    omega (arith, part-room digestPart (bodyOf (kindOf (o .args .kind))) (o .pre .0))
 
 returns : tie.Need-returns
 unfolding digestFrom

@@ -1,15 +1,16 @@
 -- It is read at its place. Assumes nothing.
 use native.Mathlib.Omega.{arith}
-use Rattle.datagram.specs.Datagram.{verdictFrom}
-use Rattle.datagram.proofs.DatagramLaws.{verdict-room}
 use borrow.Author.Needs.{needs}
+use Rattle.datagram.specs.Kind.{verdictPart, bodyOf, kindOf}
+use Rattle.datagram.specs.Datagram.{verdictFrom}
+use Rattle.datagram.proofs.DatagramLaws.{part-room}
 use Rattle.datagram.proofs.read.verdict_in.Statement.{statement}
 use Rattle.datagram.proofs.read.verdict_in.Tie as tie
 
 verdict-at-requires : tie.Need-verdict-at-requires
 verdict-at-requires c κs =
     let o = c .before .before in
-    omega (arith, verdict-room (o .args .kind) (o .pre .0))
+    omega (arith, part-room verdictPart (bodyOf (kindOf (o .args .kind))) (o .pre .0))
 
 returns : tie.Need-returns
 unfolding verdictFrom

@@ -1,0 +1,70 @@
+// The records that are handed out, written at the front of the lent output. Each writer returns the record's length.
+use datagram::Packet;
+use datagram::read::DIGEST;
+use datagram::read::FRAME;
+use datagram::read::PACKET;
+use store::End;
+use store::part::put_end;
+use wire::put_digest;
+use wire::put_frame;
+use wire::put_three;
+use wire::put_u64;
+ghost use mathlib.Core.Path.{_≡_};
+ghost use Prim.Native.Nat.{_+_, _≤_};
+ghost use lib.ListN.{length};
+ghost use Rattle.wire.specs.Bytes.{patch};
+ghost use Rattle.store.specs.Limits.{outputLimit};
+ghost use Rattle.datagram.specs.Kind.{packetSize};
+ghost use Rattle.datagram.specs.Emitted.{packetBytes};
+ghost use Rattle.emit.specs.Output.{atFront, packetRecord, writtenRecord, acknowledgedRecord};
+
+// The records by their whole lengths: a packet; an end, a sequence and a digest; a packet and a digest.
+const WITH_PACKET: u32 = (FRAME + PACKET) as u32;
+
+const WRITTEN: u32 = (FRAME + 14 + DIGEST) as u32;
+
+const ACKNOWLEDGED: u32 = (FRAME + PACKET + DIGEST) as u32;
+
+fn put_packet(out: &mut [u8], at: usize, p: Packet)
+    requires { ⌜ at + packetSize ≤ length (now out) ⌝ }
+    ensures { λ _. ⌜ now (out .exit) ≡ patch at (packetBytes p) (now (out .entry)) ⌝ }
+{
+    put_three(out, at, p.sequence, p.timeout.height, p.timeout.time);
+    put_end(out, at + 24, p.source.port, p.source.channel);
+    put_end(out, at + 30, p.destination.port, p.destination.channel);
+    let digest = p.digest;
+    put_digest(out, at + 36, digest);
+}
+
+pub fn emit_packet(out: &mut [u8], kind: u16, p: Packet) -> u32
+    requires { ⌜ outputLimit ≤ length (now out) ⌝ }
+    ensures output { λ _. ⌜ now (out .exit) ≡ atFront (packetRecord kind p) (now (out .entry)) ⌝ }
+    ensures size { λ r. ⌜ r ≡ length (packetRecord kind p) ⌝ }
+{
+    put_frame(out, WITH_PACKET, kind);
+    put_packet(out, FRAME, p);
+    WITH_PACKET
+}
+
+pub fn emit_written(out: &mut [u8], end: End, sequence: u64, digest: [u8; 32]) -> u32
+    requires { ⌜ outputLimit ≤ length (now out) ⌝ }
+    ensures output { λ _. ⌜ now (out .exit) ≡ atFront (writtenRecord end sequence digest) (now (out .entry)) ⌝ }
+    ensures size { λ r. ⌜ r ≡ length (writtenRecord end sequence digest) ⌝ }
+{
+    put_frame(out, WRITTEN, 0x0103);
+    put_end(out, FRAME, end.port, end.channel);
+    put_u64(out, FRAME + 6, sequence);
+    put_digest(out, FRAME + 14, digest);
+    WRITTEN
+}
+
+pub fn emit_acknowledged(out: &mut [u8], p: Packet, digest: [u8; 32]) -> u32
+    requires { ⌜ outputLimit ≤ length (now out) ⌝ }
+    ensures output { λ _. ⌜ now (out .exit) ≡ atFront (acknowledgedRecord p digest) (now (out .entry)) ⌝ }
+    ensures size { λ r. ⌜ r ≡ length (acknowledgedRecord p digest) ⌝ }
+{
+    put_frame(out, ACKNOWLEDGED, 0x0104);
+    put_packet(out, FRAME, p);
+    put_digest(out, FRAME + PACKET, digest);
+    ACKNOWLEDGED
+}

@@ -1,0 +1,94 @@
+// The channel end that acceptance leaves, by the kind of datagram and the channel's ordering.
+use ordering::raises_counter;
+use store::Channel;
+use store::Counters;
+use tables::ordering::is_ordered;
+ghost use mathlib.Core.Path.{_≡_};
+ghost use mathlib.Core.Bool.{true, false};
+ghost use Prim.Native.Nat.{_+_};
+ghost use lib.Dec.{eqb};
+ghost use Rattle.wire.specs.Choice.{_and_, pick};
+ghost use Rattle.store.specs.Limits.{top};
+ghost use Rattle.rules.specs.Ordering.{counted, raisedSend, receivedEnd, acknowledgedEnd, timedOutEnd, isAtTop};
+
+// A counter that rises is below 2^64 - 1: the table's line 19 refused it otherwise.
+fn raised(counter: u64, rises: bool) -> u64
+    requires { ⌜ (rises and eqb counter top) ≡ false ⌝ }
+    ensures { λ r. ⌜ r ≡ pick rises (counter + 1) counter ⌝ }
+{
+    if rises {
+        return counter + 1;
+    }
+    counter
+}
+
+fn with_counters(c: Channel, next: Counters) -> Channel
+    ensures { λ r. ⌜ r ≡ counted c next ⌝ }
+{
+    let own = c.own;
+    let counterparty = c.counterparty;
+    Channel {
+        state: c.state,
+        order: c.order,
+        own: own,
+        counterparty: counterparty,
+        next: next,
+    }
+}
+
+pub fn sent_end(c: Channel) -> Channel
+    requires { ⌜ isAtTop 1 c ≡ false ⌝ }
+    ensures { λ r. ⌜ r ≡ counted c (raisedSend (c .next)) ⌝ }
+{
+    let next = Counters {
+        send: c.next.send + 1,
+        receive: c.next.receive,
+        acknowledge: c.next.acknowledge,
+    };
+    with_counters(c, next)
+}
+
+pub fn received_end(c: Channel) -> Channel
+    requires { ⌜ isAtTop 2 c ≡ false ⌝ }
+    ensures { λ r. ⌜ r ≡ receivedEnd c ⌝ }
+{
+    let receive = raised(c.next.receive, raises_counter(c));
+    let next = Counters {
+        send: c.next.send,
+        receive: receive,
+        acknowledge: c.next.acknowledge,
+    };
+    with_counters(c, next)
+}
+
+pub fn acknowledged_end(c: Channel) -> Channel
+    requires { ⌜ isAtTop 4 c ≡ false ⌝ }
+    ensures { λ r. ⌜ r ≡ acknowledgedEnd c ⌝ }
+{
+    let acknowledge = raised(c.next.acknowledge, raises_counter(c));
+    let next = Counters {
+        send: c.next.send,
+        receive: c.next.receive,
+        acknowledge: acknowledge,
+    };
+    with_counters(c, next)
+}
+
+// An ordered channel becomes CLOSED: no later packet of it can be received in order.
+pub fn timed_out_end(c: Channel) -> Channel
+    ensures { λ r. ⌜ r ≡ timedOutEnd c ⌝ }
+{
+    if !is_ordered(c) {
+        return c;
+    }
+    let own = c.own;
+    let counterparty = c.counterparty;
+    let next = c.next;
+    Channel {
+        state: 4,
+        order: c.order,
+        own: own,
+        counterparty: counterparty,
+        next: next,
+    }
+}

@@ -1,0 +1,15 @@
+-- By the client's height. Assumes nothing.
+use Rattle.rules.specs.Refusals.{isLate}
+use borrow.Author.Needs.{needs}
+use Rattle.heights.proofs.is_late_at_sender.Statement.{statement}
+use Rattle.heights.proofs.is_late_at_sender.Tie as tie
+
+returns : tie.Need-returns
+unfolding isLate
+returns c = λ u. rw (c .is-past-other .ensures, c .before .height-at-sender .ensures)
+
+pub is-late-at-sender-spec : {M : Type 1} → statement M
+is-late-at-sender-spec =
+    tie.close
+    (tie.spec
+    (λ c κs. search needs) (λ c κs. search needs) returns)

@@ -1,2 +1,0 @@
-pub mod FreeLaws
-pub mod TestedLaws

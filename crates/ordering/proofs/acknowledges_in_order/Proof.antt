@@ -1,0 +1,12 @@
+-- By the ordering. Assumes nothing.
+use borrow.Author.Needs.{needs}
+use Rattle.rules.specs.Ordering.{acknowledgesInOrder}
+use Rattle.ordering.proofs.acknowledges_in_order.Statement.{statement}
+use Rattle.ordering.proofs.acknowledges_in_order.Tie as tie
+
+returns : tie.Need-returns
+unfolding acknowledgesInOrder
+returns c = c .if-ordered .ensures
+
+pub acknowledges-in-order-spec : {M : Type 1} → statement M
+acknowledges-in-order-spec = tie.close (tie.spec (λ c κs. search needs) returns)

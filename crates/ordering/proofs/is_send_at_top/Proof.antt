@@ -1,0 +1,12 @@
+-- The test itself. Assumes nothing.
+use mathlib.Core.Path.{refl}
+use Rattle.rules.specs.Ordering.{isAtTop}
+use Rattle.ordering.proofs.is_send_at_top.Statement.{statement}
+use Rattle.ordering.proofs.is_send_at_top.Tie as tie
+
+returns : tie.Need-returns
+unfolding isAtTop
+returns c = refl
+
+pub is-send-at-top-spec : {M : Type 1} → statement M
+is-send-at-top-spec = tie.close (tie.spec returns)

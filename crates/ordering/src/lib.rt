@@ -1,0 +1,117 @@
+// What depends on a channel's ordering: the tests 14 for 5, 15, 16 for 2, 19, and 20 for 2, and whether a counter rises.
+// The store has the test 17, and no other test does.
+use store::Channel;
+use tables::ordering::is_ordered;
+use tables::scan::has_record;
+ghost use mathlib.Core.Path.{_≡_};
+ghost use mathlib.Core.Bool.{true};
+ghost use lib.ListN.{length};
+ghost use Rattle.wire.specs.Choice.{pick};
+ghost use Rattle.store.specs.Layout.{sizeFor, storeIn};
+ghost use Rattle.store.specs.Ordering.{isOrdered};
+ghost use Rattle.rules.specs.Ordering.{receivesInOrder, acknowledgesInOrder, timesOutInOrder, absenceClaim};
+ghost use Rattle.rules.specs.Ordering.{absenceSequence, isReceiptThere, raisesReceive, raisesAcknowledge};
+ghost use Rattle.rules.specs.Ordering.{isAtTop, needsRecord};
+
+const TOP: u64 = 18446744073709551615;
+
+// An ordered channel takes what passes a test; an unordered one takes all.
+fn if_ordered(c: Channel, test: bool) -> bool
+    ensures { λ r. ⌜ r ≡ pick (isOrdered c) test true ⌝ }
+{
+    if is_ordered(c) {
+        return test;
+    }
+    true
+}
+
+// 15, for 2.
+pub fn receives_in_order(c: Channel, sequence: u64) -> bool
+    ensures { λ r. ⌜ r ≡ receivesInOrder c sequence ⌝ }
+{
+    if_ordered(c, sequence == c.next.receive)
+}
+
+// 15, for 4.
+pub fn acknowledges_in_order(c: Channel, sequence: u64) -> bool
+    ensures { λ r. ⌜ r ≡ acknowledgesInOrder c sequence ⌝ }
+{
+    if_ordered(c, sequence == c.next.acknowledge)
+}
+
+// 15, for 5: the next receive that the verdict claims is not above the sequence, so that the packet was not taken.
+pub fn times_out_in_order(c: Channel, sequence: u64, claimed: u64) -> bool
+    ensures { λ r. ⌜ r ≡ timesOutInOrder c sequence claimed ⌝ }
+{
+    if_ordered(c, claimed <= sequence)
+}
+
+// 16, for 2: a receipt is there. Only an unordered channel has any.
+pub fn is_receipt_there(store: &[u8], count: usize, c: Channel, sequence: u64) -> bool
+    requires { ⌜ length (now store) ≡ sizeFor count ⌝ }
+    ensures { λ r. ⌜ r ≡ isReceiptThere (storeIn (now (store .entry)) .records) c sequence ⌝ }
+{
+    if is_ordered(c) {
+        return false;
+    }
+    has_record(store, count, 2, c.own.channel, sequence)
+}
+
+// 14, for 5: what a verdict has to claim of a packet that was not received, next receive or that there is no receipt.
+pub fn absence_claim(c: Channel) -> u16
+    ensures { λ r. ⌜ r ≡ absenceClaim c ⌝ }
+{
+    if is_ordered(c) {
+        return 4;
+    }
+    3
+}
+
+pub fn absence_sequence(c: Channel, sequence: u64, claimed: u64) -> u64
+    ensures { λ r. ⌜ r ≡ absenceSequence c sequence claimed ⌝ }
+{
+    if is_ordered(c) {
+        return claimed;
+    }
+    sequence
+}
+
+// On an ordered channel a receive and an acknowledge raise their counter.
+pub fn raises_counter(c: Channel) -> bool
+    ensures { λ r. ⌜ (r ≡ raisesReceive c) × (r ≡ raisesAcknowledge c) ⌝ }
+{
+    is_ordered(c)
+}
+
+// 19: a counter at its top can't be raised. A send (1) raises one on every channel, a receive (2) and an acknowledge
+// (4) on ordered ones.
+pub fn is_send_at_top(c: Channel) -> bool
+    ensures { λ r. ⌜ r ≡ isAtTop 1 c ⌝ }
+{
+    c.next.send == TOP
+}
+
+pub fn is_receive_at_top(c: Channel) -> bool
+    ensures { λ r. ⌜ r ≡ isAtTop 2 c ⌝ }
+{
+    if is_ordered(c) {
+        return c.next.receive == TOP;
+    }
+    false
+}
+
+pub fn is_acknowledge_at_top(c: Channel) -> bool
+    ensures { λ r. ⌜ r ≡ isAtTop 4 c ⌝ }
+{
+    if is_ordered(c) {
+        return c.next.acknowledge == TOP;
+    }
+    false
+}
+
+// 20, for 2: a receive writes a receipt where it raises no counter.
+pub fn receive_needs_record(c: Channel) -> bool
+    ensures { λ r. ⌜ r ≡ needsRecord 2 c ⌝ }
+{
+    !is_ordered(c)
+}

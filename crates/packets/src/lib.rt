@@ -1,0 +1,100 @@
+// A packet at an end: whether it can have come, over an open connection to an end that it fits, and what the packet
+// records hold of it.
+use datagram::Context;
+use datagram::Packet;
+use heights::same_timeout;
+use store::Channel;
+use store::End;
+use store::Found;
+use store::Record;
+use store::Store;
+use store::Timeout;
+use store::slot::record_at;
+use tables::scan::find_free;
+use tables::scan::find_record;
+use tables::scan::is_found;
+use wire::same_digest;
+ghost use mathlib.Core.Path.{_≡_};
+ghost use mathlib.Core.Bool.{not};
+ghost use mathlib.Core.Option.{some};
+ghost use lib.ListN.{length};
+ghost use Rattle.store.specs.Table.{sameEnd, hasFree};
+ghost use Rattle.store.specs.Layout.{sizeFor, storeIn};
+ghost use Rattle.rules.specs.Verdict.{hasValues};
+ghost use Rattle.rules.specs.Refusals.{fitsPacket, isCommitted};
+
+fn same_end(a: End, b: End) -> bool
+    ensures { λ r. ⌜ r ≡ sameEnd a b ⌝ }
+{
+    if a.port != b.port {
+        return false;
+    }
+    a.channel == b.channel
+}
+
+// 8: the connection is not open.
+pub fn lacks_connection(x: Context) -> bool
+    ensures { λ r. ⌜ r ≡ not (x .connected) ⌝ }
+{
+    !x.connected
+}
+
+// 9, for 2: the end is the packet's destination.
+pub fn fits_destination(c: Channel, p: Packet) -> bool
+    ensures { λ r. ⌜ r ≡ fitsPacket 2 c p ⌝ }
+{
+    if p.destination.port != c.own.port {
+        return false;
+    }
+    let source = p.source;
+    let counterparty = c.counterparty;
+    same_end(source, counterparty)
+}
+
+// 9, for 4 and 5: the end is the packet's source.
+pub fn fits_source(c: Channel, p: Packet) -> bool
+    ensures { λ r. ⌜ (r ≡ fitsPacket 4 c p) × (r ≡ fitsPacket 5 c p) ⌝ }
+{
+    if p.source.port != c.own.port {
+        return false;
+    }
+    let destination = p.destination;
+    let counterparty = c.counterparty;
+    same_end(destination, counterparty)
+}
+
+// 20: a packet record is free.
+pub fn has_free(store: &[u8], count: usize) -> bool
+    requires { ⌜ length (now store) ≡ sizeFor count ⌝ }
+    ensures { λ r. ⌜ r ≡ hasFree (storeIn (now (store .entry)) .records) ⌝ }
+{
+    is_found(find_free(store, count))
+}
+
+fn has_values(timeout: Timeout, digest: [u8; 32], r: Record) -> bool
+    ensures { λ b. ⌜ b ≡ hasValues timeout digest (some r) ⌝ }
+{
+    let stored = r.timeout;
+    if !same_timeout(stored, timeout) {
+        return false;
+    }
+    let kept = r.digest;
+    same_digest(kept, digest)
+}
+
+// 13: the commitment at the packet's source is there, with its timeouts and digest.
+pub fn is_committed(store: &[u8], count: usize, p: Packet) -> bool
+    requires { ⌜ length (now store) ≡ sizeFor count ⌝ }
+    ensures { λ r. ⌜ r ≡ isCommitted (storeIn (now (store .entry)) .records) p ⌝ }
+{
+    let Found::At(i) = find_record(store, count, 1, p.source.channel, p.sequence) else {
+        return false;
+    };
+    let timeout = p.timeout;
+    let digest = p.digest;
+    has_values(
+        timeout,
+        digest,
+        record_at(store, Store::RECORDS_FROM + Store::SLOT * i),
+    )
+}

@@ -1,0 +1,27 @@
+-- The slot at the index that a scan found is the one that an edit is on. Assumes nothing.
+use mathlib.Core.Path.{_≡_, ap}
+use mathlib.Core.List.{List}
+use mathlib.Core.Option.{Option, none, some}
+use Prim.Native.Nat.{ℕ}
+use Rattle.store.specs.declared.Record.{Record}
+use Rattle.store.specs.declared.Found.the-variants.{At}
+use Rattle.store.specs.Table.{Key, hasKey}
+use Rattle.store.specs.Layout.{Store, bytesOf}
+use Rattle.store.specs.Effect.{withRecordSlot}
+use Rattle.store.specs.Scan.{firstThat, firstFree}
+use Rattle.store.proofs.ScanLaws.{set-insert, set-replace}
+use Rattle.rules.specs.Ordering.{writes, frees}
+use Rattle.rules.specs.Acceptance.{edited}
+use Rattle.records.specs.Edited.{withRecords, withEdit}
+
+pub written : (s : Store) (i : ℕ) (r : Record) → firstFree (s .records) ≡ At i →
+    bytesOf (withRecordSlot s i (some r)) ≡ bytesOf (withEdit s (writes r))
+unfolding edited
+written s i r h =
+    ap (λ (rs : List (Option Record)). bytesOf (withRecords s rs)) (set-insert r i (s .records) h)
+
+pub freed : (s : Store) (i : ℕ) (k : Key) → firstThat (hasKey k) (s .records) ≡ At i →
+    bytesOf (withRecordSlot s i none) ≡ bytesOf (withEdit s (frees k))
+unfolding edited
+freed s i k h =
+    ap (λ (rs : List (Option Record)). bytesOf (withRecords s rs)) (set-replace (hasKey k) none i (s .records) h)

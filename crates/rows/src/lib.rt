@@ -1,0 +1,211 @@
+// The answer to each kind of datagram by the lines of the table that are for it, in their order: 0 where none applies.
+// Each function takes the parts of a datagram that its lines look at, and promises the answer for all that have them.
+use datagram::Context;
+use datagram::Packet;
+use datagram::Verdict;
+use heights::is_late_at_receiver;
+use heights::is_late_at_sender;
+use heights::is_no_timeout;
+use heights::is_proved_late;
+use ordering::acknowledges_in_order;
+use ordering::is_acknowledge_at_top;
+use ordering::is_receipt_there;
+use ordering::is_receive_at_top;
+use ordering::is_send_at_top;
+use ordering::receive_needs_record;
+use ordering::receives_in_order;
+use ordering::times_out_in_order;
+use packets::fits_destination;
+use packets::fits_source;
+use packets::has_free;
+use packets::is_committed;
+use packets::lacks_connection;
+use store::Channel;
+use store::Timeout;
+use tables::ordering::is_received;
+use tables::scan::has_record;
+use verdicts::absence_difference;
+use verdicts::acknowledgement_difference;
+use verdicts::commitment_difference;
+use wire::is_zero_digest;
+ghost use mathlib.Core.Path.{_≡_};
+ghost use mathlib.Core.Bool.{not};
+ghost use lib.ListN.{length};
+ghost use Rattle.wire.specs.Choice.{_and_};
+ghost use Rattle.store.specs.Table.{hasFree};
+ghost use Rattle.store.specs.Layout.{Store, sizeFor, storeIn};
+ghost use Rattle.datagram.specs.Datagram.{Datagram};
+ghost use Rattle.rules.specs.Ordering.{needsRecord};
+ghost use Rattle.rows.specs.Lines.{numberBehind};
+
+// Send (1): lines 10, 11, 19 and 20.
+pub fn send_row(store: &[u8], count: usize, x: Context, t: Timeout, c: Channel) -> u8
+    requires { ⌜ length (now store) ≡ sizeFor count ⌝ }
+    ensures { λ r. ⌜
+        ((d : Datagram) → d .context ≡ x → d .timeout ≡ t →
+        r ≡ numberBehind 7 1 (storeIn (now (store .entry))) d c)
+        ⌝ }
+{
+    if is_no_timeout(t) {
+        return 10;
+    }
+    if is_late_at_sender(x, t) {
+        return 11;
+    }
+    if is_send_at_top(c) {
+        return 19;
+    }
+    if !has_free(store, count) {
+        return 20;
+    }
+    0
+}
+
+// Receive (2): lines 8, 9, 11 and 14, then those of `delivery_row`.
+pub fn receive_row(store: &[u8], count: usize, x: Context, p: Packet, v: Verdict, c: Channel) -> u8
+    requires { ⌜ length (now store) ≡ sizeFor count ⌝ }
+    ensures { λ r. ⌜
+        ((d : Datagram) → d .context ≡ x → d .packet ≡ p → d .verdict ≡ v →
+        r ≡ numberBehind 7 2 (storeIn (now (store .entry))) d c)
+        ⌝ }
+{
+    if lacks_connection(x) {
+        return 8;
+    }
+    if !fits_destination(c, p) {
+        return 9;
+    }
+    let timeout = p.timeout;
+    if is_late_at_receiver(x, timeout) {
+        return 11;
+    }
+    if commitment_difference(p, v) != 0 {
+        return 14;
+    }
+    delivery_row(store, count, p, c)
+}
+
+// 20, for 2: a receipt is needed, and there is no room for it.
+fn lacks_record(store: &[u8], count: usize, c: Channel) -> bool
+    requires { ⌜ length (now store) ≡ sizeFor count ⌝ }
+    ensures { λ r. ⌜ r ≡ (needsRecord 2 c and not (hasFree (storeIn (now (store .entry)) .records))) ⌝ }
+{
+    if !receive_needs_record(c) {
+        return false;
+    }
+    !has_free(store, count)
+}
+
+// Lines 15, 16, 19 and 20 of a receive: behind the verdict, what the channel end and the packet records say.
+fn delivery_row(store: &[u8], count: usize, p: Packet, c: Channel) -> u8
+    requires { ⌜ length (now store) ≡ sizeFor count ⌝ }
+    ensures { λ r. ⌜ ((d : Datagram) → d .packet ≡ p → r ≡ numberBehind 14 2 (storeIn (now (store .entry))) d c) ⌝ }
+{
+    if !receives_in_order(c, p.sequence) {
+        return 15;
+    }
+    if is_receipt_there(store, count, c, p.sequence) {
+        return 16;
+    }
+    if is_receive_at_top(c) {
+        return 19;
+    }
+    if lacks_record(store, count, c) {
+        return 20;
+    }
+    0
+}
+
+// Write acknowledgement (3): lines 16, 17, 18 and 20.
+pub fn write_row(store: &[u8], count: usize, sequence: u64, digest: [u8; 32], c: Channel) -> u8
+    requires { ⌜ length (now store) ≡ sizeFor count ⌝ }
+    ensures { λ r. ⌜
+        ((d : Datagram) → d .sequence ≡ sequence → d .digest ≡ digest →
+        r ≡ numberBehind 7 3 (storeIn (now (store .entry))) d c)
+        ⌝ }
+{
+    if has_record(store, count, 3, c.own.channel, sequence) {
+        return 16;
+    }
+    if !is_received(store, count, c, sequence) {
+        return 17;
+    }
+    if is_zero_digest(digest) {
+        return 18;
+    }
+    if !has_free(store, count) {
+        return 20;
+    }
+    0
+}
+
+// Acknowledge (4): lines 8, 9, 13 and 14, then those of `acknowledgement_row`.
+pub fn acknowledge_row(
+    store: &[u8],
+    count: usize,
+    x: Context,
+    p: Packet,
+    digest: [u8; 32],
+    v: Verdict,
+    c: Channel,
+) -> u8
+    requires { ⌜ length (now store) ≡ sizeFor count ⌝ }
+    ensures { λ r. ⌜
+        ((d : Datagram) → d .context ≡ x → d .packet ≡ p → d .digest ≡ digest → d .verdict ≡ v →
+        r ≡ numberBehind 7 4 (storeIn (now (store .entry))) d c)
+        ⌝ }
+{
+    if lacks_connection(x) {
+        return 8;
+    }
+    if !fits_source(c, p) {
+        return 9;
+    }
+    if !is_committed(store, count, p) {
+        return 13;
+    }
+    if acknowledgement_difference(p, digest, v) != 0 {
+        return 14;
+    }
+    acknowledgement_row(p, c)
+}
+
+// Lines 15 and 19 of an acknowledge: behind the verdict, what the channel end says.
+fn acknowledgement_row(p: Packet, c: Channel) -> u8
+    ensures { λ r. ⌜ ((s : Store) (d : Datagram) → d .packet ≡ p → r ≡ numberBehind 14 4 s d c) ⌝ }
+{
+    if !acknowledges_in_order(c, p.sequence) {
+        return 15;
+    }
+    if is_acknowledge_at_top(c) {
+        return 19;
+    }
+    0
+}
+
+// Time out (5): lines 9, 12, 13, 14 and 15.
+pub fn time_out_row(store: &[u8], count: usize, p: Packet, v: Verdict, c: Channel) -> u8
+    requires { ⌜ length (now store) ≡ sizeFor count ⌝ }
+    ensures { λ r. ⌜
+        ((d : Datagram) → d .packet ≡ p → d .verdict ≡ v →
+        r ≡ numberBehind 7 5 (storeIn (now (store .entry))) d c)
+        ⌝ }
+{
+    if !fits_source(c, p) {
+        return 9;
+    }
+    let timeout = p.timeout;
+    if !is_proved_late(timeout, v) {
+        return 12;
+    }
+    if !is_committed(store, count, p) {
+        return 13;
+    }
+    if absence_difference(c, p, v) != 0 {
+        return 14;
+    }
+    if !times_out_in_order(c, p.sequence, v.sequence) {
+        return 15;
+    }
+    0
+}

@@ -1,0 +1,81 @@
+// A verdict against what is needed of it: the part that differs first, 0 where none does.
+use datagram::Packet;
+use datagram::Verdict;
+use heights::no_timeout;
+use heights::same_timeout;
+use ordering::absence_claim;
+use ordering::absence_sequence;
+use store::Channel;
+use store::End;
+use store::Timeout;
+use wire::same_digest;
+ghost use mathlib.Core.Path.{_≡_};
+ghost use Rattle.wire.specs.Bytes.{noDigest};
+ghost use Rattle.store.specs.Height.{noTimeout};
+ghost use Rattle.rules.specs.Verdict.{firstDifference};
+ghost use Rattle.rules.specs.Ordering.{absenceClaim, absenceSequence};
+
+fn first_difference(
+    v: Verdict,
+    claim: u16,
+    end: End,
+    sequence: u64,
+    timeout: Timeout,
+    digest: [u8; 32],
+) -> u8
+    ensures { λ r. ⌜ r ≡ firstDifference v claim end sequence timeout digest ⌝ }
+{
+    if v.claim != claim {
+        return 1;
+    }
+    if v.end.port != end.port {
+        return 2;
+    }
+    if v.end.channel != end.channel {
+        return 3;
+    }
+    if v.sequence != sequence {
+        return 4;
+    }
+    let found = v.timeout;
+    if !same_timeout(found, timeout) {
+        return 5;
+    }
+    let stored = v.digest;
+    if !same_digest(stored, digest) {
+        return 6;
+    }
+    0
+}
+
+// 14, for 2: the commitment at the packet's source.
+pub fn commitment_difference(p: Packet, v: Verdict) -> u8
+    ensures { λ r. ⌜ r ≡ firstDifference v 1 (p .source) (p .sequence) (p .timeout) (p .digest) ⌝ }
+{
+    let source = p.source;
+    let timeout = p.timeout;
+    let digest = p.digest;
+    first_difference(v, 1, source, p.sequence, timeout, digest)
+}
+
+// 14, for 4: the acknowledgement at the packet's destination.
+pub fn acknowledgement_difference(p: Packet, digest: [u8; 32], v: Verdict) -> u8
+    ensures { λ r. ⌜ r ≡ firstDifference v 2 (p .destination) (p .sequence) noTimeout digest ⌝ }
+{
+    let destination = p.destination;
+    first_difference(v, 2, destination, p.sequence, no_timeout(), digest)
+}
+
+// 14, for 5: at the packet's destination, that it was not received.
+pub fn absence_difference(c: Channel, p: Packet, v: Verdict) -> u8
+    ensures { λ r. ⌜
+        r ≡
+        firstDifference v (absenceClaim c) (p .destination) (absenceSequence c (p .sequence) (v .sequence)) noTimeout
+        noDigest
+        ⌝ }
+{
+    let claim = absence_claim(c);
+    let destination = p.destination;
+    let sequence = absence_sequence(c, p.sequence, v.sequence);
+    first_difference(v, claim, destination, sequence, no_timeout(), [0u8; 32])
+}
