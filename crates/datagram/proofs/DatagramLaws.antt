@@ -1,6 +1,6 @@
 -- What a sound datagram tells, and bounds of its parts. Assumes nothing.
 use Rattle.wire.proofs.Prelude.{_≡_, refl, sym, ap, _∙_, true, false, List, [], _∷_, Option, some, _⊎_, inl, inr, ⊎-elim, ℕ}
-use Rattle.wire.proofs.Prelude.{none, _+_, _^_, _≤_, _<_, arith, eqb, length, ltb-true, eqb-true, eq-eqb}
+use Rattle.wire.proofs.Prelude.{none, _+_, _^_, _≤_, _<_, arith, eqb, length, ltb-true, eqb-true, eqb-false, eq-eqb}
 use Rattle.wire.specs.Names.{_or_, isSome, withNumber, Bytes, digestSize}
 use Rattle.wire.proofs.Laws.{and-both, or-either, clash, cases, none-if, some-if, some-is, with-number, same-number, field-below}
 use Rattle.wire.proofs.Laws.{length-part, bytes-part}
@@ -43,12 +43,22 @@ kind-range write = (omega arith, omega arith)
 kind-range acknowledge = (omega arith, omega arith)
 kind-range timeOut = (omega arith, omega arith)
 
-pub unknown : (n : ℕ) → (n ≡ 0) ⊎ (6 ≤ n) → kindOf n ≡ none
-unknown n h =
-    none-if (kindOf n) (λ k e.
-    let q = number-of n k e in
+pub unknown : (n : ℕ) → ((k : Kind) → n ≡ kindNumber k → ⊥) → kindOf n ≡ none
+unknown n h = none-if (kindOf n) (λ k e. h k (number-of n k e))
+
+pub out-of-range : (n : ℕ) → (n ≡ 0) ⊎ (6 ≤ n) → kindOf n ≡ none
+out-of-range n h =
+    unknown n (λ k q.
     let r = kind-range k in
     ⊎-elim (λ z. omega (arith, q, r .0, z)) (λ z. omega (arith, q, r .1, z)) h)
+
+-- a number of a kind that is none of the first three
+pub two-left : (n : ℕ) → n < 6 → (n ≡ 0 → ⊥) → (n ≡ 1 → ⊥) → (n ≡ 2 → ⊥) → (n ≡ 3 → ⊥) → (n ≡ 4) ⊎ (n ≡ 5)
+two-left n l a b c d =
+    cases (eqb n 4) (λ e. inl (eqb-true n 4 e)) (λ e. inr (last n l a b c d (eqb-false n 4 e)))
+  where
+    last : (n : ℕ) → n < 6 → (n ≡ 0 → ⊥) → (n ≡ 1 → ⊥) → (n ≡ 2 → ⊥) → (n ≡ 3 → ⊥) → (n ≡ 4 → ⊥) → n ≡ 5
+    last n l a b c d e = omega arith
 
 -- what holds of every kind holds of a number that has one
 pub by-kind : (P : ℕ → Type 0) → ((k : Kind) → P (kindNumber k)) → (n : ℕ) → isSome (kindOf n) ≡ true → P n

@@ -9,7 +9,7 @@ ghost use Prim.Native.Nat.{_+_};
 ghost use lib.Dec.{eqb};
 ghost use Rattle.wire.specs.Choice.{_and_, pick};
 ghost use Rattle.store.specs.Limits.{top};
-ghost use Rattle.rules.specs.Ordering.{counted, raisedSend, receivedEnd, acknowledgedEnd, timedOutEnd, isAtTop};
+ghost use Rattle.rules.specs.Ordering.{counted, raisedSend, receivedEnd, acknowledgedEnd, timedOutEnd};
 
 // A counter that rises is below 2^64 - 1: the table's line 19 refused it otherwise.
 fn raised(counter: u64, rises: bool) -> u64
@@ -37,7 +37,7 @@ fn with_counters(c: Channel, next: Counters) -> Channel
 }
 
 pub fn sent_end(c: Channel) -> Channel
-    requires { ⌜ isAtTop 1 c ≡ false ⌝ }
+    requires { ⌜ isSendAtTop c ≡ false ⌝ }
     ensures { λ r. ⌜ r ≡ counted c (raisedSend (c .next)) ⌝ }
 {
     let next = Counters {
@@ -49,7 +49,7 @@ pub fn sent_end(c: Channel) -> Channel
 }
 
 pub fn received_end(c: Channel) -> Channel
-    requires { ⌜ isAtTop 2 c ≡ false ⌝ }
+    requires { ⌜ isReceiveAtTop c ≡ false ⌝ }
     ensures { λ r. ⌜ r ≡ receivedEnd c ⌝ }
 {
     let receive = raised(c.next.receive, raises_counter(c));
@@ -62,7 +62,7 @@ pub fn received_end(c: Channel) -> Channel
 }
 
 pub fn acknowledged_end(c: Channel) -> Channel
-    requires { ⌜ isAtTop 4 c ≡ false ⌝ }
+    requires { ⌜ isAcknowledgeAtTop c ≡ false ⌝ }
     ensures { λ r. ⌜ r ≡ acknowledgedEnd c ⌝ }
 {
     let acknowledge = raised(c.next.acknowledge, raises_counter(c));

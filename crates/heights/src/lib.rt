@@ -10,7 +10,7 @@ ghost use Rattle.store.specs.declared.Timeout.{Timeout};
 ghost use Rattle.store.specs.Layout.{Store};
 ghost use Rattle.store.specs.Height.{heightAtSender, heightAtReceiver, isPast, isPastOwn, isPastOther};
 ghost use Rattle.store.specs.Height.{noTimeout, sameTimeout};
-ghost use Rattle.rules.specs.Refusals.{goesBack, isLate, isProvedLate};
+ghost use Rattle.rules.specs.Refusals.{goesBack, isLateAtSender, isLateAtReceiver, isProvedLate};
 
 fn height_at_sender(t: Timeout) -> OtherHeight
     ensures { λ r. ⌜ r ≡ heightAtSender t ⌝ }
@@ -87,7 +87,7 @@ pub fn goes_back(last: OwnHeight, last_time: u64, x: Context) -> bool
 
 // 11, at the sender: by the client's height of the other ledger.
 pub fn is_late_at_sender(x: Context, t: Timeout) -> bool
-    ensures { λ r. ⌜ ((u : Timeout) → r ≡ isLate 1 x t u) ⌝ }
+    ensures { λ r. ⌜ r ≡ isLateAtSender x t ⌝ }
 {
     let client = x.client;
     is_past_other(height_at_sender(t), client)
@@ -95,7 +95,7 @@ pub fn is_late_at_sender(x: Context, t: Timeout) -> bool
 
 // 11, at the receiver: by its own height or time.
 pub fn is_late_at_receiver(x: Context, u: Timeout) -> bool
-    ensures { λ r. ⌜ ((t : Timeout) → r ≡ isLate 2 x t u) ⌝ }
+    ensures { λ r. ⌜ r ≡ isLateAtReceiver x u ⌝ }
 {
     let height = x.height;
     if is_past_own(height_at_receiver(u), height) {

@@ -11,7 +11,8 @@ ghost use Rattle.store.specs.Layout.{sizeFor, storeIn};
 ghost use Rattle.store.specs.Ordering.{isOrdered};
 ghost use Rattle.rules.specs.Ordering.{receivesInOrder, acknowledgesInOrder, timesOutInOrder, absenceClaim};
 ghost use Rattle.rules.specs.Ordering.{absenceSequence, isReceiptThere, raisesReceive, raisesAcknowledge};
-ghost use Rattle.rules.specs.Ordering.{isAtTop, needsRecord};
+ghost use Rattle.datagram.specs.Claim.{claimNumber};
+ghost use Rattle.rules.specs.Ordering.{isSendAtTop, isReceiveAtTop, isAcknowledgeAtTop, needsReceipt};
 
 const TOP: u64 = 18446744073709551615;
 
@@ -59,7 +60,7 @@ pub fn is_receipt_there(store: &[u8], count: usize, c: Channel, sequence: u64) -
 
 // 14, for 5: what a verdict has to claim of a packet that was not received, next receive or that there is no receipt.
 pub fn absence_claim(c: Channel) -> u16
-    ensures { λ r. ⌜ r ≡ absenceClaim c ⌝ }
+    ensures { λ r. ⌜ r ≡ claimNumber (absenceClaim c) ⌝ }
 {
     if is_ordered(c) {
         return 4;
@@ -86,13 +87,13 @@ pub fn raises_counter(c: Channel) -> bool
 // 19: a counter at its top can't be raised. A send (1) raises one on every channel, a receive (2) and an acknowledge
 // (4) on ordered ones.
 pub fn is_send_at_top(c: Channel) -> bool
-    ensures { λ r. ⌜ r ≡ isAtTop 1 c ⌝ }
+    ensures { λ r. ⌜ r ≡ isSendAtTop c ⌝ }
 {
     c.next.send == TOP
 }
 
 pub fn is_receive_at_top(c: Channel) -> bool
-    ensures { λ r. ⌜ r ≡ isAtTop 2 c ⌝ }
+    ensures { λ r. ⌜ r ≡ isReceiveAtTop c ⌝ }
 {
     if is_ordered(c) {
         return c.next.receive == TOP;
@@ -101,7 +102,7 @@ pub fn is_receive_at_top(c: Channel) -> bool
 }
 
 pub fn is_acknowledge_at_top(c: Channel) -> bool
-    ensures { λ r. ⌜ r ≡ isAtTop 4 c ⌝ }
+    ensures { λ r. ⌜ r ≡ isAcknowledgeAtTop c ⌝ }
 {
     if is_ordered(c) {
         return c.next.acknowledge == TOP;
@@ -110,8 +111,8 @@ pub fn is_acknowledge_at_top(c: Channel) -> bool
 }
 
 // 20, for 2: a receive writes a receipt where it raises no counter.
-pub fn receive_needs_record(c: Channel) -> bool
-    ensures { λ r. ⌜ r ≡ needsRecord 2 c ⌝ }
+pub fn needs_receipt(c: Channel) -> bool
+    ensures { λ r. ⌜ r ≡ needsReceipt c ⌝ }
 {
     !is_ordered(c)
 }

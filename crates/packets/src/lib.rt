@@ -21,7 +21,7 @@ ghost use lib.ListN.{length};
 ghost use Rattle.store.specs.Table.{sameEnd, hasFree};
 ghost use Rattle.store.specs.Layout.{sizeFor, storeIn};
 ghost use Rattle.rules.specs.Verdict.{hasValues};
-ghost use Rattle.rules.specs.Refusals.{fitsPacket, isCommitted};
+ghost use Rattle.rules.specs.Refusals.{fitsDestination, fitsSource, isCommitted};
 
 fn same_end(a: End, b: End) -> bool
     ensures { λ r. ⌜ r ≡ sameEnd a b ⌝ }
@@ -41,7 +41,7 @@ pub fn lacks_connection(x: Context) -> bool
 
 // 9, for 2: the end is the packet's destination.
 pub fn fits_destination(c: Channel, p: Packet) -> bool
-    ensures { λ r. ⌜ r ≡ fitsPacket 2 c p ⌝ }
+    ensures { λ r. ⌜ r ≡ fitsDestination c p ⌝ }
 {
     if p.destination.port != c.own.port {
         return false;
@@ -53,7 +53,7 @@ pub fn fits_destination(c: Channel, p: Packet) -> bool
 
 // 9, for 4 and 5: the end is the packet's source.
 pub fn fits_source(c: Channel, p: Packet) -> bool
-    ensures { λ r. ⌜ (r ≡ fitsPacket 4 c p) × (r ≡ fitsPacket 5 c p) ⌝ }
+    ensures { λ r. ⌜ r ≡ fitsSource c p ⌝ }
 {
     if p.source.port != c.own.port {
         return false;

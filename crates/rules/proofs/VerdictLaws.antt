@@ -13,8 +13,8 @@ use Rattle.datagram.specs.Names.{Claim, commitmentPresent, acknowledgementPrese
 use Rattle.datagram.specs.Names.{nextReceiveIs, claimNumber, claimOf}
 use Rattle.rules.specs.Names.{firstDifference, hasValues, isAsStated, holdsOn, claimHolds}
 
-pub record About (v : Verdict) (k : Claim) (e : End) (n : ℕ) (t : Timeout) (d : List ℕ) : Type 0 where
-  pub claim : v .claim ≡ claimNumber k
+pub record About (v : Verdict) (k : ℕ) (e : End) (n : ℕ) (t : Timeout) (d : List ℕ) : Type 0 where
+  pub claim : v .claim ≡ k
   pub end : v .end ≡ e
   pub sequence : v .sequence ≡ n
   pub timeout : v .timeout ≡ t
@@ -32,11 +32,11 @@ passed : (b : Bool) (n m : ℕ) → pick (not b) (suc n) m ≡ 0 → (b ≡ true
 passed true n m h = (refl, h)
 passed false n m h = let z : suc n ≡ 0 = h in absurd (omega arith)
 
-pub about : (v : Verdict) (k : Claim) (e : End) (n : ℕ) (t : Timeout) (d : List ℕ) → firstDifference v k e n t d ≡ 0 →
+pub about : (v : Verdict) (k : ℕ) (e : End) (n : ℕ) (t : Timeout) (d : List ℕ) → firstDifference v k e n t d ≡ 0 →
     About v k e n t d
 unfolding firstDifference
 about v k e n t d h =
-    let a = passed (eqb (v .claim) (claimNumber k)) 0 _ h in
+    let a = passed (eqb (v .claim) k) 0 _ h in
     let b = passed (eqb (v .end .port) (e .port)) 1 _ (a .1) in
     let c = passed (eqb (v .end .channel) (e .channel)) 2 _ (b .1) in
     let f = passed (eqb (v .sequence) n) 3 _ (c .1) in
@@ -46,7 +46,7 @@ about v k e n t d h =
     let q = eqb-true (v .end .channel) (e .channel) (c .0) in
     let w : v .end ≡ e = λ j. record { port = p j; channel = q j } in
     record {
-      claim = eqb-true (v .claim) (claimNumber k) (a .0);
+      claim = eqb-true (v .claim) k (a .0);
       end = w;
       sequence = eqb-true (v .sequence) n (f .0);
       timeout = same-timeout (v .timeout) t (g .0);

@@ -13,7 +13,7 @@ ghost use mathlib.Core.Path.{_≡_};
 ghost use Rattle.wire.specs.Bytes.{noDigest};
 ghost use Rattle.store.specs.Height.{noTimeout};
 ghost use Rattle.rules.specs.Verdict.{firstDifference};
-ghost use Rattle.rules.specs.Ordering.{absenceClaim, absenceSequence};
+ghost use Rattle.rules.specs.Refusals.{commitmentDifference, acknowledgementDifference, absenceDifference};
 
 fn first_difference(
     v: Verdict,
@@ -50,7 +50,7 @@ fn first_difference(
 
 // 14, for 2: the commitment at the packet's source.
 pub fn commitment_difference(p: Packet, v: Verdict) -> u8
-    ensures { λ r. ⌜ r ≡ firstDifference v 1 (p .source) (p .sequence) (p .timeout) (p .digest) ⌝ }
+    ensures { λ r. ⌜ r ≡ commitmentDifference p v ⌝ }
 {
     let source = p.source;
     let timeout = p.timeout;
@@ -60,7 +60,7 @@ pub fn commitment_difference(p: Packet, v: Verdict) -> u8
 
 // 14, for 4: the acknowledgement at the packet's destination.
 pub fn acknowledgement_difference(p: Packet, digest: [u8; 32], v: Verdict) -> u8
-    ensures { λ r. ⌜ r ≡ firstDifference v 2 (p .destination) (p .sequence) noTimeout digest ⌝ }
+    ensures { λ r. ⌜ r ≡ acknowledgementDifference p digest v ⌝ }
 {
     let destination = p.destination;
     first_difference(v, 2, destination, p.sequence, no_timeout(), digest)
@@ -68,11 +68,7 @@ pub fn acknowledgement_difference(p: Packet, digest: [u8; 32], v: Verdict) -> u8
 
 // 14, for 5: at the packet's destination, that it was not received.
 pub fn absence_difference(c: Channel, p: Packet, v: Verdict) -> u8
-    ensures { λ r. ⌜
-        r ≡
-        firstDifference v (absenceClaim c) (p .destination) (absenceSequence c (p .sequence) (v .sequence)) noTimeout
-        noDigest
-        ⌝ }
+    ensures { λ r. ⌜ r ≡ absenceDifference c p v ⌝ }
 {
     let claim = absence_claim(c);
     let destination = p.destination;

@@ -1,12 +1,12 @@
 -- The counter rises, or the end stays. Assumes nothing.
 use borrow.Author.Needs.{needs}
 use Rattle.wire.proofs.Laws.{cases}
-use Rattle.rules.specs.Ordering.{counted, acknowledgedEnd, isAtTop}
+use Rattle.rules.specs.Ordering.{counted, acknowledgedEnd, isAcknowledgeAtTop}
 use Rattle.ends.proofs.acknowledged_end.Statement.{statement}
 use Rattle.ends.proofs.acknowledged_end.Tie as tie
 
 raised-requires : tie.Need-raised-requires
-unfolding isAtTop
+unfolding isAcknowledgeAtTop
 raised-requires c κs = rw (c .raises-counter .ensures .1) (c .before .pre)
 
 returns : tie.Need-returns

@@ -1,12 +1,12 @@
 -- The counter rises, or the end stays. Assumes nothing.
 use borrow.Author.Needs.{needs}
 use Rattle.wire.proofs.Laws.{cases}
-use Rattle.rules.specs.Ordering.{counted, receivedEnd, isAtTop}
+use Rattle.rules.specs.Ordering.{counted, receivedEnd, isReceiveAtTop}
 use Rattle.ends.proofs.received_end.Statement.{statement}
 use Rattle.ends.proofs.received_end.Tie as tie
 
 raised-requires : tie.Need-raised-requires
-unfolding isAtTop
+unfolding isReceiveAtTop
 raised-requires c κs = rw (c .raises-counter .ensures .0) (c .before .pre)
 
 returns : tie.Need-returns

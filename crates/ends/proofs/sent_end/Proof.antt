@@ -3,12 +3,12 @@ use native.Mathlib.Omega.{arith}
 use borrow.Author.Needs.{needs}
 use borrow.Author.Tests.{eqb-false}
 use Rattle.store.specs.Limits.{top}
-use Rattle.rules.specs.Ordering.{isAtTop}
+use Rattle.rules.specs.Ordering.{isSendAtTop}
 use Rattle.ends.proofs.sent_end.Statement.{statement}
 use Rattle.ends.proofs.sent_end.Tie as tie
 
 add-t3 : tie.Need-add-t3
-unfolding isAtTop
+unfolding isSendAtTop
 add-t3 c =
     let z = eqb-false (c .before .args .c .next .send) top (c .before .pre) in
     omega arith

@@ -1,12 +1,12 @@
 -- By the client's height. Assumes nothing.
-use Rattle.rules.specs.Refusals.{isLate}
+use Rattle.rules.specs.Refusals.{isLateAtSender}
 use borrow.Author.Needs.{needs}
 use Rattle.heights.proofs.is_late_at_sender.Statement.{statement}
 use Rattle.heights.proofs.is_late_at_sender.Tie as tie
 
 returns : tie.Need-returns
-unfolding isLate
-returns c = λ u. rw (c .is-past-other .ensures, c .before .height-at-sender .ensures)
+unfolding isLateAtSender
+returns c = rw (c .is-past-other .ensures, c .before .height-at-sender .ensures)
 
 pub is-late-at-sender-spec : {M : Type 1} → statement M
 is-late-at-sender-spec =

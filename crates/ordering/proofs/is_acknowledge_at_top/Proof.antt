@@ -1,16 +1,16 @@
 -- By the ordering. Assumes nothing.
 use Rattle.wire.specs.Choice.{_and_}
-use Rattle.rules.specs.Ordering.{isAtTop, raisesAcknowledge}
+use Rattle.rules.specs.Ordering.{isAcknowledgeAtTop, raisesAcknowledge}
 use borrow.Author.Needs.{needs}
 use Rattle.ordering.proofs.is_acknowledge_at_top.Statement.{statement}
 use Rattle.ordering.proofs.is_acknowledge_at_top.Tie as tie
 
 returns : tie.Need-returns
-unfolding isAtTop raisesAcknowledge _and_
+unfolding isAcknowledgeAtTop raisesAcknowledge _and_
 returns c = rw (← c .before .before .is-ordered .ensures, c .before .if1 .taken)
 
 returns-2 : tie.Need-returns-2
-unfolding isAtTop raisesAcknowledge _and_
+unfolding isAcknowledgeAtTop raisesAcknowledge _and_
 returns-2 c = rw (← c .before .is-ordered .ensures, c .if1 .left)
 
 pub is-acknowledge-at-top-spec : {M : Type 1} → statement M

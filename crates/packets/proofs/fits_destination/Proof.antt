@@ -1,17 +1,17 @@
 -- Own port, then the other end. Assumes nothing.
 use borrow.Author.Tests.{eq-eqb, ne-eqb}
 use Rattle.wire.specs.Choice.{_and_}
-use Rattle.rules.specs.Refusals.{fitsPacket}
+use Rattle.rules.specs.Refusals.{fitsDestination}
 use borrow.Author.Needs.{needs}
 use Rattle.packets.proofs.fits_destination.Statement.{statement}
 use Rattle.packets.proofs.fits_destination.Tie as tie
 
 returns : tie.Need-returns
-unfolding fitsPacket _and_
+unfolding fitsDestination _and_
 returns c = rw (ne-eqb _ _ (c .if1 .taken))
 
 returns-2 : tie.Need-returns-2
-unfolding fitsPacket _and_
+unfolding fitsDestination _and_
 returns-2 c = rw (eq-eqb _ _ (c .before .before .before .if1 .left)) (c .same-end .ensures)
 
 pub fits-destination-spec : {M : Type 1} → statement M

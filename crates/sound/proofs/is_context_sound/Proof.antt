@@ -2,8 +2,7 @@
 use native.Mathlib.Omega.{arith}
 use denote.Ref.{now}
 use Rattle.wire.specs.Choice.{_and_}
-use Rattle.datagram.specs.Datagram.{contextIn}
-use Rattle.sound.specs.Sound.{isContextSound}
+use Rattle.datagram.specs.Datagram.{contextIn, isContextSound}
 use Rattle.sound.proofs.SoundLaws.{getD-there}
 use borrow.Author.Needs.{needs}
 use Rattle.sound.proofs.is_context_sound.Statement.{statement}

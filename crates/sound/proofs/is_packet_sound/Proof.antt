@@ -1,27 +1,29 @@
 -- Each test in turn. Assumes nothing.
 use native.Mathlib.Omega.{arith}
-use Rattle.wire.specs.Choice.{_and_}
-use Rattle.datagram.specs.Datagram.{packetIn, packetFrom, verdictIn, verdictFrom}
-use Rattle.sound.specs.Sound.{isPacketSound}
-use Rattle.datagram.proofs.DatagramLaws.{verdict-room}
 use borrow.Author.Needs.{needs}
+use Rattle.wire.specs.Choice.{_and_}
+use Rattle.datagram.specs.Kind.{kindOf, verdictPart, bodyOf}
+use Rattle.datagram.specs.Datagram.{packetIn, verdictIn, verdictFrom}
+use Rattle.datagram.proofs.DatagramLaws.{part-room}
+use Rattle.sound.specs.Sound.{isPacketSound}
+use Rattle.sound.proofs.SoundLaws.{claim-known}
 use Rattle.sound.proofs.is_packet_sound.Statement.{statement}
 use Rattle.sound.proofs.is_packet_sound.Tie as tie
 
 u16-at-requires : tie.Need-u16-at-requires
 u16-at-requires c κs =
     let o = c .before .before in
-    omega (arith, verdict-room (o .args .kind) (o .pre .0))
+    omega (arith, part-room verdictPart (bodyOf (kindOf (o .args .kind))) (o .pre .0))
 
 u64-at-requires : tie.Need-u64-at-requires
 u64-at-requires c κs =
     let o = c .before .before .before in
-    omega (arith, verdict-room (o .args .kind) (o .pre .0))
+    omega (arith, part-room verdictPart (bodyOf (kindOf (o .args .kind))) (o .pre .0))
 
 returns : tie.Need-returns
-unfolding isPacketSound packetIn packetFrom verdictIn verdictFrom _and_
+unfolding isPacketSound packetIn verdictIn verdictFrom _and_
 returns c =
-    rw (← c .before .before .verdict-place .ensures, ← c .before .u16-at .ensures, ← c .u64-at .ensures)
+    rw (← c .before .before .verdict-place .ensures, ← c .before .u16-at .ensures, ← c .u64-at .ensures, claim-known)
 
 pub is-packet-sound-spec : {M : Type 1} → statement M
 is-packet-sound-spec =

@@ -8,9 +8,9 @@ use lib.ListN.{length}
 use denote.Ref.{now}
 use borrow.Author.Tests.{eq-eqb, ne-eqb}
 use Rattle.wire.specs.Choice.{_and_}
-use Rattle.datagram.specs.Datagram.{sizeOfKind, isSound}
-use Rattle.sound.specs.Sound.{isContextSound, isBodySound}
-use Rattle.datagram.proofs.DatagramLaws.{digest-room}
+use Rattle.datagram.specs.Kind.{kindOf, sizeOf}
+use Rattle.datagram.specs.Datagram.{isContextSound, isSound}
+use Rattle.sound.specs.Sound.{isBodySound}
 use Rattle.sound.proofs.SoundLaws.{whole}
 use borrow.Author.Needs.{needs}
 use Rattle.sound.proofs.is_sound.Statement.{statement}
@@ -23,25 +23,25 @@ module _ (o : tie.Start) where
 
   tests : (o .args .length ≡ length bytes) ×
       (isSound bytes
-      ≡ (eqb (o .args .length) (sizeOfKind (o .args .kind))
-      and (isContextSound bytes and isBodySound (o .args .kind) bytes)))
+      ≡ (eqb (o .args .length) (sizeOf (kindOf (o .args .kind)))
+      and (isContextSound bytes and isBodySound (kindOf (o .args .kind)) bytes)))
   tests = whole bytes (o .pre)
 
-sized : (c : tie.Else1) → let a = c .before .before .before .args in a .length ≡ sizeOfKind (a .kind)
+sized : (c : tie.Else1) → let a = c .before .before .before .args in a .length ≡ sizeOf (kindOf (a .kind))
 sized c = c .if1 .left ∙ c .before .size-of .ensures
 
 returns : tie.Need-returns
 unfolding _and_
 returns c =
     let o = c .before .before .before in
-    let k = sizeOfKind (o .args .kind) in
+    let k = sizeOf (kindOf (o .args .kind)) in
     let other = ne-eqb (o .args .length) k (λ e. c .if1 .taken (e ∙ sym (c .before .size-of .ensures))) in
     rw (tests o .1, other)
 
 is-context-sound-requires : tie.Need-is-context-sound-requires
 is-context-sound-requires c κs =
     let o = c .before .before .before in
-    omega (arith, tests o .0, sized c, digest-room (o .args .kind))
+    omega (arith, tests o .0, sized c)
 
 is-body-sound-requires : tie.Need-is-body-sound-requires
 is-body-sound-requires c κs =
@@ -52,7 +52,7 @@ unfolding _and_
 returns-2 c =
     let e = c .before .before in
     let o = e .before .before .before in
-    let right = eq-eqb (o .args .length) (sizeOfKind (o .args .kind)) (sized e) in
+    let right = eq-eqb (o .args .length) (sizeOf (kindOf (o .args .kind))) (sized e) in
     rw (tests o .1, right, ← c .before .is-context-sound .ensures, ← c .is-body-sound .ensures)
 
 pub is-sound-spec : {M : Type 1} → statement M

@@ -1,9 +1,11 @@
 -- The case of a timeout. Assumes nothing.
 use borrow.Author.Needs.{needs}
+use Rattle.rules.specs.Refusals.{absenceDifference}
 use Rattle.verdicts.proofs.absence_difference.Statement.{statement}
 use Rattle.verdicts.proofs.absence_difference.Tie as tie
 
 returns : tie.Need-returns
+unfolding absenceDifference
 returns c =
     let d = c .before .before in
     rw (

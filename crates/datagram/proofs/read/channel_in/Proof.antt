@@ -1,30 +1,21 @@
 -- By the kind. Assumes nothing.
-use mathlib.Core.Path.{_≡_, refl}
+use mathlib.Core.Path.{_≡_}
 use mathlib.Core.Logic.{_⊎_, inl, inr}
-use Prim.Native.Nat.{ℕ, zero, suc, _<_}
 use native.Mathlib.Omega.{arith}
 use borrow.Author.Needs.{needs}
 use Rattle.wire.specs.Choice.{withNumber}
 use Rattle.datagram.specs.Kind.{body, partsSize, sizeBefore}
 use Rattle.datagram.specs.Datagram.{packetIn, packetFrom, channelFrom}
-use Rattle.datagram.proofs.DatagramLaws.{unknown}
+use Rattle.datagram.proofs.DatagramLaws.{out-of-range, two-left}
 use Rattle.datagram.proofs.read.channel_in.Statement.{statement}
 use Rattle.datagram.proofs.read.channel_in.Tie as tie
 
 -- the kinds of the last arm: none of the others, and below 6
-two-left : (k : ℕ) → k < 6 → (k ≡ 0 → ⊥) → ((k ≡ 1) ⊎ (k ≡ 3) → ⊥) → (k ≡ 2 → ⊥) → (k ≡ 4) ⊎ (k ≡ 5)
-two-left zero l a b c = absurd (a refl)
-two-left (suc zero) l a b c = absurd (b (inl refl))
-two-left (suc (suc zero)) l a b c = absurd (c refl)
-two-left (suc (suc (suc zero))) l a b c = absurd (b (inr refl))
-two-left (suc (suc (suc (suc zero)))) l a b c = inl refl
-two-left (suc (suc (suc (suc (suc zero))))) l a b c = inr refl
-two-left (suc (suc (suc (suc (suc (suc k)))))) l a b c = absurd (omega arith)
-
 last-two : (c : tie.Then1) → let k = c .before .before .before .args .kind in (k ≡ 4) ⊎ (k ≡ 5)
 last-two c =
     let none = c .before .match .rest in
-    two-left (c .before .before .before .args .kind) (omega arith) (none .0 .0 .1) (none .0 .1) (none .1)
+    two-left (c .before .before .before .args .kind) (omega arith) (none .0 .0 .1) (λ e. none .0 .1 (inl e)) (none .1)
+    (λ e. none .0 .1 (inr e))
 
 u32-at-requires : tie.Need-u32-at-requires
 unfolding withNumber body partsSize
@@ -70,11 +61,11 @@ returns-3 c =
 
 returns-4 : tie.Need-returns-4
 unfolding channelFrom
-returns-4 c = rw (unknown (c .before .before .args .kind) (inl (c .match .keys1)))
+returns-4 c = rw (out-of-range (c .before .before .args .kind) (inl (c .match .keys1)))
 
 returns-5 : tie.Need-returns-5
 unfolding channelFrom
-returns-5 c = rw (unknown (c .before .before .before .args .kind) (inr (omega arith)))
+returns-5 c = rw (out-of-range (c .before .before .before .args .kind) (inr (omega arith)))
 
 pub channel-in-spec : {M : Type 1} → statement M
 channel-in-spec =
