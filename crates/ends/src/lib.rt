@@ -9,6 +9,7 @@ ghost use Prim.Native.Nat.{_+_};
 ghost use lib.Dec.{eqb};
 ghost use Rattle.wire.specs.Choice.{_and_, pick};
 ghost use Rattle.store.specs.Limits.{top};
+ghost use Rattle.rules.specs.Ordering.{isSendAtTop, isReceiveAtTop, isAcknowledgeAtTop};
 ghost use Rattle.rules.specs.Ordering.{counted, raisedSend, receivedEnd, acknowledgedEnd, timedOutEnd};
 
 // A counter that rises is below 2^64 - 1: the table's line 19 refused it otherwise.

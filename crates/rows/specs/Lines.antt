@@ -1,13 +1,21 @@
 -- The table of answers behind its first lines: what each function that answers by a part of it promises.
-use mathlib.Core.List.{[]}
+use mathlib.Core.List.{List, [], _∷_}
+use mathlib.Core.Option.{Option}
 use Prim.Native.Nat.{ℕ}
-use lib.ListN.{drop}
+use lib.Dec.{ltb}
+use Rattle.wire.specs.Choice.{pick}
 use Rattle.store.specs.declared.Channel.{Channel}
 use Rattle.store.specs.Layout.{Store}
+use Rattle.datagram.specs.Kind.{Kind}
 use Rattle.datagram.specs.Datagram.{Datagram}
-use Rattle.rules.specs.Refusals.{lowest, table}
+use Rattle.rules.specs.Refusals.{Line, lowest, table}
 
--- the answer by the lines behind the first `lines`. Bytes and room matter to the first three lines alone: behind them
--- the table is the same for all, so these are none
-unfoldable pub numberBehind : (lines kind : ℕ) → Store → Datagram → Channel → ℕ
-numberBehind n k s d c = lowest k (drop n (table [] 0 [] k s d c))
+-- the lines behind those of a number
+unfoldable pub behind : (number : ℕ) → List Line → List Line
+behind n [] = []
+behind n (l ∷ ls) = pick (ltb n (l .place)) (l ∷ ls) (behind n ls)
+
+-- the answer by them. Bytes and room matter to the first three lines alone: behind them the table is the same for all,
+-- so these are none
+unfoldable pub numberBehind : (number : ℕ) → Option Kind → Store → Datagram → Channel → ℕ
+numberBehind n k s d c = lowest k (behind n (table [] 0 [] s d c))

@@ -12,7 +12,7 @@ use ordering::is_acknowledge_at_top;
 use ordering::is_receipt_there;
 use ordering::is_receive_at_top;
 use ordering::is_send_at_top;
-use ordering::receive_needs_record;
+use ordering::needs_receipt;
 use ordering::receives_in_order;
 use ordering::times_out_in_order;
 use packets::fits_destination;
@@ -30,12 +30,14 @@ use verdicts::commitment_difference;
 use wire::is_zero_digest;
 ghost use mathlib.Core.Path.{_≡_};
 ghost use mathlib.Core.Bool.{not};
+ghost use mathlib.Core.Option.{some};
 ghost use lib.ListN.{length};
 ghost use Rattle.wire.specs.Choice.{_and_};
 ghost use Rattle.store.specs.Table.{hasFree};
 ghost use Rattle.store.specs.Layout.{Store, sizeFor, storeIn};
+ghost use Rattle.datagram.specs.Kind.{send, receive, write, acknowledge, timeOut};
 ghost use Rattle.datagram.specs.Datagram.{Datagram};
-ghost use Rattle.rules.specs.Ordering.{needsRecord};
+ghost use Rattle.rules.specs.Ordering.{needsReceipt};
 ghost use Rattle.rows.specs.Lines.{numberBehind};
 
 // Send (1): lines 10, 11, 19 and 20.
@@ -43,7 +45,7 @@ pub fn send_row(store: &[u8], count: usize, x: Context, t: Timeout, c: Channel) 
     requires { ⌜ length (now store) ≡ sizeFor count ⌝ }
     ensures { λ r. ⌜
         ((d : Datagram) → d .context ≡ x → d .timeout ≡ t →
-        r ≡ numberBehind 7 1 (storeIn (now (store .entry))) d c)
+        r ≡ numberBehind 7 (some send) (storeIn (now (store .entry))) d c)
         ⌝ }
 {
     if is_no_timeout(t) {
@@ -66,7 +68,7 @@ pub fn receive_row(store: &[u8], count: usize, x: Context, p: Packet, v: Verdict
     requires { ⌜ length (now store) ≡ sizeFor count ⌝ }
     ensures { λ r. ⌜
         ((d : Datagram) → d .context ≡ x → d .packet ≡ p → d .verdict ≡ v →
-        r ≡ numberBehind 7 2 (storeIn (now (store .entry))) d c)
+        r ≡ numberBehind 7 (some receive) (storeIn (now (store .entry))) d c)
         ⌝ }
 {
     if lacks_connection(x) {
@@ -88,9 +90,9 @@ pub fn receive_row(store: &[u8], count: usize, x: Context, p: Packet, v: Verdict
 // 20, for 2: a receipt is needed, and there is no room for it.
 fn lacks_record(store: &[u8], count: usize, c: Channel) -> bool
     requires { ⌜ length (now store) ≡ sizeFor count ⌝ }
-    ensures { λ r. ⌜ r ≡ (needsRecord 2 c and not (hasFree (storeIn (now (store .entry)) .records))) ⌝ }
+    ensures { λ r. ⌜ r ≡ (needsReceipt c and not (hasFree (storeIn (now (store .entry)) .records))) ⌝ }
 {
-    if !receive_needs_record(c) {
+    if !needs_receipt(c) {
         return false;
     }
     !has_free(store, count)
@@ -99,7 +101,7 @@ fn lacks_record(store: &[u8], count: usize, c: Channel) -> bool
 // Lines 15, 16, 19 and 20 of a receive: behind the verdict, what the channel end and the packet records say.
 fn delivery_row(store: &[u8], count: usize, p: Packet, c: Channel) -> u8
     requires { ⌜ length (now store) ≡ sizeFor count ⌝ }
-    ensures { λ r. ⌜ ((d : Datagram) → d .packet ≡ p → r ≡ numberBehind 14 2 (storeIn (now (store .entry))) d c) ⌝ }
+    ensures { λ r. ⌜ ((d : Datagram) → d .packet ≡ p → r ≡ numberBehind 14 (some receive) (storeIn (now (store .entry))) d c) ⌝ }
 {
     if !receives_in_order(c, p.sequence) {
         return 15;
@@ -121,7 +123,7 @@ pub fn write_row(store: &[u8], count: usize, sequence: u64, digest: [u8; 32], c:
     requires { ⌜ length (now store) ≡ sizeFor count ⌝ }
     ensures { λ r. ⌜
         ((d : Datagram) → d .sequence ≡ sequence → d .digest ≡ digest →
-        r ≡ numberBehind 7 3 (storeIn (now (store .entry))) d c)
+        r ≡ numberBehind 7 (some write) (storeIn (now (store .entry))) d c)
         ⌝ }
 {
     if has_record(store, count, 3, c.own.channel, sequence) {
@@ -152,7 +154,7 @@ pub fn acknowledge_row(
     requires { ⌜ length (now store) ≡ sizeFor count ⌝ }
     ensures { λ r. ⌜
         ((d : Datagram) → d .context ≡ x → d .packet ≡ p → d .digest ≡ digest → d .verdict ≡ v →
-        r ≡ numberBehind 7 4 (storeIn (now (store .entry))) d c)
+        r ≡ numberBehind 7 (some acknowledge) (storeIn (now (store .entry))) d c)
         ⌝ }
 {
     if lacks_connection(x) {
@@ -172,7 +174,7 @@ pub fn acknowledge_row(
 
 // Lines 15 and 19 of an acknowledge: behind the verdict, what the channel end says.
 fn acknowledgement_row(p: Packet, c: Channel) -> u8
-    ensures { λ r. ⌜ ((s : Store) (d : Datagram) → d .packet ≡ p → r ≡ numberBehind 14 4 s d c) ⌝ }
+    ensures { λ r. ⌜ ((s : Store) (d : Datagram) → d .packet ≡ p → r ≡ numberBehind 14 (some acknowledge) s d c) ⌝ }
 {
     if !acknowledges_in_order(c, p.sequence) {
         return 15;
@@ -188,7 +190,7 @@ pub fn time_out_row(store: &[u8], count: usize, p: Packet, v: Verdict, c: Channe
     requires { ⌜ length (now store) ≡ sizeFor count ⌝ }
     ensures { λ r. ⌜
         ((d : Datagram) → d .packet ≡ p → d .verdict ≡ v →
-        r ≡ numberBehind 7 5 (storeIn (now (store .entry))) d c)
+        r ≡ numberBehind 7 (some timeOut) (storeIn (now (store .entry))) d c)
         ⌝ }
 {
     if !fits_source(c, p) {

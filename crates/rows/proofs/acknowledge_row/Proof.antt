@@ -1,13 +1,15 @@
 -- The lines of an acknowledgement, one after another. Assumes nothing.
 use mathlib.Core.Path.{_≡_, sym, _∙_}
+use mathlib.Core.Option.{some}
 use Prim.Native.Nat.{ℕ}
 use denote.Ref.{now}
 use borrow.Author.Needs.{needs}
 use Rattle.wire.specs.Choice.{_or_}
 use Rattle.store.specs.Layout.{storeIn}
+use Rattle.datagram.specs.Kind.{only, acknowledge}
 use Rattle.datagram.specs.Datagram.{Datagram}
-use Rattle.rules.specs.Refusals.{only, lowest, table, verdictDifference}
-use Rattle.rows.specs.Lines.{numberBehind}
+use Rattle.rules.specs.Refusals.{lowest, table}
+use Rattle.rows.specs.Lines.{behind, numberBehind}
 use Rattle.verdicts.proofs.TestedLaws.{came, holds, fails, is-zero, is-not-zero}
 use Rattle.rows.proofs.acknowledge_row.Statement.{statement}
 use Rattle.rows.proofs.acknowledge_row.Tie as tie
@@ -17,46 +19,46 @@ abbrev Left : ℕ → tie.Start → Type 0
 Left n o =
     let a = o .args in
     (d : Datagram) → d .context ≡ a .x → d .packet ≡ a .p → d .digest ≡ a .digest → d .verdict ≡ a .v →
-    numberBehind 7 4 (storeIn (now (a .store))) d (a .c) ≡ numberBehind n 4 (storeIn (now (a .store))) d (a .c)
+    numberBehind 7 (some acknowledge) (storeIn (now (a .store))) d (a .c) ≡ numberBehind n (some acknowledge) (storeIn (now (a .store))) d (a .c)
 
 returns : tie.Need-returns
-unfolding numberBehind table lowest only _or_ verdictDifference
+unfolding numberBehind behind table lowest only _or_
 returns c = λ d x p a v. rw (x, came (c .before .lacks-connection .ensures) (c .if1 .taken))
 
 past-8 : (e : tie.Else1) → Left 8 (e .before .before .before)
-unfolding numberBehind table lowest only _or_ verdictDifference
+unfolding numberBehind behind table lowest only _or_
 past-8 e d x p a v = rw (x, came (e .before .lacks-connection .ensures) (e .if1 .left))
 
 returns-2 : tie.Need-returns-2
-unfolding numberBehind table lowest only _or_ verdictDifference
+unfolding numberBehind behind table lowest only _or_
 returns-2 c =
     λ d x p a v. sym (past-8 (c .before .before) d x p a v ∙
-    rw (p, fails (c .before .fits-source .ensures .0) (c .if2 .taken)))
+    rw (p, fails (c .before .fits-source .ensures) (c .if2 .taken)))
 
 past-9 : (e : tie.Else2) → Left 9 (e .before .before .before .before .before)
-unfolding numberBehind table lowest only _or_ verdictDifference
+unfolding numberBehind behind table lowest only _or_
 past-9 e d x p a v =
-    past-8 (e .before .before) d x p a v ∙ rw (p, holds (e .before .fits-source .ensures .0) (e .if2 .left))
+    past-8 (e .before .before) d x p a v ∙ rw (p, holds (e .before .fits-source .ensures) (e .if2 .left))
 
 returns-3 : tie.Need-returns-3
-unfolding numberBehind table lowest only _or_ verdictDifference
+unfolding numberBehind behind table lowest only _or_
 returns-3 c =
     λ d x p a v. sym (past-9 (c .before .before) d x p a v ∙
     rw (p, fails (c .before .is-committed .ensures) (c .if3 .taken)))
 
 past-13 : (e : tie.Else3) → Left 13 (e .before .before .before .before .before .before .before)
-unfolding numberBehind table lowest only _or_ verdictDifference
+unfolding numberBehind behind table lowest only _or_
 past-13 e d x p a v =
     past-9 (e .before .before) d x p a v ∙ rw (p, holds (e .before .is-committed .ensures) (e .if3 .left))
 
 returns-4 : tie.Need-returns-4
-unfolding numberBehind table lowest only _or_ verdictDifference
+unfolding numberBehind behind table lowest only _or_
 returns-4 c =
     λ d x p a v. sym (past-13 (c .before .before) d x p a v ∙
     rw (p, a, v, is-not-zero (c .before .acknowledgement-difference .ensures) (c .if4 .taken)))
 
 past-14 : (e : tie.Else4) → Left 14 (e .before .before .before .before .before .before .before .before .before)
-unfolding numberBehind table lowest only _or_ verdictDifference
+unfolding numberBehind behind table lowest only _or_
 past-14 e d x p a v =
     past-13 (e .before .before) d x p a v ∙
     rw (p, a, v, is-zero (e .before .acknowledgement-difference .ensures) (e .if4 .left))

@@ -1,13 +1,15 @@
 -- The lines behind the verdict of a receive, one after another. Assumes nothing.
 use mathlib.Core.Path.{_≡_, sym, _∙_}
+use mathlib.Core.Option.{some}
 use Prim.Native.Nat.{ℕ}
 use denote.Ref.{now}
 use borrow.Author.Needs.{needs}
 use Rattle.wire.specs.Choice.{_or_}
 use Rattle.store.specs.Layout.{storeIn}
+use Rattle.datagram.specs.Kind.{only, receive}
 use Rattle.datagram.specs.Datagram.{Datagram}
-use Rattle.rules.specs.Refusals.{only, lowest, table, isInOrder, isThere}
-use Rattle.rows.specs.Lines.{numberBehind}
+use Rattle.rules.specs.Refusals.{lowest, table}
+use Rattle.rows.specs.Lines.{behind, numberBehind}
 use Rattle.verdicts.proofs.TestedLaws.{came, holds, fails}
 use Rattle.rows.proofs.delivery_row.Statement.{statement}
 use Rattle.rows.proofs.delivery_row.Tie as tie
@@ -17,46 +19,46 @@ abbrev Left : ℕ → tie.Start → Type 0
 Left n o =
     let a = o .args in
     (d : Datagram) → d .packet ≡ a .p →
-    numberBehind 14 2 (storeIn (now (a .store))) d (a .c) ≡ numberBehind n 2 (storeIn (now (a .store))) d (a .c)
+    numberBehind 14 (some receive) (storeIn (now (a .store))) d (a .c) ≡ numberBehind n (some receive) (storeIn (now (a .store))) d (a .c)
 
 returns : tie.Need-returns
-unfolding numberBehind table lowest only _or_ isInOrder isThere
+unfolding numberBehind behind table lowest only _or_
 returns c = λ d p. rw (p, fails (c .before .receives-in-order .ensures) (c .if1 .taken))
 
 past-15 : (e : tie.Else1) → Left 15 (e .before .before .before)
-unfolding numberBehind table lowest only _or_ isInOrder isThere
+unfolding numberBehind behind table lowest only _or_
 past-15 e d p = rw (p, holds (e .before .receives-in-order .ensures) (e .if1 .left))
 
 returns-2 : tie.Need-returns-2
-unfolding numberBehind table lowest only _or_ isInOrder isThere
+unfolding numberBehind behind table lowest only _or_
 returns-2 c =
     λ d p. sym (past-15 (c .before .before) d p ∙
     rw (p, came (c .before .is-receipt-there .ensures) (c .if2 .taken)))
 
 past-16 : (e : tie.Else2) → Left 16 (e .before .before .before .before .before)
-unfolding numberBehind table lowest only _or_ isInOrder isThere
+unfolding numberBehind behind table lowest only _or_
 past-16 e d p = past-15 (e .before .before) d p ∙ rw (p, came (e .before .is-receipt-there .ensures) (e .if2 .left))
 
 returns-3 : tie.Need-returns-3
-unfolding numberBehind table lowest only _or_ isInOrder isThere
+unfolding numberBehind behind table lowest only _or_
 returns-3 c =
     λ d p. sym (past-16 (c .before .before) d p ∙ rw (came (c .before .is-receive-at-top .ensures) (c .if3 .taken)))
 
 past-19 : (e : tie.Else3) → Left 19 (e .before .before .before .before .before .before .before)
-unfolding numberBehind table lowest only _or_ isInOrder isThere
+unfolding numberBehind behind table lowest only _or_
 past-19 e d p = past-16 (e .before .before) d p ∙ rw (came (e .before .is-receive-at-top .ensures) (e .if3 .left))
 
 returns-4 : tie.Need-returns-4
-unfolding numberBehind table lowest only _or_ isInOrder isThere
+unfolding numberBehind behind table lowest only _or_
 returns-4 c =
     λ d p. sym (past-19 (c .before .before) d p ∙ rw (came (c .before .lacks-record .ensures) (c .if4 .taken)))
 
 past-20 : (e : tie.Else4) → Left 20 (e .before .before .before .before .before .before .before .before .before)
-unfolding numberBehind table lowest only _or_ isInOrder isThere
+unfolding numberBehind behind table lowest only _or_
 past-20 e d p = past-19 (e .before .before) d p ∙ rw (came (e .before .lacks-record .ensures) (e .if4 .left))
 
 returns-5 : tie.Need-returns-5
-unfolding numberBehind table lowest only _or_ isInOrder isThere
+unfolding numberBehind behind table lowest only _or_
 returns-5 c = λ d p. sym (past-20 c d p)
 
 pub delivery-row-spec : {M : Type 1} → statement M
