@@ -30,7 +30,8 @@ ghost use mathlib.Core.Path.{_≡_};
 ghost use mathlib.Core.Bool.{true};
 ghost use Rattle.store.specs.Layout.{storeIn};
 ghost use Rattle.store.specs.Fit.{isFit};
-ghost use Rattle.datagram.specs.Datagram.{kindIn, datagramIn, isSound};
+ghost use Rattle.datagram.specs.Kind.{kindOf};
+ghost use Rattle.datagram.specs.Datagram.{datagramIn, isSound};
 ghost use Rattle.rules.specs.Refusals.{lowest, refusals, orNone, endFor};
 ghost use Rattle.rows.specs.Lines.{numberBehind};
 ghost use Rattle.answer.specs.Known.{Known};
@@ -67,7 +68,7 @@ fn answer_sound(store: &[u8], datagram: &[u8]) -> u8
     requires { ⌜ (isFit (now store) ≡ true) × (isSound (now datagram) ≡ true) ⌝ }
     ensures { λ r. ⌜
         r ≡
-        numberBehind 3 (kindIn (now (datagram .entry))) (storeIn (now (store .entry)))
+        numberBehind 3 (datagramIn (now (datagram .entry)) .kind) (storeIn (now (store .entry)))
         (datagramIn (now (datagram .entry)))
         (orNone (endFor (storeIn (now (store .entry))) (datagramIn (now (datagram .entry)))))
         ⌝ }
@@ -88,7 +89,9 @@ fn answer_sound(store: &[u8], datagram: &[u8]) -> u8
 // Lines 6 and 7: an open channel end, for all but a time-out, and its port.
 fn answer_on(store: &[u8], count: usize, datagram: &[u8], kind: u16, x: Context, c: Channel) -> u8
     requires { ⌜ Known (now store) count (now datagram) kind x ⌝ }
-    ensures { λ r. ⌜ r ≡ numberBehind 5 kind (storeIn (now (store .entry))) (datagramIn (now (datagram .entry))) c ⌝ }
+    ensures { λ r. ⌜
+        r ≡ numberBehind 5 (kindOf kind) (storeIn (now (store .entry))) (datagramIn (now (datagram .entry))) c
+        ⌝ }
 {
     if (kind != TIME_OUT) & (c.state != OPEN) {
         return 6;
@@ -109,7 +112,9 @@ fn answer_by_kind(
     c: Channel,
 ) -> u8
     requires { ⌜ Known (now store) count (now datagram) kind x ⌝ }
-    ensures { λ r. ⌜ r ≡ numberBehind 7 kind (storeIn (now (store .entry))) (datagramIn (now (datagram .entry))) c ⌝ }
+    ensures { λ r. ⌜
+        r ≡ numberBehind 7 (kindOf kind) (storeIn (now (store .entry))) (datagramIn (now (datagram .entry))) c
+        ⌝ }
 {
     match kind {
         0 | 6..=65535 => 3,

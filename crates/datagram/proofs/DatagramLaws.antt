@@ -29,6 +29,17 @@ pub is-of : (j : Kind) (x : Option Kind) → isOf j x ≡ true → x ≡ some j
 is-of j none h = clash {b = false} h refl
 is-of j (some k) h = ap some (sym (same-number kindNumber kinds kind-of j k h))
 
+-- whether a number is a kind's
+pub of-number : (j : Kind) (n : ℕ) → isOf j (kindOf n) ≡ eqb n (kindNumber j)
+of-number j n =
+    cases (eqb n (kindNumber j))
+    (λ e.
+    let q : kindOf n ≡ some j = ap (λ (m : ℕ). kindOf m) (eqb-true n (kindNumber j) e) ∙ kind-of j in
+    ap (isOf j) q ∙ eq-eqb (kindNumber j) (kindNumber j) refl ∙ sym e)
+    (λ e.
+    cases (isOf j (kindOf n))
+    (λ f. absurd (eqb-false n (kindNumber j) e (number-of n j (is-of j (kindOf n) f)))) (λ f. f ∙ sym e))
+
 -- a datagram is not of two kinds
 pub kinds-apart {ℓ} : {A : Type ℓ} {x : Option Kind} (j k : Kind) → x ≡ some j → x ≡ some k → isKind j k ≡ false → A
 kinds-apart j k p q n =

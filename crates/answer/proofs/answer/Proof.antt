@@ -4,10 +4,10 @@ use denote.Ref.{now}
 use borrow.Author.Needs.{needs}
 use borrow.Author.Tests.{lt-ltb, le-ltb}
 use Rattle.store.specs.Layout.{storeIn}
-use Rattle.datagram.specs.Datagram.{kindIn, datagramIn}
+use Rattle.datagram.specs.Datagram.{datagramIn}
 use Rattle.sound.proofs.SoundLaws.{malformed}
 use Rattle.rules.specs.Refusals.{lowest, table, refusals, orNone, endFor}
-use Rattle.rows.specs.Lines.{numberBehind}
+use Rattle.rows.specs.Lines.{behind, numberBehind}
 use Rattle.verdicts.proofs.TestedLaws.{holds, fails}
 use Rattle.answer.proofs.answer.Statement.{statement}
 use Rattle.answer.proofs.answer.Tie as tie
@@ -59,8 +59,8 @@ past : (e : tie.Else3) →
     let s = storeIn (now (a .store)) in
     let d = datagramIn (now (a .datagram)) in
     lowest (d .kind) (refusals (now (a .store)) (a .room) (now (a .datagram))) ≡
-    numberBehind 3 (kindIn (now (a .datagram))) s d (orNone (endFor s d))
-unfolding numberBehind table lowest datagramIn
+    numberBehind 3 (d .kind) s d (orNone (endFor s d))
+unfolding numberBehind behind table lowest
 past e =
     let e2 = e .before .before .before .before .before .before in
     let e1 = e2 .before in

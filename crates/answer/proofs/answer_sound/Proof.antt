@@ -18,10 +18,11 @@ use Rattle.store.proofs.FitLaws.{Sized, fits-size}
 use Rattle.store.proofs.HeldLaws.{fit-exact}
 use Rattle.store.proofs.ScanLaws.{find-nothing, channel-found}
 use Rattle.store.proofs.SlotTestLaws.{channel-index}
-use Rattle.datagram.specs.Datagram.{bodyFrom, kindIn, contextIn, sizeOfKind, channelFrom, datagramIn}
-use Rattle.datagram.proofs.DatagramLaws.{sound-is, digest-room}
+use Rattle.datagram.specs.Kind.{kindOf, bodyFrom, sizeOf}
+use Rattle.datagram.specs.Datagram.{kindIn, contextIn, channelFrom, datagramIn}
+use Rattle.datagram.proofs.DatagramLaws.{sound-is}
 use Rattle.rules.specs.Refusals.{lowest, goesBack, table, orNone, endFor}
-use Rattle.rows.specs.Lines.{numberBehind}
+use Rattle.rows.specs.Lines.{behind, numberBehind}
 use Rattle.verdicts.proofs.TestedLaws.{came}
 use Rattle.answer.proofs.answer_sound.Statement.{statement}
 use Rattle.answer.proofs.answer_sound.Tie as tie
@@ -37,11 +38,11 @@ module _ (o : tie.Start) where
   sized : Sized (length bytes)
   sized = fits-size (length bytes) (fit-exact bytes (o .pre .0) .size)
 
-  long : sizeOfKind (kindIn sent) ≤ length sent
+  long : sizeOf (kindOf (kindIn sent)) ≤ length sent
   long = omega (arith, sound-is sent (o .pre .1) .size)
 
   body : bodyFrom ≤ length sent
-  body = omega (arith, long, digest-room (kindIn sent))
+  body = omega (arith, long)
 
 -- THE CLOCK
 abbrev start : tie.After-goes-back → tie.Start
@@ -67,7 +68,7 @@ unfolding datagramIn
 scanned f =
     let b = sent (start (tested f)) in
     let kind = f .before .before .kind-in .ensures in
-    let number = f .before .channel-in .ensures ∙ ap (λ (k : ℕ). channelFrom k b) kind in
+    let number = f .before .channel-in .ensures ∙ ap (λ (k : ℕ). channelFrom (kindOf k) b) kind in
     rw (← number) (f .find-channel .ensures)
 
 abbrev index : tie.After-known-told → ℕ
@@ -94,7 +95,7 @@ u64-at-requires-2 : tie.Need-u64-at-requires-2
 u64-at-requires-2 c κs = omega (arith, sized (c .before .before .before .before) .whole)
 
 returns : tie.Need-returns
-unfolding numberBehind table lowest datagramIn
+unfolding numberBehind behind table lowest datagramIn
 returns c = rw (came (clock (c .before)) (c .if1 .taken))
 
 kind-in-requires : tie.Need-kind-in-requires
@@ -107,7 +108,7 @@ find-channel-requires : tie.Need-find-channel-requires
 find-channel-requires c κs = omega (arith, sized (start (c .before .before .before)) .whole)
 
 returns-2 : tie.Need-returns-2
-unfolding numberBehind table lowest datagramIn
+unfolding numberBehind behind table lowest datagramIn
 returns-2 c =
     let f = c .before .before in
     let o = start (tested f) in
@@ -144,9 +145,8 @@ past : (k : tie.After-channel-at) →
     let o = origin (k .before) in
     let s = storeIn (bytes o) in
     let d = datagramIn (sent o) in
-    numberBehind 3 (kindIn (sent o)) s d (orNone (endFor s d)) ≡
-    numberBehind 5 (kindIn (sent o)) s d (k .channel-at .result)
-unfolding numberBehind table lowest datagramIn
+    numberBehind 3 (d .kind) s d (orNone (endFor s d)) ≡ numberBehind 5 (d .kind) s d (k .channel-at .result)
+unfolding numberBehind behind table lowest datagramIn
 past k =
     let f = k .before .before .before .before in
     let o = origin (k .before) in
@@ -156,12 +156,13 @@ past k =
     rw (came (clock (tested f)) (f .before .before .before .if1 .left), there)
 
 returns-3 : tie.Need-returns-3
+unfolding datagramIn
 returns-3 c =
     let k = c .before in
     let o = origin (k .before) in
     let kind = k .before .before .before .before .before .before .kind-in .ensures in
     c .answer-on .ensures ∙
-    ap (λ (n : ℕ). numberBehind 5 n (storeIn (bytes o)) (datagramIn (sent o)) (k .channel-at .result)) kind ∙
+    ap (λ (n : ℕ). numberBehind 5 (kindOf n) (storeIn (bytes o)) (datagramIn (sent o)) (k .channel-at .result)) kind ∙
     sym (past k)
 
 pub answer-sound-spec : {M : Type 1} → statement M
