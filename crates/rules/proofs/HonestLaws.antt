@@ -2,14 +2,16 @@
 -- look at is compared with what they look at of the others. Assumes nothing.
 use Rattle.wire.proofs.Prelude.{_≡_, refl, sym, ap, subst, _∙_, Bool, true, false, not, List, [], _∷_, map, ℕ, zero, suc}
 use Rattle.wire.proofs.Prelude.{_≤_, _<_, Option, none, some, getElem?, drop, arith, leb, ltb, leb-true, ltb-true}
-use Rattle.wire.proofs.Prelude.{le-leb, eqb, not-true, ⊎-elim}
+use Rattle.wire.proofs.Prelude.{le-leb, eq-eqb, not-true, ⊎-elim}
+use borrow.Author.Tests.{lt-leb}
 use Rattle.wire.specs.Names.{_and_, _or_, pick, Every}
-use Rattle.wire.proofs.Laws.{and-both, both-and, or-either, clash, cases}
+use Rattle.wire.proofs.Laws.{and-both, both-and, or-either, clash}
 use Rattle.store.specs.Names.{storeIn}
 use Rattle.datagram.specs.declared.Verdict.{Verdict}
 use Rattle.datagram.specs.Names.{kindIn, isProved}
-use Rattle.rules.specs.Names.{claimHolds, Side, first, second, across, isSide, Call, At, storeAfter, isAccepted}
-use Rattle.rules.specs.Names.{verdictOf, heightOf, timeOf, AcceptedOn, isUpTo, True, Honest}
+use Rattle.rules.specs.Names.{claimHolds, Side, across, isSide, Call, At, storeAfter, isAccepted}
+use Rattle.rules.specs.Names.{verdictOf, heightOf, timeOf, AcceptedOn, isUpTo, Honest}
+use Rattle.rules.proofs.History.{side-refl}
 
 -- each element passes a test
 abbrev pub areAll : {A : Type 0} → (A → Bool) → List A → Bool
@@ -41,13 +43,6 @@ map-at f [] i x e = let z : _≡_ {A = ℕ} 0 1 = cc in absurd (omega arith)
 map-at f (y ∷ xs) zero x e = let z : y ≡ x = cc in ap (λ y. some (f y)) z
 map-at f (y ∷ xs) (suc i) x e = map-at f xs i x e
 
-side-same : (z : Side) → isSide z z ≡ true
-side-same first = refl
-side-same second = refl
-
-above : (n m : ℕ) → m < n → leb n m ≡ false
-above n m l = cases (leb n m) (λ h. let k = leb-true n m h in absurd (omega arith)) (λ h. h)
-
 -- WHAT IS SEEN of a verdict: its block, and whether its claim holds there; and of a call
 pub record Block : Type 0 where
   pub height : ℕ
@@ -69,9 +64,14 @@ isOf z x = isSide z (x .side) and x .accepted
 abbrev isClosed : Side → Block → Seen → Bool
 isClosed z b x = not (isOf z x) or ltb (b .height) (x .height)
 
+abbrev isNotBelow : Block → Seen → Bool
+isNotBelow b x = leb (x .time) (b .time)
+
+abbrev isNotAbove : Block → Seen → Bool
+isNotAbove b x = leb (b .time) (x .time)
+
 abbrev fitsTime : Side → Block → Seen → Bool
-fitsTime z b x =
-    not (isOf z x) or (pick (leb (x .height) (b .height)) (leb (x .time) (b .time)) (leb (b .time) (x .time)))
+fitsTime z b x = not (isOf z x) or pick (leb (x .height) (b .height)) (isNotBelow b x) (isNotAbove b x)
 
 abbrev isTrue : (all behind : List Seen) → Side → Option Block → Bool
 isTrue xs ys z none = true
@@ -92,13 +92,10 @@ true-at all (y ∷ xs) zero x h e =
 true-at all (y ∷ xs) (suc i) x h e = true-at all xs i x (and-both h .1) e
 
 module _ (start : Side → List ℕ) (cs : List Call) where
-  abbrev pub carries : Call → Bool
-  carries c = isAccepted c and isProved (kindIn (c .datagram))
-
-  abbrev pub claims : Side → Verdict → Bool
+  abbrev claims : Side → Verdict → Bool
   claims z v = claimHolds v (storeIn (storeAfter (isUpTo z (v .height)) (start z) cs))
 
-  abbrev pub blockOf : Bool → Side → Verdict → Option Block
+  abbrev blockOf : Bool → Side → Verdict → Option Block
   blockOf false z v = none
   blockOf true z v = some (record { height = v .height .0; time = v .time; holds = claims z v })
 
@@ -109,48 +106,49 @@ module _ (start : Side → List ℕ) (cs : List Call) where
         accepted = isAccepted c;
         height = heightOf c .0;
         time = timeOf c;
-        block = blockOf (carries c) (across (c .side)) (verdictOf c);
+        block = blockOf (isAccepted c and isProved (kindIn (c .datagram))) (across (c .side)) (verdictOf c);
       }
-
-  accepted-of : (z : Side) (j : ℕ) (e : Call) → AcceptedOn z cs j e → isOf z (seen e) ≡ true
-  accepted-of z j e a =
-      both-and (subst (λ (y : Side). isSide y (e .side) ≡ true) (a .side) (side-same (e .side)))
-      (ap (λ (n : ℕ). eqb n 0) (a .told))
 
   -- what the test says of an accepted call
   tested : (z : Side) (j : ℕ) (e : Call) (b : Bool) → AcceptedOn z cs j e → (not (isOf z (seen e)) or b) ≡ true →
       b ≡ true
-  tested z j e b a h = ⊎-elim (λ n. clash (accepted-of z j e a) (not-true (isOf z (seen e)) n)) (λ x. x) (or-either h)
-
-  true-seen : (i : ℕ) (z : Side) (v : Verdict) →
-      isTrue (map seen cs) (drop (suc i) (map seen cs)) z (blockOf true z v) ≡ true →
-      True start cs i z v
-  true-seen i z v h =
-      record {
-        closed = λ j e a l.
-            ltb-true (v .height .0) (heightOf e .0)
-            (tested z j e (ltb (v .height .0) (heightOf e .0)) a
-            (all-behind (isClosed z block) (map seen cs) i j (seen e) (and-both (and-both h .0) .1) l
-            (map-at seen cs j e (a .at))));
-        notBelow = λ j e a l. leb-true (timeOf e) (v .time) (times j e a true (le-leb _ _ l));
-        notAbove = λ j e a l. leb-true (v .time) (timeOf e) (times j e a false (above _ _ l));
-        holds = and-both (and-both h .0) .0;
-      }
-    where
-      block : Block
-      block = record { height = v .height .0; time = v .time; holds = claims z v }
-
-      times : (j : ℕ) (e : Call) → AcceptedOn z cs j e → (b : Bool) → leb (heightOf e .0) (v .height .0) ≡ b →
-          pick b (leb (timeOf e) (v .time)) (leb (v .time) (timeOf e)) ≡ true
-      times j e a b q =
-          subst (λ (b : Bool). pick b (leb (timeOf e) (v .time)) (leb (v .time) (timeOf e)) ≡ true) q
-          (tested z j e _ a
-          (all-at (fitsTime z block) (map seen cs) j (seen e) (and-both h .1) (map-at seen cs j e (a .at))))
+  tested z j e b a h =
+      let o : isOf z (seen e) ≡ true =
+      both-and (subst (λ (y : Side). isSide y (e .side) ≡ true) (a .side) (side-refl (e .side)))
+      (eq-eqb (e .told .number) 0 (a .told)) in
+      ⊎-elim (λ n. clash o (not-true (isOf z (seen e)) n)) (λ x. x) (or-either h)
 
   pub honest-seen : isHonest (map seen cs) ≡ true → Honest start cs
   honest-seen h i c at a p =
-      let z = across (c .side) in
-      let v = verdictOf c in
-      true-seen i z v
-      (subst (λ (b : Bool). isTrue (map seen cs) (drop (suc i) (map seen cs)) z (blockOf b z v) ≡ true) (both-and a p)
-      (true-at (map seen cs) (map seen cs) i (seen c) h (map-at seen cs i c at)))
+      record {
+        closed = λ j e k l. let n = later j e k l in omega arith;
+        notBelow = λ j e k l. let n = leb-true (timeOf e) (v .time) (times j e k true (le-leb _ _ l)) in omega arith;
+        notAbove = λ j e k l. let n = leb-true (v .time) (timeOf e) (times j e k false (lt-leb _ _ l)) in omega arith;
+        holds = and-both (and-both t .0) .0;
+      }
+    where
+      z : Side
+      z = across (c .side)
+
+      v : Verdict
+      v = verdictOf c
+
+      block : Block
+      block = record { height = v .height .0; time = v .time; holds = claims z v }
+
+      t : isTrue (map seen cs) (drop (suc i) (map seen cs)) z (some block) ≡ true
+      t = subst (λ (b : Bool). isTrue (map seen cs) (drop (suc i) (map seen cs)) z (blockOf b z v) ≡ true)
+          (both-and a p) (true-at (map seen cs) (map seen cs) i (seen c) h (map-at seen cs i c at))
+
+      later : (j : ℕ) (e : Call) → AcceptedOn z cs j e → i < j → v .height .0 < heightOf e .0
+      later j e k l =
+          ltb-true _ _ (tested z j e _ k
+          (all-behind (isClosed z block) (map seen cs) i j (seen e) (and-both (and-both t .0) .1) l
+          (map-at seen cs j e (k .at))))
+
+      times : (j : ℕ) (e : Call) → AcceptedOn z cs j e → (b : Bool) → leb (heightOf e .0) (v .height .0) ≡ b →
+          pick b (isNotBelow block (seen e)) (isNotAbove block (seen e)) ≡ true
+      times j e k b q =
+          subst (λ (b : Bool). pick b (isNotBelow block (seen e)) (isNotAbove block (seen e)) ≡ true) q
+          (tested z j e _ k
+          (all-at (fitsTime z block) (map seen cs) j (seen e) (and-both t .1) (map-at seen cs j e (k .at))))

@@ -54,16 +54,15 @@ aVerdict k b p c n h t d =
 unfoldable pub aSend : (context : List ℕ) → (channel height time : ℕ) → List ℕ
 aSend x c h t = framed 1 (x ++ little 4 c ++ little 8 h ++ little 8 t ++ aDigest)
 
--- its verdict matches
-unfoldable pub receiveOf : (context block : List ℕ) → Packet → List ℕ
-receiveOf x b p =
+-- its verdict has this digest
+unfoldable pub receiveOf : (context block : List ℕ) → Packet → (digest : List ℕ) → List ℕ
+receiveOf x b p d =
     framed 2 (x ++ packetBytes p ++
-    aVerdict 1 b (p .source .port) (p .source .channel) (p .sequence) (p .timeout .height) (p .timeout .time) aDigest)
+    aVerdict 1 b (p .source .port) (p .source .channel) (p .sequence) (p .timeout .height) (p .timeout .time) d)
 
 unfoldable pub aWrite : (context : List ℕ) → (channel sequence : ℕ) → (digest : List ℕ) → List ℕ
 aWrite x c n d = framed 3 (x ++ little 4 c ++ little 8 n ++ d)
 
--- its verdict has this digest
 unfoldable pub acknowledgeOf : (context block : List ℕ) → Packet → (digest : List ℕ) → List ℕ
 acknowledgeOf x b p d =
     framed 4 (x ++ packetBytes p ++ anAnswer ++

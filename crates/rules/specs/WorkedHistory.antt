@@ -8,8 +8,8 @@ use Rattle.datagram.specs.declared.Packet.{Packet}
 use Rattle.rules.specs.Promise.{Side, first, second, Call, Run, Made, Paired, Honest, howMany, emits, isSend}
 use Rattle.rules.specs.Promise.{isDelivery, isAcknowledgement, isTimeout}
 use Rattle.rules.specs.Statements.{Request, calls}
-use Rattle.rules.specs.Examples.{aSlice, anOpening, openings, aContext, anAnswer, aPacket, aBlock, aSend}
-use Rattle.rules.specs.Examples.{receiveOf, aWrite, acknowledgeOf, timeoutOf, anOutput}
+use Rattle.rules.specs.Examples.{aSlice, anOpening, openings, aContext, aDigest, anAnswer, aPacket}
+use Rattle.rules.specs.Examples.{aBlock, aSend, receiveOf, aWrite, acknowledgeOf, timeoutOf, anOutput}
 
 -- THE STORES: on the second ledger port 6 owns channel 9 (ordered, to 5/7) and 10 (unordered, to 5/8)
 unfoldable pub openingsOn : Side → List ℕ
@@ -40,14 +40,14 @@ unfoldable pub requests : List Request
 requests =
     atFirst 100 1000 (λ x. aSend x 7 300 0) ∷
     atFirst 100 1000 (λ x. aSend x 8 205 0) ∷
-    atSecond 200 1000 (λ x. receiveOf x (aBlock 100 1000) acknowledgedOne) ∷
+    atSecond 200 1000 (λ x. receiveOf x (aBlock 100 1000) acknowledgedOne aDigest) ∷
     atSecond 200 1000 (λ x. aWrite x 9 1 anAnswer) ∷
     -- it comes too late, and is refused
-    atSecond 205 1005 (λ x. receiveOf x (aBlock 100 1000) timedOutOne) ∷
+    atSecond 205 1005 (λ x. receiveOf x (aBlock 100 1000) timedOutOne aDigest) ∷
     atFirst 101 1010 (λ x. acknowledgeOf x (aBlock 200 1000) acknowledgedOne anAnswer) ∷
     atFirst 101 1010 (λ x. timeoutOf x (aBlock 205 1005) timedOutOne 3 1) ∷
     atSecond 206 1006 (λ x. aSend x 10 0 2000) ∷
-    atFirst 102 1020 (λ x. receiveOf x (aBlock 206 1006) deliveredOne) ∷ []
+    atFirst 102 1020 (λ x. receiveOf x (aBlock 206 1006) deliveredOne aDigest) ∷ []
 
 abbrev pub history : List Call
 history = calls stores requests
