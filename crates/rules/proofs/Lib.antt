@@ -15,7 +15,9 @@ pub mod Pairing
 pub mod Delivery
 pub mod Block
 pub mod Truth
+pub mod HonestLaws
 pub mod CaseLaws
 pub mod Demand3
 pub mod Stays
 pub mod Computed
+pub mod WorkedHistoryLaws

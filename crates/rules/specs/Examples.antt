@@ -1,0 +1,78 @@
+-- Openings, packets and datagrams for examples, in the layouts of document 01.
+use mathlib.Core.List.{List, [], _∷_, _++_}
+use Prim.Native.Nat.{ℕ}
+use lib.ListN.{replicate}
+use Rattle.wire.specs.Bytes.{little, noDigest}
+use Rattle.store.specs.Limits.{outputLimit}
+use Rattle.store.specs.Layout.{sizeFor}
+use Rattle.datagram.specs.declared.Packet.{Packet}
+use Rattle.datagram.specs.Emitted.{framed, packetBytes}
+
+-- FOR THE MAKER: a slice with room for two packet records, and openings
+unfoldable pub aSlice : List ℕ
+aSlice = replicate (sizeFor 2) 9
+
+unfoldable pub anOpening : (port channel otherPort otherChannel order : ℕ) → List ℕ
+anOpening p c q e o =
+    little 4 20 ++ little 2 0x0010 ++ little 2 p ++ little 4 c ++ little 2 q ++ little 4 e ++ (o ∷ 0 ∷ [])
+
+-- port 5 owns channel 7 (ordered, to 6/9) and 8 (unordered, to 6/10)
+unfoldable pub openings : List ℕ
+openings = anOpening 5 7 6 9 1 ++ anOpening 5 8 6 10 2
+
+-- PARTS OF DATAGRAMS
+unfoldable pub aContext : (height time port connection : ℕ) → List ℕ
+aContext h t p k = little 8 h ++ little 8 t ++ little 8 50 ++ little 2 p ++ (k ∷ replicate 5 0)
+
+-- of a packet's data, and of an acknowledgement
+unfoldable pub aDigest : List ℕ
+aDigest = 1 ∷ replicate 31 0
+
+unfoldable pub anAnswer : List ℕ
+anAnswer = 2 ∷ replicate 31 0
+
+unfoldable pub aPacket : (sequence height time sourcePort source destinationPort destination : ℕ) → Packet
+aPacket n h t p c q e =
+    record {
+      sequence = n;
+      timeout = record { height = h; time = t };
+      source = record { port = p; channel = c };
+      destination = record { port = q; channel = e };
+      digest = aDigest;
+    }
+
+-- the height and the time of a verdict's block
+unfoldable pub aBlock : (height time : ℕ) → List ℕ
+aBlock h t = little 8 h ++ little 8 t
+
+unfoldable pub aVerdict : (claim : ℕ) → (block : List ℕ) → (port channel sequence height time : ℕ) →
+    (digest : List ℕ) → List ℕ
+aVerdict k b p c n h t d =
+    little 2 k ++ b ++ little 2 p ++ little 4 c ++ little 8 n ++ little 8 h ++ little 8 t ++ d
+
+-- DATAGRAMS
+unfoldable pub aSend : (context : List ℕ) → (channel height time : ℕ) → List ℕ
+aSend x c h t = framed 1 (x ++ little 4 c ++ little 8 h ++ little 8 t ++ aDigest)
+
+-- its verdict has this digest
+unfoldable pub receiveOf : (context block : List ℕ) → Packet → (digest : List ℕ) → List ℕ
+receiveOf x b p d =
+    framed 2 (x ++ packetBytes p ++
+    aVerdict 1 b (p .source .port) (p .source .channel) (p .sequence) (p .timeout .height) (p .timeout .time) d)
+
+unfoldable pub aWrite : (context : List ℕ) → (channel sequence : ℕ) → (digest : List ℕ) → List ℕ
+aWrite x c n d = framed 3 (x ++ little 4 c ++ little 8 n ++ d)
+
+unfoldable pub acknowledgeOf : (context block : List ℕ) → Packet → (digest : List ℕ) → List ℕ
+acknowledgeOf x b p d =
+    framed 4 (x ++ packetBytes p ++ anAnswer ++
+    aVerdict 2 b (p .destination .port) (p .destination .channel) (p .sequence) 0 0 d)
+
+-- its verdict has this claim and sequence
+unfoldable pub timeoutOf : (context block : List ℕ) → Packet → (claim sequence : ℕ) → List ℕ
+timeoutOf x b p k n =
+    framed 5 (x ++ packetBytes p ++ aVerdict k b (p .destination .port) (p .destination .channel) n 0 0 noDigest)
+
+-- an output buffer that is just long enough
+unfoldable pub anOutput : List ℕ
+anOutput = replicate outputLimit 9
