@@ -42,8 +42,8 @@ ghost use Rattle.fit.specs.EverySlot.{everySlot, slotFits};
 fn channel_fits(c: Channel) -> bool
     ensures { λ r. ⌜ r ≡ channelFits c ⌝ }
 {
-    ((3 <= c.state) & (c.state <= 4))
-        & ((1 <= c.order) & (c.order <= 2))
+    ((Channel::OPEN <= c.state) & (c.state <= Channel::CLOSED))
+        & ((Channel::ORDERED <= c.order) & (c.order <= Channel::UNORDERED))
         & ((1 <= c.next.send) & (1 <= c.next.receive) & (1 <= c.next.acknowledge))
 }
 
@@ -113,9 +113,9 @@ fn fits_end(s: &[u8], count: usize, r: Record, c: Channel) -> bool
 {
     let kind = r.kind;
     match kind {
-        1 => r.sequence < c.next.send,
-        2 => receipt_fits(r, c),
-        3 => acknowledgement_fits(s, count, r, c),
+        Record::COMMITMENT => r.sequence < c.next.send,
+        Record::RECEIPT => receipt_fits(r, c),
+        Record::ACKNOWLEDGEMENT => acknowledgement_fits(s, count, r, c),
         _ => false,
     }
 }

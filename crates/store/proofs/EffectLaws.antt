@@ -16,6 +16,7 @@ use Rattle.store.specs.declared.OwnHeight.{OwnHeight}
 use Rattle.store.specs.declared.Channel.{Channel}
 use Rattle.store.specs.declared.Record.{Record}
 use Rattle.store.specs.Limits.{channelLimit}
+use Rattle.store.specs.Codes.{storeKind}
 use Rattle.store.specs.Layout.{Store, headerSize, slotSize, recordsFrom, sizeFor, roomIn}
 use Rattle.store.specs.Layout.{channelBytes, recordBytes, slotBytes, tableBytes, headerBytes, bytesOf}
 use Rattle.store.specs.Layout.{channelIn, recordIn, storeIn}
@@ -115,7 +116,7 @@ pub patch-times : (s : Store) (h : OwnHeight) (t : ℕ) →
 unfolding bytesOf headerBytes
 patch-times s h t =
     let n : ℕ = length (s .records) in
-    let front : List ℕ = little 4 (sizeFor n) ++ (little 2 0x0401 ++ little 2 channelLimit) in
+    let front : List ℕ = little 4 (sizeFor n) ++ (little 2 storeKind ++ little 2 channelLimit) in
     let times : OwnHeight → ℕ → List ℕ = λ k u. little 8 (k .0) ++ little 8 u in
     let rest : List ℕ =
     little 4 n ++ (replicate 36 0 ++ (tableBytes channelBytes (s .channels) ++ tableBytes recordBytes (s .records))) in

@@ -10,7 +10,7 @@ use Rattle.store.specs.declared.Record.{Record}
 use Rattle.store.specs.Names.{channelLimit, recordLimit, noTimeout, sameTimeout, channelAt, Store, headerSize}
 use Rattle.store.specs.Names.{slotSize, recordsFrom, sizeFor, roomIn, bytesOf, channelIn, recordIn, slotIn}
 use Rattle.store.specs.Names.{tableIn, storeIn, isReceived, fitsEnd, recordFits, recordsFit, storeFits, sizeFits}
-use Rattle.store.specs.Names.{isFit}
+use Rattle.store.specs.Names.{isFit, commitmentKind, receiptKind, acknowledgementKind}
 use Rattle.store.proofs.TableLaws.{Each, all-each}
 use Rattle.store.proofs.LayoutLaws.{ChannelFields, RecordFields, StoreFields, read-back, size-of}
 
@@ -72,7 +72,7 @@ channel-in p l b =
     }
 
 abbrev Known : Record → Type 0
-Known r = (1 ≤ r .kind) × (r .kind ≤ 3)
+Known r = (commitmentKind ≤ r .kind) × (r .kind ≤ acknowledgementKind)
 
 -- all of a record but its kind, which a fit store tells
 abbrev Kinded : Record → Type 0
@@ -95,12 +95,12 @@ end-kind : (s : Store) (r : Record) (x : Option Channel) → fitsEnd s r x ≡ t
 unfolding fitsEnd
 end-kind s r none h = clash {b = false} h refl
 end-kind s r (some c) h =
-    cases (eqb (r .kind) 1) (λ p. omega (arith, eqb-true (r .kind) 1 p))
-    (λ p. cases (eqb (r .kind) 2) (λ q. omega (arith, eqb-true (r .kind) 2 q))
+    cases (eqb (r .kind) commitmentKind) (λ p. omega (arith, eqb-true (r .kind) commitmentKind p))
+    (λ p. cases (eqb (r .kind) receiptKind) (λ q. omega (arith, eqb-true (r .kind) receiptKind q))
     (λ q.
     let t = sameTimeout (r .timeout) noTimeout in
-    let e : (eqb (r .kind) 3 and t and isReceived (s .records) c (r .sequence)) ≡ true = cc in
-    omega (arith, eqb-true (r .kind) 3 (and-both (and-both e .0) .0))))
+    let e : (eqb (r .kind) acknowledgementKind and t and isReceived (s .records) c (r .sequence)) ≡ true = cc in
+    omega (arith, eqb-true (r .kind) acknowledgementKind (and-both (and-both e .0) .0))))
 
 record-kind : (s : Store) (r : Record) → recordFits s r ≡ true → Known r
 unfolding recordFits

@@ -5,7 +5,7 @@ use Rattle.wire.proofs.Laws.{and-both, clash}
 use Rattle.store.specs.declared.Channel.{Channel}
 use Rattle.store.specs.declared.Record.{Record}
 use Rattle.store.specs.Names.{Key, commitmentKey, hasKey, lookup, channelAt, Store, fitsEnd, recordFits}
-use Rattle.store.specs.Names.{recordsFit, storeFits}
+use Rattle.store.specs.Names.{recordsFit, storeFits, commitmentKind}
 use Rattle.store.proofs.TableLaws.{Each, all-each, each-find, find-passes}
 use Rattle.store.proofs.RecordLaws.{Single, key-of}
 
@@ -18,7 +18,7 @@ unfolding storeFits recordsFit
 fit-records s h = all-each (recordFits s) (s .records) (and-both (and-both h .1) .0)
 
 -- a commitment's end is there, and its sequence is below next send
-on-end : (s : Store) (r : Record) (x : Option Channel) → r .kind ≡ 1 → fitsEnd s r x ≡ true →
+on-end : (s : Store) (r : Record) (x : Option Channel) → r .kind ≡ commitmentKind → fitsEnd s r x ≡ true →
     (c : Channel) × (x ≡ some c) × (r .sequence < c .next .send)
 unfolding fitsEnd
 on-end s r none k h = clash {b = false} h refl

@@ -11,6 +11,7 @@ use Rattle.wire.proofs.BytesLaws.{length-little}
 use Rattle.wire.proofs.PatchLaws.{patch-append, patch-then, patch-front}
 use Rattle.store.specs.declared.Record.{Record}
 use Rattle.store.specs.Limits.{channelLimit}
+use Rattle.store.specs.Codes.{storeKind}
 use Rattle.store.specs.Layout.{slotSize, headerSize, sizeFor, roomIn}
 use Rattle.store.specs.Layout.{channelBytes, recordBytes, slotBytes, tableBytes, headerBytes, bytesOf}
 use Rattle.store.specs.Maker.{openingSize, endsOf, makeNumber, madeStore, makeTold, makeStore}
@@ -43,7 +44,7 @@ pub patch-header : (n : ℕ) (bs : List ℕ)
     ≡ patch 28 (replicate 36 0)
     (patch 24 (little 4 n)
     (patch 8 (replicate 16 0)
-    (patch 6 (little 2 channelLimit) (patch 0 (little 4 (sizeFor n) ++ little 2 0x0401) bs))))
+    (patch 6 (little 2 channelLimit) (patch 0 (little 4 (sizeFor n) ++ little 2 storeKind) bs))))
 unfolding headerBytes
 patch-header n bs =
     rw sixteen-zeros (simp (patch-append, length-append, length-little, length-replicate))

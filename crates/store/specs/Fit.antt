@@ -10,6 +10,7 @@ use Rattle.wire.specs.Bytes.{same, areZero}
 use Rattle.store.specs.declared.Channel.{Channel}
 use Rattle.store.specs.declared.Record.{Record}
 use Rattle.store.specs.Limits.{recordLimit}
+use Rattle.store.specs.Codes.{isState, isOrder, commitmentKind, receiptKind, acknowledgementKind}
 use Rattle.store.specs.Height.{noTimeout, sameTimeout}
 use Rattle.store.specs.Table.{all, distinct, sameNumber, channelAt, sameKey}
 use Rattle.store.specs.Layout.{Store, slotSize, recordsFrom, sizeFor, bytesOf, storeIn}
@@ -18,7 +19,7 @@ use Rattle.store.specs.Ordering.{isOrdered, isReceived}
 -- OPEN or CLOSED, ordered or unordered, counters at least 1
 unfoldable pub channelFits : Channel → Bool
 channelFits c =
-    isIn 3 4 (c .state) and isIn 1 2 (c .order) and
+    isState (c .state) and isOrder (c .order) and
     (leb 1 (c .next .send) and leb 1 (c .next .receive) and leb 1 (c .next .acknowledge))
 
 -- channel numbers differ
@@ -30,9 +31,10 @@ channelsFit cs = all channelFits cs and distinct sameNumber cs
 unfoldable pub fitsEnd : Store → Record → Option Channel → Bool
 fitsEnd s r none = false
 fitsEnd s r (some c) =
-    pick (eqb (r .kind) 1) (ltb (r .sequence) (c .next .send))
-    (pick (eqb (r .kind) 2) (not (isOrdered c) and sameTimeout (r .timeout) noTimeout and areZero (r .digest))
-    (eqb (r .kind) 3 and sameTimeout (r .timeout) noTimeout and isReceived (s .records) c (r .sequence)))
+    pick (eqb (r .kind) commitmentKind) (ltb (r .sequence) (c .next .send))
+    (pick (eqb (r .kind) receiptKind) (not (isOrdered c) and sameTimeout (r .timeout) noTimeout and areZero (r .digest))
+    (eqb (r .kind) acknowledgementKind and sameTimeout (r .timeout) noTimeout and
+    isReceived (s .records) c (r .sequence)))
 
 -- a sequence of at least 1, and a channel of the store
 unfoldable pub recordFits : Store → Record → Bool

@@ -1,5 +1,8 @@
 -- All definitions of this crate under one name, for those who use them.
 pub use Rattle.store.specs.Limits.{channelLimit, recordLimit, outputLimit, top}
+pub use Rattle.store.specs.Codes.{stateOpen, stateClosed, isState, orderOrdered, orderUnordered, isOrder}
+pub use Rattle.store.specs.Codes.{commitmentKind, receiptKind, acknowledgementKind, storeKind, channelKind}
+pub use Rattle.store.specs.Codes.{openingKind}
 unfoldable pub use Rattle.store.specs.Height.{isPast, sameTimeout}
 pub use Rattle.store.specs.Height.{ownHeight, otherHeight, heightAtSender, heightAtReceiver, seenAcross}
 pub use Rattle.store.specs.Height.{isBelowOwn, isSameOwn, isUpToOther, UpToOther, BelowOther, isPastOwn}
