@@ -3,6 +3,8 @@
 mod effect_end; // to the channel end
 mod effect_record; // to the packet records
 
+use changes::set_channel;
+use changes::set_times;
 use datagram::Packet;
 use datagram::emit::emit_acknowledged;
 use datagram::emit::emit_packet;
@@ -22,23 +24,21 @@ use effect_record::free_commitment;
 use effect_record::plain_record;
 use effect_record::write_receipt;
 use effect_record::write_record;
-use store::Channel;
-use store::Found;
-use store::Record;
+use slots::Channel;
+use slots::Found;
+use slots::Record;
+use slots::slot::channel_at;
 use store::Store;
-use store::slot::channel_at;
-use tables::effect::set_channel;
-use tables::effect::set_times;
 use tables::scan::find_channel;
 ghost use mathlib.Core.Path.{_≡_};
 ghost use mathlib.Core.Bool.{true};
 ghost use Prim.Native.Nat.{_≤_};
 ghost use lib.ListN.{length};
 ghost use Rattle.wire.specs.Choice.{isSome};
-ghost use Rattle.store.specs.declared.Found.the-variants.{At};
-ghost use Rattle.store.specs.Table.{isNumbered, channelAt};
-ghost use Rattle.store.specs.Layout.{recordsFrom, bytesOf, storeIn};
-ghost use Rattle.store.specs.Scan.{firstThat};
+ghost use Rattle.slots.specs.declared.Found.the-variants.{At};
+ghost use Rattle.slots.specs.Table.{isNumbered, channelAt};
+ghost use Rattle.slots.specs.Layout.{recordsFrom, bytesOf, storeIn};
+ghost use Rattle.slots.specs.Scan.{firstThat};
 ghost use Rattle.datagram.specs.Datagram.{kindIn, sizeOfKind, datagramIn};
 ghost use Rattle.datagram.specs.Output.{atFront};
 ghost use Rattle.rules.specs.Acceptance.{sentPacket, commitment, sends, receives, writesAcknowledgement};

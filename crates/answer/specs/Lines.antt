@@ -4,8 +4,8 @@ use mathlib.Core.Bool.{true}
 use mathlib.Core.List.{List, []}
 use Prim.Native.Nat.{ℕ}
 use lib.ListN.{length, drop}
-use Rattle.store.specs.declared.Channel.{Channel}
-use Rattle.store.specs.Layout.{Store, sizeFor}
+use Rattle.slots.specs.declared.Channel.{Channel}
+use Rattle.slots.specs.Layout.{Store, sizeFor}
 use Rattle.datagram.specs.declared.Context.{Context}
 use Rattle.datagram.specs.Datagram.{Datagram, kindIn, contextIn, isSound}
 use Rattle.rules.specs.Refusals.{lowest, table}

@@ -3,7 +3,7 @@ use Rattle.wire.proofs.Prelude.{_≡_, Bool, true, not, List, inl, inr, ℕ, _+
 use Rattle.wire.proofs.Prelude.{ltb-true, leb-true, eqb-true, eq-eqb, not-true}
 use Rattle.wire.specs.Names.{_or_, Bytes, digestSize}
 use Rattle.wire.proofs.Laws.{and-both, or-either, clash, cases, field-below, length-part, bytes-part}
-use Rattle.store.proofs.Laws.{EndFields, TimeoutFields}
+use Rattle.slots.proofs.Laws.{EndFields, TimeoutFields}
 use Rattle.datagram.specs.declared.Packet.{Packet}
 use Rattle.datagram.specs.Names.{bodyFrom, packetSize, sizeOfKind, isProved, isSound, kindIn, contextIn, packetIn}
 use Rattle.datagram.specs.Names.{packetFrom, timeoutFrom, sequenceFrom, digestFrom}

@@ -3,10 +3,10 @@ pub mod emit;
 pub mod read;
 pub mod sound;
 
-use store::End;
-use store::OtherHeight;
-use store::OwnHeight;
-use store::Timeout;
+use slots::End;
+use slots::OtherHeight;
+use slots::OwnHeight;
+use slots::Timeout;
 
 // What the host says of the call: this ledger's height and time, the client's latest height of the other ledger,
 // the caller's port, and whether the connection is open.

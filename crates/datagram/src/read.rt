@@ -3,11 +3,11 @@
 use super::Context;
 use super::Packet;
 use super::Verdict;
-use store::OtherHeight;
-use store::OwnHeight;
-use store::Timeout;
-use store::part::end_at;
-use store::part::timeout_at;
+use slots::OtherHeight;
+use slots::OwnHeight;
+use slots::Timeout;
+use slots::part::end_at;
+use slots::part::timeout_at;
 use wire::digest_at;
 use wire::u16_at;
 use wire::u32_at;

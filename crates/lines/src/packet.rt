@@ -1,11 +1,11 @@
 // Whether a packet can have come: over an open connection, and to an end that it fits.
 use datagram::Context;
 use datagram::Packet;
-use store::Channel;
-use store::End;
+use slots::Channel;
+use slots::End;
 ghost use mathlib.Core.Path.{_≡_};
 ghost use mathlib.Core.Bool.{not};
-ghost use Rattle.store.specs.Table.{sameEnd};
+ghost use Rattle.slots.specs.Table.{sameEnd};
 ghost use Rattle.rules.specs.Refusals.{fitsPacket};
 
 fn same_end(a: End, b: End) -> bool

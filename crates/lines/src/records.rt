@@ -1,11 +1,11 @@
 // The store's packet records, asked for one (13) or for room (20).
 use super::height::same_timeout;
 use datagram::Packet;
-use store::Found;
-use store::Record;
+use slots::Found;
+use slots::Record;
+use slots::Timeout;
+use slots::slot::record_at;
 use store::Store;
-use store::Timeout;
-use store::slot::record_at;
 use tables::scan::find_free;
 use tables::scan::find_record;
 use tables::scan::is_found;
@@ -13,8 +13,8 @@ use wire::same_digest;
 ghost use mathlib.Core.Path.{_≡_};
 ghost use mathlib.Core.Option.{some};
 ghost use lib.ListN.{length};
-ghost use Rattle.store.specs.Table.{hasFree};
-ghost use Rattle.store.specs.Layout.{sizeFor, storeIn};
+ghost use Rattle.slots.specs.Table.{hasFree};
+ghost use Rattle.slots.specs.Layout.{sizeFor, storeIn};
 ghost use Rattle.rules.specs.Verdict.{hasValues};
 ghost use Rattle.rules.specs.Refusals.{isCommitted};
 

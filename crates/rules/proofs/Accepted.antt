@@ -1,8 +1,8 @@
 -- What an accepted datagram of each kind tells: the one place that opens the table of answers. Assumes nothing.
 use Rattle.wire.proofs.Prelude.{_≡_, true, false, not, List, ℕ, eqb, eqb-true, not-false}
 use Rattle.wire.specs.Names.{_and_, _or_, isSome}
-use Rattle.store.specs.declared.Channel.{Channel}
-use Rattle.store.specs.Names.{top, hasFree, acknowledgementKey, lookup, Store, isReceived}
+use Rattle.slots.specs.declared.Channel.{Channel}
+use Rattle.slots.specs.Names.{top, hasFree, acknowledgementKey, lookup, Store, isReceived}
 use Rattle.datagram.specs.Names.{Datagram}
 use Rattle.rules.specs.Names.{isReceiptThere, isAtTop, needsRecord, only, lowest, table, fitsPacket, isLate}
 use Rattle.rules.specs.Names.{isProvedLate, isCommitted, verdictDifference, isInOrder, isThere}

@@ -3,9 +3,9 @@
 use Rattle.wire.proofs.Prelude.{_≡_, refl, sym, ap, subst, _∙_, true, _⊎_, inl, inr, Option, none, some, ℕ, arith}
 use Rattle.wire.proofs.Prelude.{eqb-true}
 use Rattle.wire.proofs.Laws.{and-both}
-use Rattle.store.specs.declared.End.{End}
-use Rattle.store.specs.declared.Channel.{Channel}
-use Rattle.store.specs.Names.{channelAt, sameEnd, Store, storeIn}
+use Rattle.slots.specs.declared.End.{End}
+use Rattle.slots.specs.declared.Channel.{Channel}
+use Rattle.slots.specs.Names.{channelAt, sameEnd, Store, storeIn}
 use Rattle.datagram.specs.declared.Packet.{Packet}
 use Rattle.rules.specs.Names.{fitsPacket, Side, across, Call, At, fold, Paired, Peers, packetOf, isDelivery}
 use Rattle.rules.proofs.Acted.{heard}

@@ -1,7 +1,7 @@
 -- By the kind. Assumes nothing.
 use borrow.Author.Tests.{ne-eqb}
 use Rattle.wire.specs.Choice.{_and_}
-use Rattle.store.specs.Fit.{fitsEnd}
+use Rattle.slots.specs.Fit.{fitsEnd}
 use borrow.Author.Needs.{needs}
 use Rattle.fit.proofs.fits_end.Statement.{statement}
 use Rattle.fit.proofs.fits_end.Tie as tie

@@ -5,14 +5,14 @@ use Prim.Native.Nat.{ℕ, _<_}
 use native.Mathlib.Omega.{arith}
 use denote.Ref.{now}
 use Rattle.wire.specs.Choice.{_and_}
-use Rattle.store.specs.declared.Found.the-variants.{At}
-use Rattle.store.specs.Limits.{channelLimit}
-use Rattle.store.specs.Table.{isNumbered}
-use Rattle.store.specs.Layout.{storeIn}
-use Rattle.store.specs.Scan.{holds, firstThat}
-use Rattle.store.specs.Fit.{fitsEnd, recordFits}
-use Rattle.store.proofs.ScanLaws.{find-nothing, channel-found}
-use Rattle.store.proofs.SlotTestLaws.{channel-index}
+use Rattle.slots.specs.declared.Found.the-variants.{At}
+use Rattle.slots.specs.Limits.{channelLimit}
+use Rattle.slots.specs.Table.{isNumbered}
+use Rattle.slots.specs.Layout.{storeIn}
+use Rattle.slots.specs.Scan.{holds, firstThat}
+use Rattle.slots.specs.Fit.{fitsEnd, recordFits}
+use Rattle.slots.proofs.ScanLaws.{find-nothing, channel-found}
+use Rattle.slots.proofs.SlotTestLaws.{channel-index}
 use Rattle.wire.proofs.ChoiceLaws.{and-false}
 use borrow.Author.Needs.{needs}
 use Rattle.fit.proofs.record_fits.Statement.{statement}

@@ -2,7 +2,7 @@
 use native.Mathlib.Omega.{arith}
 use borrow.Author.Needs.{needs}
 use borrow.Author.Tests.{eqb-false}
-use Rattle.store.specs.Limits.{top}
+use Rattle.slots.specs.Limits.{top}
 use Rattle.rules.specs.Ordering.{isAtTop}
 use Rattle.acceptance.proofs.effect_end.sent_end.Statement.{statement}
 use Rattle.acceptance.proofs.effect_end.sent_end.Tie as tie

@@ -3,7 +3,7 @@ use mathlib.Core.Path.{_≡_, sym, _∙_}
 use Prim.Native.Nat.{ℕ}
 use borrow.Author.Needs.{needs}
 use Rattle.wire.specs.Choice.{_or_}
-use Rattle.store.specs.Layout.{Store}
+use Rattle.slots.specs.Layout.{Store}
 use Rattle.datagram.specs.Datagram.{Datagram}
 use Rattle.rules.specs.Refusals.{only, lowest, table, isInOrder}
 use Rattle.answer.specs.Lines.{numberBehind}
