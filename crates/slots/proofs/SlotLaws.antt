@@ -1,10 +1,10 @@
 -- A slot of 64 bytes is read and stored field by field. Assumes nothing.
 use mathlib.Core.Path.{_≡_, refl, sym, _∙_}
 use mathlib.Core.List.{List, [], _∷_, _++_}
-use Prim.Native.Nat.{ℕ, _+_, _%_, _≤_, _<_}
+use Prim.Native.Nat.{ℕ, _+_, _≤_}
 use native.Mathlib.Nat.{add-assoc, add-zero}
 use native.Mathlib.Omega.{arith}
-use lib.ListN.{getD, replicate, length-append}
+use lib.ListN.{length, getD, set, replicate, length-append}
 use Rattle.wire.specs.Bytes.{little, part, field, patch, digestSize}
 use Rattle.wire.proofs.BytesLaws.{length-little}
 use Rattle.wire.proofs.PartLaws.{part-part, field-part, byte-part}
@@ -16,18 +16,6 @@ use Rattle.slots.specs.declared.Record.{Record}
 use Rattle.slots.specs.Codes.{channelKind}
 use Rattle.slots.specs.Layout.{slotSize, channelIn, channelBytes, recordIn, recordBytes}
 use Rattle.slots.specs.Part.{endIn, timeoutIn}
-
--- BYTES are numbers of one byte, and two zeros are one of two
-two-bytes : (x y : ℕ) → x < 256 → y < 256 → x ∷ y ∷ [] ≡ little 1 x ++ little 1 y
-unfolding little
-two-bytes x y p q =
-    let e : x % 256 ≡ x = omega arith in
-    let f : y % 256 ≡ y = omega arith in
-    rw (e, f)
-
-two-zeros : 0 ∷ 0 ∷ [] ≡ little 2 0
-unfolding little
-two-zeros = refl
 
 -- A PART OF A RECORD is read where it stands in the bytes
 module _ (i at m : ℕ) (bs : List ℕ) where
@@ -82,11 +70,15 @@ module _ (at : ℕ) (bs : List ℕ) where
       }
 
   -- STORED
-  pub mark-stored : (x y z : ℕ) → x < 256 → y < 256 → patch at (little 2 channelKind ++ (x ∷ y ∷ []) ++ little 4 z) bs
-      ≡ patch (at + 4) (little 4 z)
-      (patch (at + 3) (little 1 y) (patch (at + 2) (little 1 x) (patch at (little 2 channelKind) bs)))
-  mark-stored x y z p q =
-      rw (two-bytes x y p q) (simp (patch-append, length-append, length-little, add-assoc))
+  bytes-stored : (k n : ℕ) (xs ys : List ℕ) → length xs ≡ 1 → length ys ≡ 1 →
+      patch at (little 2 k ++ (xs ++ ys) ++ little 4 n) bs
+      ≡ patch (at + 4) (little 4 n) (patch (at + 3) ys (patch (at + 2) xs (patch at (little 2 k) bs)))
+  bytes-stored k n xs ys l m = simp (patch-append, length-append, length-little, add-assoc, l, m)
+
+  pub head-stored : (k x y n : ℕ) → patch at (little 2 k ++ (x ∷ y ∷ []) ++ little 4 n) bs
+      ≡ patch (at + 4) (little 4 n) (set (set (patch at (little 2 k) bs) (at + 2) x) (at + 3) y)
+  unfolding patch
+  head-stored k x y n = bytes-stored k n (x ∷ []) (y ∷ []) refl refl
 
   pub channel-stored : (c : Channel) → patch at (channelBytes c) bs
       ≡ patch (at + 40) (replicate 24 0)
@@ -100,7 +92,6 @@ module _ (at : ℕ) (bs : List ℕ) where
   pub record-stored : (r : Record) → patch at (recordBytes r) bs
       ≡ patch (at + 32) (r .digest)
       (patch (at + 8) (little 8 (r .sequence) ++ little 8 (r .timeout .height) ++ little 8 (r .timeout .time))
-      (patch (at + 4) (little 4 (r .channel))
-      (patch (at + 2) (little 2 0) (patch at (little 2 (r .kind)) bs))))
+      (patch at (little 2 (r .kind) ++ (0 ∷ 0 ∷ []) ++ little 4 (r .channel)) bs))
   unfolding recordBytes
-  record-stored r = rw two-zeros (simp (patch-append, length-append, length-little, add-assoc))
+  record-stored r = simp (patch-append, length-append, length-little, add-assoc)

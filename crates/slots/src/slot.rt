@@ -9,7 +9,6 @@ use super::part::timeout_at;
 use wire::digest_at;
 use wire::put_digest;
 use wire::put_three;
-use wire::put_u8;
 use wire::put_u16;
 use wire::put_u32;
 use wire::put_zeros;
@@ -21,7 +20,6 @@ ghost use mathlib.Core.List.{[], _∷_, _++_};
 ghost use Prim.Native.Nat.{_+_, _≤_};
 ghost use lib.ListN.{length};
 ghost use Rattle.wire.specs.Bytes.{part, patch, little};
-ghost use Rattle.slots.specs.Codes.{channelKind};
 ghost use Rattle.slots.specs.Layout.{slotSize, channelIn, channelBytes, recordIn, recordBytes};
 
 // A channel end's own side leads with the channel, its counterparty's with the port.
@@ -58,24 +56,24 @@ pub fn record_at(s: &[u8], at: usize) -> Record
     }
 }
 
-// The mark of a channel record, and the end's state, order and number.
-fn put_mark(s: &mut [u8], at: usize, state: u8, order: u8, number: u32)
+// What a slot leads with: its kind, two bytes, and the number of a channel.
+fn put_head(s: &mut [u8], at: usize, kind: u16, first: u8, second: u8, channel: u32)
     requires { ⌜ at + 8 ≤ length (now s) ⌝ }
     ensures { λ _. ⌜
-        now (s .exit) ≡ patch at (little 2 channelKind ++ (state ∷ order ∷ []) ++ little 4 number) (now (s .entry))
+        now (s .exit) ≡ patch at (little 2 kind ++ (first ∷ second ∷ []) ++ little 4 channel) (now (s .entry))
         ⌝ }
 {
-    put_u16(s, at, Channel::KIND);
-    put_u8(s, at + 2, state);
-    put_u8(s, at + 3, order);
-    put_u32(s, at + 4, number);
+    put_u16(s, at, kind);
+    s[at + 2] = first;
+    s[at + 3] = second;
+    put_u32(s, at + 4, channel);
 }
 
 pub fn put_channel(s: &mut [u8], at: usize, c: Channel)
     requires { ⌜ at + slotSize ≤ length (now s) ⌝ }
     ensures { λ _. ⌜ now (s .exit) ≡ patch at (channelBytes c) (now (s .entry)) ⌝ }
 {
-    put_mark(s, at, c.state, c.order, c.own.channel);
+    put_head(s, at, Channel::KIND, c.state, c.order, c.own.channel);
     put_u16(s, at + 8, c.own.port);
     put_end(s, at + 10, c.counterparty.port, c.counterparty.channel);
     put_three(s, at + 16, c.next.send, c.next.receive, c.next.acknowledge);
@@ -86,9 +84,7 @@ pub fn put_record(s: &mut [u8], at: usize, r: Record)
     requires { ⌜ at + slotSize ≤ length (now s) ⌝ }
     ensures { λ _. ⌜ now (s .exit) ≡ patch at (recordBytes r) (now (s .entry)) ⌝ }
 {
-    put_u16(s, at, r.kind);
-    put_u16(s, at + 2, 0);
-    put_u32(s, at + 4, r.channel);
+    put_head(s, at, r.kind, 0, 0, r.channel);
     put_three(s, at + 8, r.sequence, r.timeout.height, r.timeout.time);
     let d = r.digest;
     put_digest(s, at + 32, d);

@@ -10,13 +10,13 @@ returns c =
     let counters = zeros .before .before .before .before in
     let counterparty = counters .before .before .before .before in
     let port = counterparty .before .before .before .before in
-    let mark = port .before .before .before .before in
+    let head = port .before .before .before .before in
     rw (
       zeros .put-zeros .ensures,
       counters .put-three .ensures,
       counterparty .put-end .ensures,
       port .put-u16 .ensures,
-      mark .put-mark .ensures,
+      head .put-head .ensures,
       channel-stored,
     )
 

@@ -8,21 +8,12 @@ returns : tie.Need-returns
 returns c =
     let digest = c .before .before in
     let times = digest .before .before .before .before .before in
-    let channel = times .before .before .before .before in
-    let zeros = channel .before .before .before .before in
-    let kind = zeros .before .before .before .before in
-    rw (
-      digest .put-digest .ensures,
-      times .put-three .ensures,
-      channel .put-u32 .ensures,
-      zeros .put-u162 .ensures,
-      kind .put-u16 .ensures,
-      record-stored,
-    )
+    let head = times .before .before .before .before in
+    rw (digest .put-digest .ensures, times .put-three .ensures, head .put-head .ensures, record-stored)
 
 pub put-record-spec : {M : Type 1} → statement M
 put-record-spec =
     tie.close
     (tie.spec
     (λ c κs. search needs) (λ c. search needs) (λ c κs. search needs) (λ c. search needs) (λ c κs. search needs)
-    (λ c. search needs) (λ c κs. search needs) (λ c. search needs) (λ c κs. search needs) (λ c. search needs) returns)
+    (λ c. search needs) returns)
