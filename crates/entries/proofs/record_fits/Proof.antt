@@ -15,8 +15,8 @@ use Rattle.slots.proofs.ScanLaws.{find-nothing, channel-found}
 use Rattle.slots.proofs.SlotTestLaws.{channel-index}
 use Rattle.wire.proofs.ChoiceLaws.{and-false}
 use borrow.Author.Needs.{needs}
-use Rattle.fit.proofs.record_fits.Statement.{statement}
-use Rattle.fit.proofs.record_fits.Tie as tie
+use Rattle.entries.proofs.record_fits.Statement.{statement}
+use Rattle.entries.proofs.record_fits.Tie as tie
 
 -- the slot that is found, and the bytes and the number that are searched
 abbrev index : tie.After-known-told → ℕ

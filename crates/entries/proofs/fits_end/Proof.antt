@@ -1,10 +1,11 @@
 -- By the kind. Assumes nothing.
 use borrow.Author.Tests.{ne-eqb}
 use Rattle.wire.specs.Choice.{_and_}
+use Rattle.slots.specs.Codes.{commitmentKind, receiptKind, acknowledgementKind}
 use Rattle.slots.specs.Fit.{fitsEnd}
 use borrow.Author.Needs.{needs}
-use Rattle.fit.proofs.fits_end.Statement.{statement}
-use Rattle.fit.proofs.fits_end.Tie as tie
+use Rattle.entries.proofs.fits_end.Statement.{statement}
+use Rattle.entries.proofs.fits_end.Tie as tie
 
 returns : tie.Need-returns
 unfolding fitsEnd
@@ -23,7 +24,11 @@ unfolding fitsEnd _and_
 returns-4 c =
     let k = c .before .before .args .r .kind in
     let none = c .match .rest in
-    rw (ne-eqb k 1 (none .0 .0 .1), ne-eqb k 2 (none .0 .1), ne-eqb k 3 (none .1))
+    rw (
+      ne-eqb k commitmentKind (none .0 .0 .1),
+      ne-eqb k receiptKind (none .0 .1),
+      ne-eqb k acknowledgementKind (none .1),
+    )
 
 pub fits-end-spec : {M : Type 1} → statement M
 fits-end-spec =

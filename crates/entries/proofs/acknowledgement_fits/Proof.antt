@@ -1,8 +1,8 @@
 -- Both tests. Assumes nothing.
 use Rattle.wire.specs.Choice.{_and_}
 use borrow.Author.Needs.{needs}
-use Rattle.fit.proofs.acknowledgement_fits.Statement.{statement}
-use Rattle.fit.proofs.acknowledgement_fits.Tie as tie
+use Rattle.entries.proofs.acknowledgement_fits.Statement.{statement}
+use Rattle.entries.proofs.acknowledgement_fits.Tie as tie
 
 returns : tie.Need-returns
 unfolding _and_
