@@ -12,7 +12,8 @@ use Rattle.wire.specs.Bytes.{field}
 use Rattle.wire.specs.declared.Frame.the-variants.{Whole, Malformed}
 use Rattle.wire.specs.Frame.{frameIn}
 use Rattle.wire.proofs.ChoiceLaws.{and-both, and-assoc, and-false, and-true, clash, cases}
-use Rattle.datagram.specs.Datagram.{frameSize, sizeOfKind, kindIn, isProved, isSound}
+use Rattle.wire.specs.Frame.{frameSize}
+use Rattle.datagram.specs.Datagram.{sizeOfKind, kindIn, isProved, isSound}
 use Rattle.datagram.specs.Sound.{isContextSound, isPacketSound, isBodySound}
 use Rattle.datagram.proofs.DatagramLaws.{by-proved}
 

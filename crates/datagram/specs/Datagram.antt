@@ -7,6 +7,7 @@ use lib.Dec.{ltb, leb, eqb}
 use lib.ListN.{length, getD}
 use Rattle.wire.specs.Choice.{_and_, _or_, pick, isIn}
 use Rattle.wire.specs.Bytes.{areZero, part, field, digestSize}
+use Rattle.wire.specs.Frame.{frameSize}
 use Rattle.slots.specs.declared.Timeout.{Timeout}
 use Rattle.slots.specs.Height.{ownHeight, otherHeight}
 use Rattle.slots.specs.Part.{endIn, timeoutIn}
@@ -15,9 +16,6 @@ use Rattle.datagram.specs.declared.Packet.{Packet}
 use Rattle.datagram.specs.declared.Verdict.{Verdict}
 
 -- SIZES, each stated once
-abbrev pub frameSize : ℕ
-frameSize = 6
-
 abbrev pub contextSize : ℕ
 contextSize = 32
 

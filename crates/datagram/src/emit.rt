@@ -1,10 +1,10 @@
 // The records that are handed out, written at the front of the lent output. Each writer returns the record's length.
 use super::Packet;
-use super::read::DIGEST;
-use super::read::FRAME;
 use super::read::PACKET;
 use slots::End;
 use slots::part::put_end;
+use wire::DIGEST;
+use wire::FRAME;
 use wire::put_digest;
 use wire::put_frame;
 use wire::put_three;

@@ -8,6 +8,8 @@ use slots::OwnHeight;
 use slots::Timeout;
 use slots::part::end_at;
 use slots::part::timeout_at;
+use wire::DIGEST;
+use wire::FRAME;
 use wire::digest_at;
 use wire::u16_at;
 use wire::u32_at;
@@ -16,12 +18,11 @@ ghost use mathlib.Core.Path.{_≡_};
 ghost use mathlib.Core.Bool.{true};
 ghost use Prim.Native.Nat.{_+_, _≤_};
 ghost use lib.ListN.{length};
-ghost use Rattle.datagram.specs.Datagram.{frameSize, bodyFrom, packetSize, verdictSize, sizeOfKind, isProved};
+ghost use Rattle.wire.specs.Frame.{frameSize};
+ghost use Rattle.datagram.specs.Datagram.{bodyFrom, packetSize, verdictSize, sizeOfKind, isProved};
 ghost use Rattle.datagram.specs.Datagram.{kindIn, contextIn, packetIn, verdictIn};
 ghost use Rattle.datagram.specs.Datagram.{timeoutFrom, sequenceFrom, packetFrom};
 ghost use Rattle.datagram.specs.Datagram.{digestPlace, digestFrom, verdictPlace, verdictFrom, channelFrom};
-
-pub(crate) const FRAME: usize = 6;
 
 const CONTEXT: usize = 32;
 
@@ -30,8 +31,6 @@ pub(crate) const BODY: usize = FRAME + CONTEXT;
 pub(crate) const PACKET: usize = 68;
 
 pub(crate) const VERDICT: usize = 80;
-
-pub(crate) const DIGEST: usize = 32;
 
 pub fn context_in(d: &[u8]) -> Context
     requires { ⌜ bodyFrom ≤ length (now d) ⌝ }

@@ -1,11 +1,11 @@
 // Whether a datagram whose frame is whole is well formed.
 use super::read::BODY;
-use super::read::DIGEST;
-use super::read::FRAME;
 use super::read::PACKET;
 use super::read::VERDICT;
 use super::read::sequence_in;
 use super::read::verdict_place;
+use wire::DIGEST;
+use wire::FRAME;
 use wire::are_zero;
 use wire::u16_at;
 use wire::u64_at;

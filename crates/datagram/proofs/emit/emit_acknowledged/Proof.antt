@@ -8,7 +8,8 @@ use denote.Ref.{now}
 use borrow.Author.Needs.{needs}
 use Rattle.wire.specs.Bytes.{digestSize}
 use Rattle.wire.proofs.PatchLaws.{patch-then}
-use Rattle.datagram.specs.Datagram.{frameSize, packetSize}
+use Rattle.wire.specs.Frame.{frameSize}
+use Rattle.datagram.specs.Datagram.{packetSize}
 use Rattle.datagram.specs.Emitted.{packetBytes}
 use Rattle.datagram.proofs.EmittedLaws.{length-packet-bytes}
 use Rattle.datagram.proofs.EmitLaws.{emitted}

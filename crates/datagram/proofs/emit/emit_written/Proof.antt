@@ -9,7 +9,7 @@ use borrow.Author.Needs.{needs}
 use Rattle.wire.specs.Bytes.{little, digestSize}
 use Rattle.wire.proofs.BytesLaws.{length-little}
 use Rattle.wire.proofs.PatchLaws.{patch-then}
-use Rattle.datagram.specs.Datagram.{frameSize}
+use Rattle.wire.specs.Frame.{frameSize}
 use Rattle.datagram.specs.Output.{endBytes}
 use Rattle.datagram.proofs.EmitLaws.{emitted}
 use Rattle.datagram.proofs.emit.emit_written.Statement.{statement}
