@@ -19,7 +19,8 @@ use Rattle.slots.specs.Codes.{stateOpen, isOrder}
 use Rattle.slots.specs.Table.{find, distinct, isNumbered, sameNumber, channelAt}
 use Rattle.slots.specs.Part.{endIn}
 use Rattle.slots.specs.Layout.{slotSize, channelBytes, slotBytes, tableBytes}
-use Rattle.openings.specs.Opening.{openingSize, openingKind, openingsIn, openingFits, allOpeningsFit, openingOf, endsOf}
+use Rattle.openings.specs.Opening.{openingSize, openingKind, openingsIn, openingFits, allOpeningsFit}
+use Rattle.openings.specs.Opening.{openingOf, endsOf}
 use Rattle.openings.specs.Opening.{openingsFrom, endsFrom}
 use Rattle.slots.proofs.LayoutLaws.{length-channel}
 use Rattle.slots.proofs.SlotLaws.{end-part}

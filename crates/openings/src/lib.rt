@@ -1,4 +1,5 @@
-// A list of openings, read: whether each fits, whether their channel numbers differ, and the channel ends that they open.
+// A list of openings, read: whether each fits, whether their channel numbers differ, and the channel ends that they
+// open.
 use slots::Channel;
 use slots::Counters;
 use slots::part::end_at;

@@ -11,7 +11,8 @@ use Rattle.slots.specs.declared.Channel.{Channel}
 use Rattle.slots.specs.declared.Record.{Record}
 use Rattle.slots.specs.Names.{channelLimit, recordLimit, ownHeight, Store, headerSize, slotSize, recordsFrom}
 use Rattle.slots.specs.Names.{sizeFor, roomIn, channelBytes, recordBytes, slotBytes, tableBytes, headerBytes}
-use Rattle.slots.specs.Names.{bytesOf, channelIn, recordIn, slotIn, tableIn, storeIn, commitmentKind, acknowledgementKind}
+use Rattle.slots.specs.Names.{bytesOf, channelIn, recordIn, slotIn, tableIn, storeIn, commitmentKind}
+use Rattle.slots.specs.Names.{acknowledgementKind}
 use Rattle.slots.proofs.TableLaws.{Each, each-of, each-map}
 
 -- BOUNDS: each number fits its field
