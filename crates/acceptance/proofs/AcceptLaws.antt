@@ -4,16 +4,16 @@ use Rattle.wire.proofs.Prelude.{_≡_, refl, sym, ap, subst₂, _∙_, true, Li
 use Rattle.wire.proofs.Prelude.{ℕ, _≤_, arith, length, ltb-false, not-false}
 use Rattle.wire.specs.Names.{_or_, isSome, Bytes}
 use Rattle.wire.proofs.Laws.{some-if}
-use Rattle.store.specs.declared.End.{End}
-use Rattle.store.specs.declared.Channel.{Channel}
-use Rattle.store.specs.declared.Found.the-variants.{At}
-use Rattle.store.specs.Names.{outputLimit, isNumbered, commitmentKey, lookup}
-use Rattle.store.specs.Names.{Store, bytesOf, storeIn, isFit}
-use Rattle.store.specs.Effect.{Exact, withTimes, withChannelSlot}
-use Rattle.store.specs.Scan.{firstThat}
-use Rattle.store.proofs.Laws.{channel-number, fit-fields}
-use Rattle.store.proofs.ScanLaws.{set-replace}
-use Rattle.store.proofs.HeldLaws.{Held, fit-exact, held-store}
+use Rattle.slots.specs.declared.End.{End}
+use Rattle.slots.specs.declared.Channel.{Channel}
+use Rattle.slots.specs.declared.Found.the-variants.{At}
+use Rattle.slots.specs.Names.{outputLimit, isNumbered, commitmentKey, lookup}
+use Rattle.slots.specs.Names.{Store, bytesOf, storeIn, isFit}
+use Rattle.slots.specs.Effect.{Exact, withTimes, withChannelSlot}
+use Rattle.slots.specs.Scan.{firstThat}
+use Rattle.slots.proofs.Laws.{channel-number, fit-fields}
+use Rattle.slots.proofs.ScanLaws.{set-replace}
+use Rattle.slots.proofs.HeldLaws.{Held, fit-exact, held-store}
 use Rattle.datagram.specs.declared.Context.{Context}
 use Rattle.datagram.specs.Names.{datagramIn, kindIn, sizeOfKind, channelFrom, isSound}
 use Rattle.datagram.proofs.Laws.{Sound, sound-is}

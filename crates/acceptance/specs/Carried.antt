@@ -4,9 +4,9 @@ use mathlib.Core.List.{List}
 use mathlib.Core.Option.{some}
 use Prim.Native.Nat.{ℕ}
 use lib.ListN.{length}
-use Rattle.store.specs.declared.Channel.{Channel}
-use Rattle.store.specs.Table.{channelAt}
-use Rattle.store.specs.Layout.{storeIn, bytesOf}
+use Rattle.slots.specs.declared.Channel.{Channel}
+use Rattle.slots.specs.Table.{channelAt}
+use Rattle.slots.specs.Layout.{storeIn, bytesOf}
 use Rattle.datagram.specs.Datagram.{datagramIn}
 use Rattle.emit.specs.Output.{atFront}
 use Rattle.rules.specs.Acceptance.{Effect}

@@ -4,7 +4,7 @@ use mathlib.Core.Bool.{true}
 use mathlib.Core.List.{List}
 use Prim.Native.Nat.{ℕ}
 use lib.ListN.{length}
-use Rattle.store.specs.Layout.{sizeFor}
+use Rattle.slots.specs.Layout.{sizeFor}
 use Rattle.datagram.specs.declared.Context.{Context}
 use Rattle.datagram.specs.Datagram.{kindIn, contextIn, isSound}
 

@@ -4,7 +4,7 @@ use Rattle.wire.proofs.Prelude.{none, _+_, _^_, _≤_, _<_, arith, eqb, length,
 use Rattle.wire.specs.Names.{_or_, isSome, withNumber, Bytes, digestSize}
 use Rattle.wire.proofs.Laws.{and-both, or-either, clash, cases, none-if, some-if, some-is, with-number, same-number, field-below}
 use Rattle.wire.proofs.Laws.{length-part, bytes-part}
-use Rattle.store.proofs.Laws.{EndFields, TimeoutFields}
+use Rattle.slots.proofs.Laws.{EndFields, TimeoutFields}
 use Rattle.datagram.specs.declared.Packet.{Packet}
 use Rattle.datagram.specs.Names.{Kind, send, receive, write, acknowledge, timeOut, kinds, kindNumber, kindOf}
 use Rattle.datagram.specs.Names.{isKind, isOf, packetSize, sizeOf, isSound, kindIn, contextIn}

@@ -7,13 +7,14 @@ use lib.Dec.{ltb, leb, eqb}
 use lib.ListN.{length, getD}
 use Rattle.wire.specs.Choice.{_and_, isSome, isIn}
 use Rattle.wire.specs.Bytes.{areZero, part, field, digestSize}
-use Rattle.store.specs.declared.Timeout.{Timeout}
-use Rattle.store.specs.Height.{ownHeight, otherHeight}
-use Rattle.store.specs.Part.{endIn, timeoutIn}
+use Rattle.slots.specs.declared.Timeout.{Timeout}
+use Rattle.slots.specs.Height.{ownHeight, otherHeight}
+use Rattle.slots.specs.Part.{endIn, timeoutIn}
 use Rattle.datagram.specs.declared.Context.{Context}
 use Rattle.datagram.specs.declared.Packet.{Packet}
 use Rattle.datagram.specs.declared.Verdict.{Verdict}
-use Rattle.datagram.specs.Kind.{Kind, send, receive, write, acknowledge, timeOut, kindOf, frameSize}
+use Rattle.wire.specs.Frame.{frameSize}
+use Rattle.datagram.specs.Kind.{Kind, send, receive, write, acknowledge, timeOut, kindOf}
 use Rattle.datagram.specs.Kind.{Part, channelPart, sequencePart, timeoutPart, digestPart, packetPart, verdictPart}
 use Rattle.datagram.specs.Kind.{bodyOf, placeOf, sizeOf}
 use Rattle.datagram.specs.Claim.{claimOf}

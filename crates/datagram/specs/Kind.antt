@@ -6,6 +6,7 @@ use Prim.Native.Nat.{ℕ, _+_}
 use lib.Dec.{eqb}
 use Rattle.wire.specs.Choice.{_or_, pick, withNumber}
 use Rattle.wire.specs.Bytes.{digestSize}
+use Rattle.wire.specs.Frame.{frameSize}
 
 pub data Kind : Type 0 where
   send receive write acknowledge timeOut : Kind
@@ -37,9 +38,6 @@ only [] k = false
 only (j ∷ js) k = isOf j k or only js k
 
 -- SIZES, each stated once
-abbrev pub frameSize : ℕ
-frameSize = 6
-
 abbrev pub contextSize : ℕ
 contextSize = 32
 

@@ -1,7 +1,8 @@
 -- All definitions of this crate under one name, for those who use them.
 unfoldable pub use Rattle.datagram.specs.Kind.{only, body, hasPart, partsSize, sizeBefore}
 pub use Rattle.datagram.specs.Kind.{Kind, send, receive, write, acknowledge, timeOut, kinds, kindNumber, kindOf}
-pub use Rattle.datagram.specs.Kind.{isKind, isOf, frameSize, contextSize, packetSize, verdictSize, bodyFrom}
+pub use Rattle.wire.specs.Frame.{frameSize}
+pub use Rattle.datagram.specs.Kind.{isKind, isOf, contextSize, packetSize, verdictSize, bodyFrom}
 pub use Rattle.datagram.specs.Kind.{Part, channelPart, sequencePart, timeoutPart, digestPart, packetPart}
 pub use Rattle.datagram.specs.Kind.{verdictPart, partSize, bodyOf, partNumber, isPart, placeOf, sizeOf}
 pub use Rattle.datagram.specs.Claim.{Claim, commitmentPresent, acknowledgementPresent, receiptAbsent}

@@ -1,10 +1,10 @@
 // Datagrams and the records that are handed out, in lent bytes. Their types; specs/ says what they mean.
 pub mod read;
 
-use store::End;
-use store::OtherHeight;
-use store::OwnHeight;
-use store::Timeout;
+use slots::End;
+use slots::OtherHeight;
+use slots::OwnHeight;
+use slots::Timeout;
 
 // What the host says of the call: this ledger's height and time, the client's latest height of the other ledger,
 // the caller's port, and whether the connection is open.

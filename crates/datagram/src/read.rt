@@ -3,11 +3,13 @@
 use super::Context;
 use super::Packet;
 use super::Verdict;
-use store::OtherHeight;
-use store::OwnHeight;
-use store::Timeout;
-use store::part::end_at;
-use store::part::timeout_at;
+use slots::OtherHeight;
+use slots::OwnHeight;
+use slots::Timeout;
+use slots::part::end_at;
+use slots::part::timeout_at;
+use wire::DIGEST;
+use wire::FRAME;
 use wire::digest_at;
 use wire::u16_at;
 use wire::u32_at;
@@ -17,13 +19,12 @@ ghost use mathlib.Core.Bool.{true};
 ghost use Prim.Native.Nat.{_+_, _≤_};
 ghost use lib.ListN.{length};
 ghost use Rattle.wire.specs.Bytes.{field};
-ghost use Rattle.store.specs.Part.{timeoutIn};
-ghost use Rattle.datagram.specs.Kind.{kindOf, frameSize, bodyFrom, packetSize, verdictSize};
+ghost use Rattle.slots.specs.Part.{timeoutIn};
+ghost use Rattle.wire.specs.Frame.{frameSize};
+ghost use Rattle.datagram.specs.Kind.{kindOf, bodyFrom, packetSize, verdictSize};
 ghost use Rattle.datagram.specs.Kind.{digestPart, verdictPart, bodyOf, hasPart, placeOf, sizeOf};
 ghost use Rattle.datagram.specs.Datagram.{kindIn, contextIn, packetIn, verdictIn};
 ghost use Rattle.datagram.specs.Datagram.{digestFrom, verdictFrom, channelFrom};
-
-pub const FRAME: usize = 6;
 
 const CONTEXT: usize = 32;
 
@@ -32,8 +33,6 @@ pub const BODY: usize = FRAME + CONTEXT;
 pub const PACKET: usize = 68;
 
 pub const VERDICT: usize = 80;
-
-pub const DIGEST: usize = 32;
 
 pub fn context_in(d: &[u8]) -> Context
     requires { ⌜ bodyFrom ≤ length (now d) ⌝ }

@@ -10,7 +10,7 @@ use Rattle.wire.specs.Bytes.{little, patch}
 use Rattle.wire.proofs.BytesLaws.{length-little}
 use Rattle.wire.proofs.PatchLaws.{patch-append, patch-then, patch-front}
 use Rattle.datagram.specs.declared.Packet.{Packet}
-use Rattle.datagram.specs.Kind.{frameSize}
+use Rattle.wire.specs.Frame.{frameSize}
 use Rattle.datagram.specs.Emitted.{framed, packetBytes}
 use Rattle.emit.specs.Output.{atFront, endBytes}
 

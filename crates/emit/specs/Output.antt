@@ -3,7 +3,7 @@ use mathlib.Core.List.{List, _++_}
 use Prim.Native.Nat.{ℕ}
 use lib.ListN.{length, drop}
 use Rattle.wire.specs.Bytes.{little}
-use Rattle.store.specs.declared.End.{End}
+use Rattle.slots.specs.declared.End.{End}
 use Rattle.datagram.specs.declared.Packet.{Packet}
 use Rattle.datagram.specs.Emitted.{writtenKind, acknowledgedKind, framed, packetBytes}
 

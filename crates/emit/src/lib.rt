@@ -1,10 +1,10 @@
 // The records that are handed out, written at the front of the lent output. Each writer returns the record's length.
 use datagram::Packet;
-use datagram::read::DIGEST;
-use datagram::read::FRAME;
 use datagram::read::PACKET;
-use store::End;
-use store::part::put_end;
+use slots::End;
+use slots::part::put_end;
+use wire::DIGEST;
+use wire::FRAME;
 use wire::put_digest;
 use wire::put_frame;
 use wire::put_three;
@@ -13,7 +13,7 @@ ghost use mathlib.Core.Path.{_≡_};
 ghost use Prim.Native.Nat.{_+_, _≤_};
 ghost use lib.ListN.{length};
 ghost use Rattle.wire.specs.Bytes.{patch};
-ghost use Rattle.store.specs.Limits.{outputLimit};
+ghost use Rattle.slots.specs.Limits.{outputLimit};
 ghost use Rattle.datagram.specs.Kind.{packetSize};
 ghost use Rattle.datagram.specs.Emitted.{packetBytes};
 ghost use Rattle.emit.specs.Output.{atFront, packetRecord, writtenRecord, acknowledgedRecord};

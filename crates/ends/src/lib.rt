@@ -1,14 +1,14 @@
 // The channel end that acceptance leaves, by the kind of datagram and the channel's ordering.
 use ordering::raises_counter;
-use store::Channel;
-use store::Counters;
+use slots::Channel;
+use slots::Counters;
 use tables::ordering::is_ordered;
 ghost use mathlib.Core.Path.{_≡_};
 ghost use mathlib.Core.Bool.{true, false};
 ghost use Prim.Native.Nat.{_+_};
 ghost use lib.Dec.{eqb};
 ghost use Rattle.wire.specs.Choice.{_and_, pick};
-ghost use Rattle.store.specs.Limits.{top};
+ghost use Rattle.slots.specs.Limits.{top};
 ghost use Rattle.rules.specs.Ordering.{isSendAtTop, isReceiveAtTop, isAcknowledgeAtTop};
 ghost use Rattle.rules.specs.Ordering.{counted, raisedSend, receivedEnd, acknowledgedEnd, timedOutEnd};
 

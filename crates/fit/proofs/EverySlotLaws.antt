@@ -14,16 +14,16 @@ use Rattle.wire.specs.Bytes.{same, areZero, part, field, pieces, digestSize}
 use Rattle.wire.proofs.ChoiceLaws.{cases, of-pick, and-assoc, and-true, and-comm, and-swap}
 use Rattle.wire.proofs.BytesLaws.{eq-same, length-part, pieces-turn, pieces-end}
 use Rattle.wire.proofs.PartLaws.{same-append}
-use Rattle.store.specs.Limits.{channelLimit}
-use Rattle.store.specs.Table.{find, all, distinct, sameNumber, sameKey}
-use Rattle.store.specs.Layout.{headerSize, slotSize, recordsFrom, roomIn}
-use Rattle.store.specs.Layout.{channelBytes, recordBytes, slotBytes, tableBytes, headerBytes, bytesOf}
-use Rattle.store.specs.Layout.{channelIn, recordIn, slotIn, tableIn, storeIn}
-use Rattle.store.specs.Scan.{indexWhere, isAt, holds, slotAt, slotsFrom}
-use Rattle.store.specs.Fit.{channelFits, channelsFit, recordFits, recordsFit, storeFits, sizeFits, isFit}
-use Rattle.store.proofs.LayoutLaws.{length-header, length-channel, length-record}
-use Rattle.store.proofs.FitLaws.{fits-size, length-read}
-use Rattle.store.proofs.SlotTestLaws.{find-at}
+use Rattle.slots.specs.Limits.{channelLimit}
+use Rattle.slots.specs.Table.{find, all, distinct, sameNumber, sameKey}
+use Rattle.slots.specs.Layout.{headerSize, slotSize, recordsFrom, roomIn}
+use Rattle.slots.specs.Layout.{channelBytes, recordBytes, slotBytes, tableBytes, headerBytes, bytesOf}
+use Rattle.slots.specs.Layout.{channelIn, recordIn, slotIn, tableIn, storeIn}
+use Rattle.slots.specs.Scan.{indexWhere, isAt, holds, slotAt, slotsFrom}
+use Rattle.slots.specs.Fit.{channelFits, channelsFit, recordFits, recordsFit, storeFits, sizeFits, isFit}
+use Rattle.slots.proofs.LayoutLaws.{length-header, length-channel, length-record}
+use Rattle.slots.proofs.FitLaws.{fits-size, length-read}
+use Rattle.slots.proofs.SlotTestLaws.{find-at}
 use Rattle.fit.specs.EverySlot.{everySlot, isExact, slotFits}
 use Rattle.fit.proofs.FieldLaws.{same-zeros}
 

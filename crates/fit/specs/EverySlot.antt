@@ -4,8 +4,8 @@ use mathlib.Core.List.{List, [], _∷_, map}
 use Prim.Native.Nat.{ℕ}
 use Rattle.wire.specs.Choice.{_and_, _or_, isSome}
 use Rattle.wire.specs.Bytes.{same, areZero}
-use Rattle.store.specs.Table.{find}
-use Rattle.store.specs.Layout.{slotIn}
+use Rattle.slots.specs.Table.{find}
+use Rattle.slots.specs.Layout.{slotIn}
 
 -- each slot passes a test, which is given the slots behind it too
 unfoldable pub everySlot : (List ℕ → List (List ℕ) → Bool) → List (List ℕ) → Bool

@@ -2,50 +2,29 @@
 // once; for each entry the slots behind it are searched for its name.
 mod exact; // bytes laid out exactly as a store's
 
+use entries::channel_fits;
+use entries::record_fits;
 use exact::is_channel_exact;
 use exact::is_header_exact;
 use exact::is_record_exact;
-use store::Channel;
-use store::Found;
-use store::Record;
+use slots::slot::channel_at;
+use slots::slot::record_at;
 use store::Store;
-use store::Timeout;
 use store::size::size_fits;
-use store::slot::channel_at;
-use store::slot::record_at;
-use tables::ordering::is_ordered;
-use tables::ordering::is_received;
-use tables::scan::find_channel;
 use tables::scan::first_channel;
 use tables::scan::first_record;
 use tables::scan::is_found;
 use wire::are_zero;
-use wire::is_zero_digest;
 ghost use mathlib.Core.Path.{_≡_};
-ghost use mathlib.Core.Bool.{not};
-ghost use mathlib.Core.Option.{some};
 ghost use Prim.Native.Nat.{_+_, _≤_, _<_};
 ghost use lib.ListN.{length};
-ghost use Rattle.wire.specs.Choice.{_and_};
-ghost use Rattle.wire.specs.Bytes.{areZero};
-ghost use Rattle.store.specs.Limits.{channelLimit};
-ghost use Rattle.store.specs.Height.{noTimeout, sameTimeout};
-ghost use Rattle.store.specs.Table.{sameNumber, sameKey};
-ghost use Rattle.store.specs.Layout.{headerSize, recordsFrom, sizeFor, storeIn};
-ghost use Rattle.store.specs.Layout.{channelBytes, channelIn, recordBytes, recordIn};
-ghost use Rattle.store.specs.Ordering.{isOrdered, isReceived};
-ghost use Rattle.store.specs.Fit.{channelFits, fitsEnd, recordFits, isFit};
-ghost use Rattle.store.specs.Scan.{slotAt, slotsFrom};
+ghost use Rattle.slots.specs.Limits.{channelLimit};
+ghost use Rattle.slots.specs.Table.{sameNumber, sameKey};
+ghost use Rattle.slots.specs.Layout.{headerSize, recordsFrom, sizeFor, storeIn};
+ghost use Rattle.slots.specs.Layout.{channelBytes, channelIn, recordBytes, recordIn};
+ghost use Rattle.slots.specs.Fit.{channelFits, recordFits, isFit};
+ghost use Rattle.slots.specs.Scan.{slotAt, slotsFrom};
 ghost use Rattle.fit.specs.EverySlot.{everySlot, slotFits};
-
-// OPEN or CLOSED, ordered or unordered, counters at least 1.
-fn channel_fits(c: Channel) -> bool
-    ensures { λ r. ⌜ r ≡ channelFits c ⌝ }
-{
-    ((3 <= c.state) & (c.state <= 4))
-        & ((1 <= c.order) & (c.order <= 2))
-        & ((1 <= c.next.send) & (1 <= c.next.receive) & (1 <= c.next.acknowledge))
-}
 
 // Slot i of the channel records, before the slots behind it.
 fn channel_slot_fits(s: &[u8], i: usize) -> bool
@@ -80,55 +59,6 @@ fn channels_fit(s: &[u8]) -> bool
         i += 1;
     }
     true
-}
-
-fn is_no_timeout(t: Timeout) -> bool
-    ensures { λ r. ⌜ r ≡ sameTimeout t noTimeout ⌝ }
-{
-    (t.height == 0) & (t.time == 0)
-}
-
-fn receipt_fits(r: Record, c: Channel) -> bool
-    ensures { λ b. ⌜ b ≡ (not (isOrdered c) and sameTimeout (r .timeout) noTimeout and areZero (r .digest)) ⌝ }
-{
-    let t = r.timeout;
-    let d = r.digest;
-    !is_ordered(c) & is_no_timeout(t) & is_zero_digest(d)
-}
-
-fn acknowledgement_fits(s: &[u8], count: usize, r: Record, c: Channel) -> bool
-    requires { ⌜ length (now s) ≡ sizeFor count ⌝ }
-    ensures { λ b. ⌜
-        b ≡ (sameTimeout (r .timeout) noTimeout and isReceived (storeIn (now (s .entry)) .records) c (r .sequence))
-        ⌝ }
-{
-    let t = r.timeout;
-    is_no_timeout(t) & is_received(s, count, c, r.sequence)
-}
-
-// By kind, on the record's own channel end.
-fn fits_end(s: &[u8], count: usize, r: Record, c: Channel) -> bool
-    requires { ⌜ length (now s) ≡ sizeFor count ⌝ }
-    ensures { λ b. ⌜ b ≡ fitsEnd (storeIn (now (s .entry))) r (some c) ⌝ }
-{
-    let kind = r.kind;
-    match kind {
-        1 => r.sequence < c.next.send,
-        2 => receipt_fits(r, c),
-        3 => acknowledgement_fits(s, count, r, c),
-        _ => false,
-    }
-}
-
-fn record_fits(s: &[u8], count: usize, r: Record) -> bool
-    requires { ⌜ length (now s) ≡ sizeFor count ⌝ }
-    ensures { λ b. ⌜ b ≡ recordFits (storeIn (now (s .entry))) r ⌝ }
-{
-    let Found::At(j) = find_channel(s, r.channel) else {
-        return false;
-    };
-    let c = channel_at(s, Store::HEADER + Store::SLOT * j);
-    (1 <= r.sequence) & fits_end(s, count, r, c)
 }
 
 // Slot i of the packet records, before the slots behind it.

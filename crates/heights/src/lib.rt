@@ -2,14 +2,14 @@
 // ledger's at its sender and this ledger's at its receiver; two conversions say which.
 use datagram::Context;
 use datagram::Verdict;
-use store::OtherHeight;
-use store::OwnHeight;
-use store::Timeout;
+use slots::OtherHeight;
+use slots::OwnHeight;
+use slots::Timeout;
 ghost use mathlib.Core.Path.{_≡_};
-ghost use Rattle.store.specs.declared.Timeout.{Timeout};
-ghost use Rattle.store.specs.Layout.{Store};
-ghost use Rattle.store.specs.Height.{heightAtSender, heightAtReceiver, isPast, isPastOwn, isPastOther};
-ghost use Rattle.store.specs.Height.{noTimeout, sameTimeout};
+ghost use Rattle.slots.specs.declared.Timeout.{Timeout};
+ghost use Rattle.slots.specs.Layout.{Store};
+ghost use Rattle.slots.specs.Height.{heightAtSender, heightAtReceiver, isPast, isPastOwn, isPastOther};
+ghost use Rattle.slots.specs.Height.{noTimeout, sameTimeout};
 ghost use Rattle.rules.specs.Refusals.{goesBack, isLateAtSender, isLateAtReceiver, isProvedLate};
 
 fn height_at_sender(t: Timeout) -> OtherHeight

@@ -6,7 +6,7 @@ use lib.Dec.{leb, eqb}
 use lib.ListN.{length, take, drop, replicate}
 use Rattle.wire.specs.Choice.{_and_, pick}
 use Rattle.wire.specs.Bytes.{field}
-use Rattle.store.specs.Limits.{outputLimit}
+use Rattle.slots.specs.Limits.{outputLimit}
 use Rattle.store.specs.Length.{lengthFor}
 use Rattle.store.specs.Maker.{makeTold, makeStore}
 use Rattle.emit.specs.Output.{atFront}

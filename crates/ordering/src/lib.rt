@@ -1,14 +1,14 @@
 // What depends on a channel's ordering: the tests 14 for 5, 15, 16 for 2, 19, and 20 for 2, and whether a counter rises.
 // The store has the test 17, and no other test does.
-use store::Channel;
+use slots::Channel;
 use tables::ordering::is_ordered;
 use tables::scan::has_record;
 ghost use mathlib.Core.Path.{_≡_};
 ghost use mathlib.Core.Bool.{true};
 ghost use lib.ListN.{length};
 ghost use Rattle.wire.specs.Choice.{pick};
-ghost use Rattle.store.specs.Layout.{sizeFor, storeIn};
-ghost use Rattle.store.specs.Ordering.{isOrdered};
+ghost use Rattle.slots.specs.Layout.{sizeFor, storeIn};
+ghost use Rattle.slots.specs.Ordering.{isOrdered};
 ghost use Rattle.rules.specs.Ordering.{receivesInOrder, acknowledgesInOrder, timesOutInOrder, absenceClaim};
 ghost use Rattle.rules.specs.Ordering.{absenceSequence, isReceiptThere, raisesReceive, raisesAcknowledge};
 ghost use Rattle.datagram.specs.Claim.{claimNumber};

@@ -3,9 +3,9 @@ use mathlib.Core.Path.{_≡_, refl}
 use mathlib.Core.List.{List, [], _∷_}
 use mathlib.Core.Option.{Option, none, some}
 use Prim.Native.Nat.{ℕ, suc}
-use Rattle.store.specs.Table.{hasFree}
-use Rattle.store.specs.Scan.{indexWhere, isFree}
-use Rattle.store.specs.Scan.{isAt}
+use Rattle.slots.specs.Table.{hasFree}
+use Rattle.slots.specs.Scan.{indexWhere, isFree}
+use Rattle.slots.specs.Scan.{isAt}
 
 pub free-at : {A : Type 0} (n : ℕ) (xs : List (Option A)) → hasFree xs ≡ isAt (indexWhere isFree n xs)
 unfolding hasFree indexWhere

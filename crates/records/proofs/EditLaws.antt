@@ -3,13 +3,13 @@ use mathlib.Core.Path.{_≡_, ap}
 use mathlib.Core.List.{List}
 use mathlib.Core.Option.{Option, none, some}
 use Prim.Native.Nat.{ℕ}
-use Rattle.store.specs.declared.Record.{Record}
-use Rattle.store.specs.declared.Found.the-variants.{At}
-use Rattle.store.specs.Table.{Key, hasKey}
-use Rattle.store.specs.Layout.{Store, bytesOf}
-use Rattle.store.specs.Effect.{withRecordSlot}
-use Rattle.store.specs.Scan.{firstThat, firstFree}
-use Rattle.store.proofs.ScanLaws.{set-insert, set-replace}
+use Rattle.slots.specs.declared.Record.{Record}
+use Rattle.slots.specs.declared.Found.the-variants.{At}
+use Rattle.slots.specs.Table.{Key, hasKey}
+use Rattle.slots.specs.Layout.{Store, bytesOf}
+use Rattle.slots.specs.Effect.{withRecordSlot}
+use Rattle.slots.specs.Scan.{firstThat, firstFree}
+use Rattle.slots.proofs.ScanLaws.{set-insert, set-replace}
 use Rattle.rules.specs.Ordering.{writes, frees}
 use Rattle.rules.specs.Acceptance.{edited}
 use Rattle.records.specs.Edited.{withRecords, withEdit}

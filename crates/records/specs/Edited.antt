@@ -1,8 +1,8 @@
 -- A store whose packet records alone are others: those that an edit leaves.
 use mathlib.Core.List.{List}
 use mathlib.Core.Option.{Option}
-use Rattle.store.specs.declared.Record.{Record}
-use Rattle.store.specs.Layout.{Store}
+use Rattle.slots.specs.declared.Record.{Record}
+use Rattle.slots.specs.Layout.{Store}
 use Rattle.rules.specs.Ordering.{Edit}
 use Rattle.rules.specs.Acceptance.{edited}
 

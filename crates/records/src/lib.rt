@@ -1,20 +1,20 @@
 // What acceptance does to the packet records: a new one takes the free slot of lowest index, a commitment becomes free.
+use changes::insert_record;
+use changes::remove_record;
 use ordering::raises_counter;
-use store::Channel;
-use store::Found;
-use store::Record;
+use slots::Channel;
+use slots::Found;
+use slots::Record;
+use slots::Timeout;
 use store::Store;
-use store::Timeout;
-use tables::effect::insert_record;
-use tables::effect::remove_record;
 use tables::scan::find_free;
 use tables::scan::find_record;
 ghost use mathlib.Core.Path.{_≡_};
 ghost use mathlib.Core.Bool.{true, false};
 ghost use Rattle.wire.specs.Choice.{isSome};
-ghost use Rattle.store.specs.Table.{commitmentKey, lookup, hasFree};
-ghost use Rattle.store.specs.Layout.{bytesOf, storeIn};
-ghost use Rattle.store.specs.Effect.{Exact};
+ghost use Rattle.slots.specs.Table.{commitmentKey, lookup, hasFree};
+ghost use Rattle.slots.specs.Layout.{bytesOf, storeIn};
+ghost use Rattle.slots.specs.Effect.{Exact};
 ghost use Rattle.rules.specs.Ordering.{writes, frees, plainRecord, raisesReceive, receivedEdit};
 ghost use Rattle.records.specs.Edited.{withEdit};
 

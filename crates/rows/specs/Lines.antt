@@ -4,8 +4,8 @@ use mathlib.Core.Option.{Option}
 use Prim.Native.Nat.{ℕ}
 use lib.Dec.{ltb}
 use Rattle.wire.specs.Choice.{pick}
-use Rattle.store.specs.declared.Channel.{Channel}
-use Rattle.store.specs.Layout.{Store}
+use Rattle.slots.specs.declared.Channel.{Channel}
+use Rattle.slots.specs.Layout.{Store}
 use Rattle.datagram.specs.Kind.{Kind}
 use Rattle.datagram.specs.Datagram.{Datagram}
 use Rattle.rules.specs.Refusals.{Line, lowest, table}

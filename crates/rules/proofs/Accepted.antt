@@ -1,8 +1,8 @@
 -- What an accepted datagram of each kind tells: the one place that opens the table of answers. Assumes nothing.
 use Rattle.wire.proofs.Prelude.{_≡_, true, false, not, List, Option, some, ℕ, eqb-true, not-false}
 use Rattle.wire.specs.Names.{_and_, _or_}
-use Rattle.store.specs.declared.Channel.{Channel}
-use Rattle.store.specs.Names.{hasFree, Store, isReceived}
+use Rattle.slots.specs.declared.Channel.{Channel}
+use Rattle.slots.specs.Names.{hasFree, Store, isReceived}
 use Rattle.datagram.specs.Names.{Kind, send, receive, write, acknowledge, timeOut, only, Datagram}
 use Rattle.rules.specs.Names.{receivesInOrder, isReceiptThere, timesOutInOrder, isSendAtTop, isReceiveAtTop}
 use Rattle.rules.specs.Names.{isAcknowledgeAtTop, needsReceipt, Line, lowest, table, fitsDestination, fitsSource}

@@ -2,7 +2,7 @@
 use Rattle.wire.proofs.Prelude.{_≡_, sym, ap, _∙_, List, Option, ℕ, eqb, length, eqb-true}
 use Rattle.wire.specs.Names.{Bytes}
 use Rattle.wire.proofs.Laws.{cases}
-use Rattle.store.specs.declared.Channel.{Channel}
+use Rattle.slots.specs.declared.Channel.{Channel}
 use Rattle.datagram.specs.Names.{Kind}
 use Rattle.rules.specs.declared.Told.{Told}
 use Rattle.rules.specs.Names.{orNone, refusals, sentPacket, effectOf, effectFor, answerTo, effectIn, called, Call}

@@ -6,7 +6,7 @@ use Rattle.wire.proofs.Prelude.{le-leb, eq-eqb, not-true, ⊎-elim}
 use borrow.Author.Tests.{lt-leb}
 use Rattle.wire.specs.Names.{_and_, _or_, pick, Every}
 use Rattle.wire.proofs.Laws.{and-both, both-and, or-either, clash}
-use Rattle.store.specs.Names.{storeIn}
+use Rattle.slots.specs.Names.{storeIn}
 use Rattle.datagram.specs.declared.Verdict.{Verdict}
 use Rattle.datagram.specs.Names.{verdictPart, bodyOf, hasPart}
 use Rattle.rules.specs.Names.{claimHolds, Side, across, isSide, Call, heard, At, storeAfter, isAccepted}

@@ -4,9 +4,9 @@ use Rattle.wire.proofs.Prelude.{_≡_, refl, sym, ap, subst, _∙_, true, _⊎_
 use Rattle.wire.proofs.Prelude.{eqb-true}
 use Rattle.wire.specs.Names.{_or_}
 use Rattle.wire.proofs.Laws.{and-both}
-use Rattle.store.specs.declared.End.{End}
-use Rattle.store.specs.declared.Channel.{Channel}
-use Rattle.store.specs.Names.{channelAt, sameEnd, Store, storeIn}
+use Rattle.slots.specs.declared.End.{End}
+use Rattle.slots.specs.declared.Channel.{Channel}
+use Rattle.slots.specs.Names.{channelAt, sameEnd, Store, storeIn}
 use Rattle.datagram.specs.declared.Packet.{Packet}
 use Rattle.datagram.specs.Names.{receive, body, hasPart}
 use Rattle.rules.specs.Names.{fitsDestination, Side, across, Call, heard, At, fold, Paired, Peers, packetOf, isDelivery}

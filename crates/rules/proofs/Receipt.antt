@@ -3,9 +3,9 @@
 use Rattle.wire.proofs.Prelude.{_≡_, refl, sym, ap, subst, _∙_, true, List, Option, some, ℕ, suc, arith, eqb, eqb-true}
 use Rattle.wire.proofs.Prelude.{eqb-false}
 use Rattle.wire.proofs.Laws.{clash, cases, of-pick}
-use Rattle.store.specs.declared.Channel.{Channel}
-use Rattle.store.specs.declared.Record.{Record}
-use Rattle.store.specs.Names.{receiptKey, channelAt, hasFree, Store, isOrdered, isReceived}
+use Rattle.slots.specs.declared.Channel.{Channel}
+use Rattle.slots.specs.declared.Record.{Record}
+use Rattle.slots.specs.Names.{receiptKey, channelAt, hasFree, Store, isOrdered, isReceived}
 use Rattle.datagram.specs.Names.{send, receive, write, acknowledge, timeOut, Datagram}
 use Rattle.datagram.proofs.Laws.{kinds-apart}
 use Rattle.rules.specs.Names.{counted, closed, receivedEnd, receivedEdit, raisesAcknowledge, raisedAcknowledge}

@@ -3,11 +3,11 @@ use Rattle.wire.proofs.Prelude.{_≡_, refl, sym, ap, _∙_, Bool, true, false,
 use Rattle.wire.proofs.Prelude.{arith, eqb, eqb-true, not-true}
 use Rattle.wire.specs.Names.{pick, isSome, withNumber, same}
 use Rattle.wire.proofs.Laws.{and-both, clash, same-eq}
-use Rattle.store.specs.declared.End.{End}
-use Rattle.store.specs.declared.Timeout.{Timeout}
-use Rattle.store.specs.declared.Channel.{Channel}
-use Rattle.store.specs.declared.Record.{Record}
-use Rattle.store.specs.Names.{sameTimeout, commitmentKey, receiptKey, lookup, channelAt, Store}
+use Rattle.slots.specs.declared.End.{End}
+use Rattle.slots.specs.declared.Timeout.{Timeout}
+use Rattle.slots.specs.declared.Channel.{Channel}
+use Rattle.slots.specs.declared.Record.{Record}
+use Rattle.slots.specs.Names.{sameTimeout, commitmentKey, receiptKey, lookup, channelAt, Store}
 use Rattle.datagram.specs.declared.Verdict.{Verdict}
 use Rattle.datagram.specs.Names.{Claim, commitmentPresent, acknowledgementPresent, receiptAbsent}
 use Rattle.datagram.specs.Names.{nextReceiveIs, claimNumber, claimOf}

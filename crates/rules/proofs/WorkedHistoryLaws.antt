@@ -2,8 +2,8 @@
 use Rattle.wire.proofs.Prelude.{_≡_, refl, List, ℕ, ltb, ltb-true, true}
 use Rattle.wire.specs.Names.{Every, Bytes}
 use Rattle.wire.proofs.Laws.{every-map}
-use Rattle.store.specs.Names.{isNumbered, storeIn}
-use Rattle.store.proofs.Laws.{each-find}
+use Rattle.slots.specs.Names.{isNumbered, storeIn}
+use Rattle.slots.proofs.Laws.{each-find}
 use Rattle.rules.specs.Names.{Side, first, second, Made, Paired, aSlice, openingsOn, stores, requests, history}
 use Rattle.rules.specs.Names.{WorkedHistory}
 use Rattle.rules.proofs.HonestLaws.{areAll, all-every, honest-seen}

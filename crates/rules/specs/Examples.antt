@@ -3,8 +3,8 @@ use mathlib.Core.List.{List, [], _∷_, _++_}
 use Prim.Native.Nat.{ℕ}
 use lib.ListN.{replicate}
 use Rattle.wire.specs.Bytes.{little, noDigest}
-use Rattle.store.specs.Limits.{outputLimit}
-use Rattle.store.specs.Layout.{sizeFor}
+use Rattle.slots.specs.Limits.{outputLimit}
+use Rattle.slots.specs.Layout.{sizeFor}
 use Rattle.datagram.specs.declared.Packet.{Packet}
 use Rattle.datagram.specs.Emitted.{framed, packetBytes}
 

@@ -12,7 +12,8 @@ use Rattle.wire.specs.Bytes.{field}
 use Rattle.wire.specs.declared.Frame.the-variants.{Whole, Malformed}
 use Rattle.wire.specs.Frame.{frameIn}
 use Rattle.wire.proofs.ChoiceLaws.{and-both, and-assoc, and-false, and-true, clash, cases}
-use Rattle.datagram.specs.Kind.{frameSize, kindOf, sizeOf, bodyOf}
+use Rattle.wire.specs.Frame.{frameSize}
+use Rattle.datagram.specs.Kind.{kindOf, sizeOf, bodyOf}
 use Rattle.datagram.specs.Claim.{claimOf}
 use Rattle.datagram.specs.Datagram.{kindIn, datagramIn, isContextSound, arePartsSound, isSound}
 use Rattle.sound.specs.Sound.{isBodySound}

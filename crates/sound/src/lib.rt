@@ -1,11 +1,11 @@
 // Whether a datagram whose frame is whole is well formed.
 use datagram::read::BODY;
-use datagram::read::DIGEST;
-use datagram::read::FRAME;
 use datagram::read::PACKET;
 use datagram::read::VERDICT;
 use datagram::read::sequence_in;
 use datagram::read::verdict_place;
+use wire::DIGEST;
+use wire::FRAME;
 use wire::are_zero;
 use wire::u16_at;
 use wire::u64_at;

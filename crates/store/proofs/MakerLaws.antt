@@ -5,16 +5,18 @@ use Rattle.wire.proofs.Prelude.{length-replicate, length-map, ltb-false, eq-eqb
 use Rattle.wire.specs.Names.{_and_, pick, Every, Bytes}
 use Rattle.wire.proofs.Laws.{and-both, both-and, pick-zero, every-map, every-of, every-getD, Byte, field-below}
 use Rattle.wire.proofs.Laws.{length-pieces, every-pieces}
-use Rattle.store.specs.declared.Channel.{Channel}
-use Rattle.store.specs.declared.Record.{Record}
-use Rattle.store.specs.Names.{channelLimit, find, count, distinct, Key, hasKey, lookup, isCommitmentOn}
-use Rattle.store.specs.Names.{commitments, isNumbered, sameNumber, channelAt, sameKey, roomIn, bytesOf}
-use Rattle.store.specs.Names.{channelFits, channelsFit, recordFits, recordsFit, storeFits, sizeFits, openingSize}
-use Rattle.store.specs.Names.{openingsIn, openingFits, allOpeningsFit, openingOf, endsOf, makeNumber, madeStore}
-use Rattle.store.specs.Names.{makeTold, makeStore}
-use Rattle.store.proofs.TableLaws.{Each, each-all, each-find}
-use Rattle.store.proofs.LayoutLaws.{ChannelFields, RecordFields, StoreFields}
-use Rattle.store.proofs.FitLaws.{Sized, fits-size}
+use Rattle.slots.specs.declared.Channel.{Channel}
+use Rattle.slots.specs.declared.Record.{Record}
+use Rattle.slots.specs.Names.{channelLimit, find, count, distinct, Key, hasKey, lookup, isCommitmentOn}
+use Rattle.slots.specs.Names.{commitments, isNumbered, sameNumber, channelAt, sameKey, roomIn, bytesOf}
+use Rattle.slots.specs.Names.{channelFits, channelsFit, recordFits, recordsFit, storeFits, sizeFits}
+use Rattle.openings.specs.Opening.{openingSize}
+use Rattle.openings.specs.Opening.{openingsIn, openingFits, allOpeningsFit, openingOf, endsOf}
+use Rattle.store.specs.Maker.{makeNumber, madeStore}
+use Rattle.store.specs.Maker.{makeTold, makeStore}
+use Rattle.slots.proofs.TableLaws.{Each, each-all, each-find}
+use Rattle.slots.proofs.LayoutLaws.{ChannelFields, RecordFields, StoreFields}
+use Rattle.slots.proofs.FitLaws.{Sized, fits-size}
 
 -- FREE SLOTS behind a table change nothing
 module _ {A : Type 0} where

@@ -1,5 +1,5 @@
 // Scans of the two tables: the first slot that passes a test, by its index.
-use store::Found;
+use slots::Found;
 use store::Store;
 use wire::are_zero;
 use wire::u16_at;
@@ -10,11 +10,11 @@ ghost use Prim.Native.Nat.{_+_, _≤_};
 ghost use lib.ListN.{length};
 ghost use Rattle.wire.specs.Choice.{isSome};
 ghost use Rattle.wire.specs.Bytes.{part};
-ghost use Rattle.store.specs.Limits.{channelLimit};
-ghost use Rattle.store.specs.Table.{isNumbered, hasKey, lookup};
-ghost use Rattle.store.specs.Layout.{headerSize, slotSize, recordsFrom, sizeFor};
-ghost use Rattle.store.specs.Layout.{channelIn, recordIn, slotIn, storeIn};
-ghost use Rattle.store.specs.Scan.{indexWhere, isAt, holds, firstFree, firstThat, tableFrom};
+ghost use Rattle.slots.specs.Limits.{channelLimit};
+ghost use Rattle.slots.specs.Table.{isNumbered, hasKey, lookup};
+ghost use Rattle.slots.specs.Layout.{headerSize, slotSize, recordsFrom, sizeFor};
+ghost use Rattle.slots.specs.Layout.{channelIn, recordIn, slotIn, storeIn};
+ghost use Rattle.slots.specs.Scan.{indexWhere, isAt, holds, firstFree, firstThat, tableFrom};
 
 // A free slot has no number, though its bytes read as 0. Numbers differ, so that few slots are tested for it.
 fn is_numbered(s: &[u8], at: usize, number: u32) -> bool

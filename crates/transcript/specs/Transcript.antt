@@ -4,8 +4,8 @@ use Prim.Native.Nat.{ℕ, zero, suc}
 use lib.Dec.{leb, eqb}
 use lib.ListN.{length, take, drop, replicate}
 use Rattle.wire.specs.Choice.{pick}
-use Rattle.store.specs.Limits.{recordLimit}
-use Rattle.store.specs.Layout.{sizeFor}
+use Rattle.slots.specs.Limits.{recordLimit}
+use Rattle.slots.specs.Layout.{sizeFor}
 use Rattle.transcript.specs.declared.Front.{Front}
 use Rattle.transcript.specs.declared.Front.the-variants.{Whole, Torn, Short}
 use Rattle.night.specs.declared.Phase.{Phase}

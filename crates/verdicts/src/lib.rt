@@ -5,13 +5,13 @@ use heights::no_timeout;
 use heights::same_timeout;
 use ordering::absence_claim;
 use ordering::absence_sequence;
-use store::Channel;
-use store::End;
-use store::Timeout;
+use slots::Channel;
+use slots::End;
+use slots::Timeout;
 use wire::same_digest;
 ghost use mathlib.Core.Path.{_≡_};
 ghost use Rattle.wire.specs.Bytes.{noDigest};
-ghost use Rattle.store.specs.Height.{noTimeout};
+ghost use Rattle.slots.specs.Height.{noTimeout};
 ghost use Rattle.rules.specs.Verdict.{firstDifference};
 ghost use Rattle.rules.specs.Refusals.{commitmentDifference, acknowledgementDifference, absenceDifference};
 

@@ -5,3 +5,4 @@ pub mod BytesLaws
 pub mod Laws
 pub mod PartLaws
 pub mod PatchLaws
+pub mod TestLaws

@@ -8,6 +8,10 @@ use Rattle.wire.specs.Bytes.{field}
 use Rattle.wire.specs.declared.Frame.{Frame}
 use Rattle.wire.specs.declared.Frame.the-variants.{Whole, Malformed}
 
+abbrev pub frameSize : ℕ
+frameSize = 6
+
 -- bytes are a whole frame where both fields are there and the length field is the number of bytes
 unfoldable pub frameIn : List ℕ → Frame
-frameIn bs = pick (leb 6 (length bs) and eqb (field 0 4 bs) (length bs)) (Whole (field 4 2 bs) (field 0 4 bs)) Malformed
+frameIn bs =
+    pick (leb frameSize (length bs) and eqb (field 0 4 bs) (length bs)) (Whole (field 4 2 bs) (field 0 4 bs)) Malformed

@@ -5,8 +5,13 @@ ghost use mathlib.Core.Path.{_≡_};
 ghost use mathlib.Core.List.{_++_};
 ghost use Prim.Native.Nat.{_+_, _≤_};
 ghost use lib.ListN.{length, replicate};
-ghost use Rattle.wire.specs.Bytes.{part, field, little, patch, same, areZero};
-ghost use Rattle.wire.specs.Frame.{frameIn};
+ghost use Rattle.wire.specs.Bytes.{part, field, little, patch, same, areZero, digestSize};
+ghost use Rattle.wire.specs.Frame.{frameSize, frameIn};
+
+// A digest, and a frame's length and kind, in bytes.
+pub const DIGEST: usize = 32;
+
+pub const FRAME: usize = 6;
 
 pub fn u8_at(s: &[u8], at: usize) -> u8
     requires { ⌜ at + 1 ≤ length (now s) ⌝ }
@@ -111,25 +116,25 @@ pub fn are_zero(s: &[u8], from: usize, size: usize) -> bool
 }
 
 // Digests are arrays by value: read whole, compared whole, stored whole.
-pub fn digest_at(s: &[u8], at: usize) -> [u8; 32]
-    requires { ⌜ at + 32 ≤ length (now s) ⌝ }
-    ensures { λ r. ⌜ r ≡ part at 32 (now (s .entry)) ⌝ }
+pub fn digest_at(s: &[u8], at: usize) -> [u8; DIGEST]
+    requires { ⌜ at + digestSize ≤ length (now s) ⌝ }
+    ensures { λ r. ⌜ r ≡ part at digestSize (now (s .entry)) ⌝ }
 {
-    let mut d = [0u8; 32];
+    let mut d = [0u8; DIGEST];
     let mut i: usize = 0;
-    while i < 32 {
+    while i < DIGEST {
         d[i] = s[at + i];
         i += 1;
     }
     d
 }
 
-pub fn put_digest(s: &mut [u8], at: usize, d: [u8; 32])
-    requires { ⌜ at + 32 ≤ length (now s) ⌝ }
+pub fn put_digest(s: &mut [u8], at: usize, d: [u8; DIGEST])
+    requires { ⌜ at + digestSize ≤ length (now s) ⌝ }
     ensures { λ _. ⌜ now (s .exit) ≡ patch at d (now (s .entry)) ⌝ }
 {
     let mut i: usize = 0;
-    while i < 32 {
+    while i < DIGEST {
         s[at + i] = d[i];
         i += 1;
     }
@@ -143,16 +148,16 @@ fn same_half(a: &[u8], b: &[u8], at: usize) -> bool
     (u64_at(a, at) == u64_at(b, at)) & (u64_at(a, at + 8) == u64_at(b, at + 8))
 }
 
-pub fn same_digest(a: [u8; 32], b: [u8; 32]) -> bool
+pub fn same_digest(a: [u8; DIGEST], b: [u8; DIGEST]) -> bool
     ensures { λ r. ⌜ r ≡ same a b ⌝ }
 {
     same_half(&a, &b, 0) & same_half(&a, &b, 16)
 }
 
-pub fn is_zero_digest(d: [u8; 32]) -> bool
+pub fn is_zero_digest(d: [u8; DIGEST]) -> bool
     ensures { λ r. ⌜ r ≡ areZero d ⌝ }
 {
-    are_zero(&d, 0, 32)
+    are_zero(&d, 0, DIGEST)
 }
 
 // What a slice is as a framed record: whole, or malformed, as where its length field is another.
@@ -165,7 +170,7 @@ pub enum Frame {
 pub fn frame_in(s: &[u8]) -> Frame
     ensures { λ r. ⌜ r ≡ frameIn (now (s .entry)) ⌝ }
 {
-    if s.len() < 6 {
+    if s.len() < FRAME {
         return Frame::Malformed;
     }
     let length = u32_at(s, 0);
@@ -181,7 +186,7 @@ pub fn frame_in(s: &[u8]) -> Frame
 
 // A record's frame at the front of a slice.
 pub fn put_frame(s: &mut [u8], size: u32, kind: u16)
-    requires { ⌜ 6 ≤ length (now s) ⌝ }
+    requires { ⌜ frameSize ≤ length (now s) ⌝ }
     ensures { λ _. ⌜ now (s .exit) ≡ patch 0 (little 4 size ++ little 2 kind) (now (s .entry)) ⌝ }
 {
     put_u32(s, 0, size);

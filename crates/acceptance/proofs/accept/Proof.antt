@@ -11,21 +11,21 @@ use borrow.Author.Needs.{needs}
 use Rattle.wire.specs.Choice.{isSome}
 use Rattle.wire.specs.Bytes.{Bytes}
 use Rattle.wire.proofs.PartLaws.{bytes-getD}
-use Rattle.store.specs.declared.Channel.{Channel}
-use Rattle.store.specs.declared.Found.the-variants.{At}
-use Rattle.store.specs.Limits.{channelLimit}
-use Rattle.store.specs.Table.{isNumbered, channelAt}
-use Rattle.store.specs.Layout.{storeIn}
-use Rattle.store.specs.Scan.{holds, firstThat}
-use Rattle.store.proofs.EffectLaws.{exact-room}
-use Rattle.store.proofs.HeldLaws.{held-exact}
+use Rattle.slots.specs.declared.Channel.{Channel}
+use Rattle.slots.specs.declared.Found.the-variants.{At}
+use Rattle.slots.specs.Limits.{channelLimit}
+use Rattle.slots.specs.Table.{isNumbered, channelAt}
+use Rattle.slots.specs.Layout.{storeIn}
+use Rattle.slots.specs.Scan.{holds, firstThat}
+use Rattle.slots.proofs.EffectLaws.{exact-room}
+use Rattle.slots.proofs.HeldLaws.{held-exact}
 use Rattle.datagram.specs.Datagram.{kindIn, sizeOfKind, channelFrom, datagramIn}
 use Rattle.emit.specs.Output.{atFront}
 use Rattle.datagram.proofs.DatagramLaws.{digest-room}
 use Rattle.rules.specs.Acceptance.{Effect}
 use Rattle.acceptance.specs.Carried.{Accepts}
-use Rattle.store.proofs.ScanLaws.{channel-found}
-use Rattle.store.proofs.SlotTestLaws.{channel-index}
+use Rattle.slots.proofs.ScanLaws.{channel-found}
+use Rattle.slots.proofs.SlotTestLaws.{channel-index}
 use Rattle.acceptance.proofs.AcceptLaws.{accepts, store-exact, sound, effect-is}
 use Rattle.acceptance.proofs.AcceptLaws.{held-records, held-tables, held-all}
 use Rattle.acceptance.proofs.accept.Statement.{statement}

@@ -2,8 +2,8 @@
 use native.Mathlib.Omega.{arith}
 use denote.Ref.{now}
 use borrow.Author.Needs.{needs}
-use Rattle.store.specs.Table.{hasFree}
-use Rattle.store.specs.Layout.{storeIn}
+use Rattle.slots.specs.Table.{hasFree}
+use Rattle.slots.specs.Layout.{storeIn}
 use Rattle.datagram.specs.Datagram.{sizeOfKind, datagramIn}
 use Rattle.rules.specs.Acceptance.{receives}
 use Rattle.rules.proofs.OrderingLaws.{receive-room}

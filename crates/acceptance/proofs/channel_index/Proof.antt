@@ -4,9 +4,9 @@ use denote.Ref.{now}
 use borrow.Author.Needs.{needs}
 use Rattle.wire.specs.Choice.{isSome}
 use Rattle.wire.proofs.ChoiceLaws.{clash}
-use Rattle.store.specs.Table.{isNumbered}
-use Rattle.store.specs.Layout.{storeIn}
-use Rattle.store.proofs.ScanLaws.{find-nothing}
+use Rattle.slots.specs.Table.{isNumbered}
+use Rattle.slots.specs.Layout.{storeIn}
+use Rattle.slots.proofs.ScanLaws.{find-nothing}
 use Rattle.acceptance.proofs.channel_index.Statement.{statement}
 use Rattle.acceptance.proofs.channel_index.Tie as tie
 

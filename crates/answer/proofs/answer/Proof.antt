@@ -3,7 +3,7 @@ use mathlib.Core.Path.{_≡_, sym, _∙_}
 use denote.Ref.{now}
 use borrow.Author.Needs.{needs}
 use borrow.Author.Tests.{lt-ltb, le-ltb}
-use Rattle.store.specs.Layout.{storeIn}
+use Rattle.slots.specs.Layout.{storeIn}
 use Rattle.datagram.specs.Datagram.{datagramIn}
 use Rattle.sound.proofs.SoundLaws.{malformed}
 use Rattle.rules.specs.Refusals.{lowest, table, refusals, orNone, endFor}

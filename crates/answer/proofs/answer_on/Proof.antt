@@ -4,7 +4,7 @@ use denote.Ref.{now}
 use borrow.Author.Needs.{needs}
 use borrow.Author.Tests.{eq-eqb, ne-eqb}
 use Rattle.wire.specs.Choice.{_and_}
-use Rattle.store.specs.Layout.{storeIn}
+use Rattle.slots.specs.Layout.{storeIn}
 use Rattle.datagram.specs.Kind.{kindOf}
 use Rattle.datagram.specs.Datagram.{datagramIn}
 use Rattle.datagram.proofs.DatagramLaws.{of-number}

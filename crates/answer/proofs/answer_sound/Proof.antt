@@ -7,17 +7,17 @@ use native.Mathlib.Omega.{arith}
 use lib.ListN.{length}
 use denote.Ref.{now}
 use borrow.Author.Needs.{needs}
-use Rattle.store.specs.declared.Channel.{Channel}
-use Rattle.store.specs.declared.Found.the-variants.{At}
-use Rattle.store.specs.Limits.{channelLimit}
-use Rattle.store.specs.Height.{ownHeight}
-use Rattle.store.specs.Table.{isNumbered}
-use Rattle.store.specs.Layout.{roomIn, storeIn}
-use Rattle.store.specs.Scan.{holds, firstThat}
-use Rattle.store.proofs.FitLaws.{Sized, fits-size}
-use Rattle.store.proofs.HeldLaws.{fit-exact}
-use Rattle.store.proofs.ScanLaws.{find-nothing, channel-found}
-use Rattle.store.proofs.SlotTestLaws.{channel-index}
+use Rattle.slots.specs.declared.Channel.{Channel}
+use Rattle.slots.specs.declared.Found.the-variants.{At}
+use Rattle.slots.specs.Limits.{channelLimit}
+use Rattle.slots.specs.Height.{ownHeight}
+use Rattle.slots.specs.Table.{isNumbered}
+use Rattle.slots.specs.Layout.{roomIn, storeIn}
+use Rattle.slots.specs.Scan.{holds, firstThat}
+use Rattle.slots.proofs.FitLaws.{Sized, fits-size}
+use Rattle.slots.proofs.HeldLaws.{fit-exact}
+use Rattle.slots.proofs.ScanLaws.{find-nothing, channel-found}
+use Rattle.slots.proofs.SlotTestLaws.{channel-index}
 use Rattle.datagram.specs.Kind.{kindOf, bodyFrom, sizeOf}
 use Rattle.datagram.specs.Datagram.{kindIn, contextIn, channelFrom, datagramIn}
 use Rattle.datagram.proofs.DatagramLaws.{sound-is}

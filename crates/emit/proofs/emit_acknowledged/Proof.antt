@@ -8,7 +8,8 @@ use denote.Ref.{now}
 use borrow.Author.Needs.{needs}
 use Rattle.wire.specs.Bytes.{digestSize}
 use Rattle.wire.proofs.PatchLaws.{patch-then}
-use Rattle.datagram.specs.Kind.{frameSize, packetSize}
+use Rattle.wire.specs.Frame.{frameSize}
+use Rattle.datagram.specs.Kind.{packetSize}
 use Rattle.datagram.specs.Emitted.{packetBytes}
 use Rattle.datagram.proofs.EmittedLaws.{length-packet-bytes}
 use Rattle.emit.proofs.EmitLaws.{emitted}

@@ -9,7 +9,7 @@ use borrow.Author.Needs.{needs}
 use Rattle.wire.specs.Bytes.{little, digestSize}
 use Rattle.wire.proofs.BytesLaws.{length-little}
 use Rattle.wire.proofs.PatchLaws.{patch-then}
-use Rattle.datagram.specs.Kind.{frameSize}
+use Rattle.wire.specs.Frame.{frameSize}
 use Rattle.emit.specs.Output.{endBytes}
 use Rattle.emit.proofs.EmitLaws.{emitted}
 use Rattle.emit.proofs.emit_written.Statement.{statement}

@@ -3,7 +3,7 @@ use native.Mathlib.Omega.{arith}
 use borrow.Author.Needs.{needs}
 use borrow.Author.Tests.{eqb-false}
 use Rattle.wire.specs.Choice.{_and_}
-use Rattle.store.specs.Limits.{top}
+use Rattle.slots.specs.Limits.{top}
 use Rattle.ends.proofs.raised.Statement.{statement}
 use Rattle.ends.proofs.raised.Tie as tie
 

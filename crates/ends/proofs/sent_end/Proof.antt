@@ -2,7 +2,7 @@
 use native.Mathlib.Omega.{arith}
 use borrow.Author.Needs.{needs}
 use borrow.Author.Tests.{eqb-false}
-use Rattle.store.specs.Limits.{top}
+use Rattle.slots.specs.Limits.{top}
 use Rattle.rules.specs.Ordering.{isSendAtTop}
 use Rattle.ends.proofs.sent_end.Statement.{statement}
 use Rattle.ends.proofs.sent_end.Tie as tie

@@ -5,10 +5,10 @@ use mathlib.Core.List.{List}
 use Prim.Native.Nat.{ℕ, _-_}
 use native.Mathlib.Omega.{arith}
 use denote.Ref.{now}
-use Rattle.store.specs.Limits.{channelLimit}
-use Rattle.store.specs.Table.{sameNumber}
-use Rattle.store.specs.Layout.{headerSize, channelBytes, channelIn}
-use Rattle.store.specs.Fit.{channelFits}
+use Rattle.slots.specs.Limits.{channelLimit}
+use Rattle.slots.specs.Table.{sameNumber}
+use Rattle.slots.specs.Layout.{headerSize, channelBytes, channelIn}
+use Rattle.slots.specs.Fit.{channelFits}
 use Rattle.fit.specs.EverySlot.{slotFits}
 use Rattle.fit.proofs.EverySlotLaws.{everyFrom, fails, passes, passed}
 use Rattle.fit.proofs.channels_fit.Statement.{statement}

@@ -4,10 +4,10 @@ use mathlib.Core.List.{List}
 use Prim.Native.Nat.{ℕ, _+_}
 use denote.Ref.{now}
 use Rattle.wire.specs.Choice.{_and_}
-use Rattle.store.specs.Table.{sameKey}
-use Rattle.store.specs.Layout.{recordsFrom, recordBytes, recordIn, storeIn}
-use Rattle.store.specs.Fit.{recordFits}
-use Rattle.store.specs.Scan.{slotAt, slotsFrom, isAt}
+use Rattle.slots.specs.Table.{sameKey}
+use Rattle.slots.specs.Layout.{recordsFrom, recordBytes, recordIn, storeIn}
+use Rattle.slots.specs.Fit.{recordFits}
+use Rattle.slots.specs.Scan.{slotAt, slotsFrom, isAt}
 use Rattle.fit.proofs.EverySlotLaws.{slot-free, slot-taken}
 use borrow.Author.Needs.{needs}
 use Rattle.fit.proofs.record_slot_fits.Statement.{statement}

@@ -5,9 +5,9 @@ use mathlib.Core.List.{List}
 use Prim.Native.Nat.{ℕ, _-_}
 use native.Mathlib.Omega.{arith}
 use denote.Ref.{now}
-use Rattle.store.specs.Table.{sameKey}
-use Rattle.store.specs.Layout.{recordsFrom, recordBytes, recordIn, storeIn}
-use Rattle.store.specs.Fit.{recordFits}
+use Rattle.slots.specs.Table.{sameKey}
+use Rattle.slots.specs.Layout.{recordsFrom, recordBytes, recordIn, storeIn}
+use Rattle.slots.specs.Fit.{recordFits}
 use Rattle.fit.specs.EverySlot.{slotFits}
 use Rattle.fit.proofs.EverySlotLaws.{everyFrom, fails, passes, passed}
 use Rattle.fit.proofs.records_fit.Statement.{statement}

@@ -6,7 +6,7 @@ use lib.ListN.{length}
 use borrow.Author.Tests.{eq-eqb, ne-eqb}
 use denote.Ref.{now}
 use borrow.Author.Needs.{needs}
-use Rattle.store.specs.Layout.{storeIn, bytesOf}
+use Rattle.slots.specs.Layout.{storeIn, bytesOf}
 use Rattle.datagram.specs.Datagram.{datagramIn}
 use Rattle.emit.specs.Output.{atFront}
 use Rattle.rules.specs.declared.Told.{Told}

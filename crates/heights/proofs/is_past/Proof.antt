@@ -2,7 +2,7 @@
 use native.Mathlib.Omega.{arith}
 use borrow.Author.Tests.{le-ltb, lt-ltb}
 use Rattle.wire.specs.Choice.{_and_}
-use Rattle.store.specs.Height.{isPast}
+use Rattle.slots.specs.Height.{isPast}
 use Rattle.heights.proofs.is_past.Statement.{statement}
 use Rattle.heights.proofs.is_past.Tie as tie
 

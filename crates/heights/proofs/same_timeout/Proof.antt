@@ -1,7 +1,7 @@
 -- Height, then time. Assumes nothing.
 use borrow.Author.Tests.{eq-eqb, ne-eqb}
 use Rattle.wire.specs.Choice.{_and_}
-use Rattle.store.specs.Height.{sameTimeout}
+use Rattle.slots.specs.Height.{sameTimeout}
 use Rattle.heights.proofs.same_timeout.Statement.{statement}
 use Rattle.heights.proofs.same_timeout.Tie as tie
 

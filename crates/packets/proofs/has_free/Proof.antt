@@ -1,8 +1,8 @@
 -- A record is free where the scan finds one. Assumes nothing.
 use mathlib.Core.Path.{sym, ap, _∙_}
 use denote.Ref.{now}
-use Rattle.store.specs.Layout.{storeIn}
-use Rattle.store.specs.Scan.{isAt}
+use Rattle.slots.specs.Layout.{storeIn}
+use Rattle.slots.specs.Scan.{isAt}
 use Rattle.packets.proofs.FreeLaws.{free-at}
 use borrow.Author.Needs.{needs}
 use Rattle.packets.proofs.has_free.Statement.{statement}

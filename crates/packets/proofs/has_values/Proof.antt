@@ -1,6 +1,6 @@
 -- Timeouts, then digest. Assumes nothing.
 use Rattle.rules.specs.Verdict.{hasValues}
-use Rattle.store.proofs.TestLaws.{holds-then, fails-then}
+use Rattle.wire.proofs.TestLaws.{holds-then, fails-then}
 use borrow.Author.Needs.{needs}
 use Rattle.packets.proofs.has_values.Statement.{statement}
 use Rattle.packets.proofs.has_values.Tie as tie

@@ -5,12 +5,12 @@ use Prim.Native.Nat.{ℕ, _<_}
 use native.Mathlib.Omega.{arith}
 use denote.Ref.{now}
 use borrow.Author.Needs.{needs}
-use Rattle.store.specs.declared.Found.the-variants.{At}
-use Rattle.store.specs.Table.{Key, commitmentKey, hasKey}
-use Rattle.store.specs.Layout.{storeIn}
-use Rattle.store.specs.Scan.{holds, firstThat}
-use Rattle.store.proofs.ScanLaws.{find-nothing, record-found}
-use Rattle.store.proofs.SlotTestLaws.{record-index}
+use Rattle.slots.specs.declared.Found.the-variants.{At}
+use Rattle.slots.specs.Table.{Key, commitmentKey, hasKey}
+use Rattle.slots.specs.Layout.{storeIn}
+use Rattle.slots.specs.Scan.{holds, firstThat}
+use Rattle.slots.proofs.ScanLaws.{find-nothing, record-found}
+use Rattle.slots.proofs.SlotTestLaws.{record-index}
 use Rattle.rules.specs.Verdict.{hasValues}
 use Rattle.rules.specs.Refusals.{isCommitted}
 use Rattle.packets.proofs.is_committed.Statement.{statement}

@@ -1,7 +1,7 @@
 -- Port, then channel. Assumes nothing.
 use borrow.Author.Tests.{eq-eqb, ne-eqb}
 use Rattle.wire.specs.Choice.{_and_}
-use Rattle.store.specs.Table.{sameEnd}
+use Rattle.slots.specs.Table.{sameEnd}
 use Rattle.packets.proofs.same_end.Statement.{statement}
 use Rattle.packets.proofs.same_end.Tie as tie
 

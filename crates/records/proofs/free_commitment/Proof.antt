@@ -7,12 +7,12 @@ use denote.Ref.{now}
 use borrow.Author.Needs.{needs}
 use Rattle.wire.specs.Choice.{isSome}
 use Rattle.wire.proofs.ChoiceLaws.{clash}
-use Rattle.store.specs.declared.Found.the-variants.{At}
-use Rattle.store.specs.Layout.{Store, sizeFor, storeIn}
-use Rattle.store.specs.Table.{Key, hasKey, commitmentKey}
-use Rattle.store.specs.Scan.{firstThat}
-use Rattle.store.proofs.EffectLaws.{exact-room}
-use Rattle.store.proofs.ScanLaws.{find-nothing, found-below}
+use Rattle.slots.specs.declared.Found.the-variants.{At}
+use Rattle.slots.specs.Layout.{Store, sizeFor, storeIn}
+use Rattle.slots.specs.Table.{Key, hasKey, commitmentKey}
+use Rattle.slots.specs.Scan.{firstThat}
+use Rattle.slots.proofs.EffectLaws.{exact-room}
+use Rattle.slots.proofs.ScanLaws.{find-nothing, found-below}
 use Rattle.records.proofs.EditLaws.{freed}
 use Rattle.records.proofs.free_commitment.Statement.{statement}
 use Rattle.records.proofs.free_commitment.Tie as tie

@@ -6,11 +6,11 @@ use lib.ListN.{length}
 use denote.Ref.{now}
 use borrow.Author.Needs.{needs}
 use Rattle.wire.proofs.ChoiceLaws.{clash}
-use Rattle.store.specs.declared.Found.the-variants.{At}
-use Rattle.store.specs.Layout.{Store, sizeFor, storeIn}
-use Rattle.store.specs.Scan.{firstFree}
-use Rattle.store.proofs.EffectLaws.{exact-room}
-use Rattle.store.proofs.ScanLaws.{free-nothing, found-below}
+use Rattle.slots.specs.declared.Found.the-variants.{At}
+use Rattle.slots.specs.Layout.{Store, sizeFor, storeIn}
+use Rattle.slots.specs.Scan.{firstFree}
+use Rattle.slots.proofs.EffectLaws.{exact-room}
+use Rattle.slots.proofs.ScanLaws.{free-nothing, found-below}
 use Rattle.records.proofs.EditLaws.{written}
 use Rattle.records.proofs.write_record.Statement.{statement}
 use Rattle.records.proofs.write_record.Tie as tie

@@ -4,7 +4,7 @@ use mathlib.Core.Option.{some}
 use Prim.Native.Nat.{ℕ}
 use borrow.Author.Needs.{needs}
 use Rattle.wire.specs.Choice.{_or_}
-use Rattle.store.specs.Layout.{Store}
+use Rattle.slots.specs.Layout.{Store}
 use Rattle.datagram.specs.Kind.{only, acknowledge}
 use Rattle.datagram.specs.Datagram.{Datagram}
 use Rattle.rules.specs.Refusals.{lowest, table}

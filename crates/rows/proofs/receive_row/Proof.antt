@@ -5,7 +5,7 @@ use Prim.Native.Nat.{ℕ}
 use denote.Ref.{now}
 use borrow.Author.Needs.{needs}
 use Rattle.wire.specs.Choice.{_or_}
-use Rattle.store.specs.Layout.{storeIn}
+use Rattle.slots.specs.Layout.{storeIn}
 use Rattle.datagram.specs.Kind.{only, receive}
 use Rattle.datagram.specs.Datagram.{Datagram}
 use Rattle.rules.specs.Refusals.{lowest, table}

@@ -7,7 +7,7 @@ use borrow.Author.Needs.{needs}
 use borrow.Author.Tests.{eq-eqb, ne-eqb}
 use Rattle.wire.specs.Choice.{pick}
 use Rattle.wire.specs.Bytes.{same}
-use Rattle.store.specs.Height.{sameTimeout}
+use Rattle.slots.specs.Height.{sameTimeout}
 use Rattle.rules.specs.Verdict.{firstDifference}
 use Rattle.verdicts.proofs.TestedLaws.{holds, fails}
 use Rattle.verdicts.proofs.first_difference.Statement.{statement}

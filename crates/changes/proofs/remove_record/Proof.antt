@@ -1,0 +1,30 @@
+-- Zeros are stored over the slot: `exact-record`. Assumes nothing.
+use mathlib.Core.Path.{_∙_}
+use mathlib.Core.Option.{none}
+use native.Mathlib.Omega.{arith}
+use denote.Ref.{now}
+use borrow.Author.Needs.{needs}
+use Rattle.wire.proofs.PartLaws.{bytes-array}
+use Rattle.slots.specs.Layout.{slotBytes}
+use Rattle.slots.proofs.EffectLaws.{exact-record, exact-room}
+use Rattle.changes.proofs.remove_record.Statement.{statement}
+use Rattle.changes.proofs.remove_record.Tie as tie
+
+returns : tie.Need-returns
+unfolding slotBytes
+returns c =
+    let first = c .before .before .before .before in
+    let o = first .before in
+    let a = o .args in
+    let bytes = bytes-array (now (a .s)) (first .slice-known .given) in
+    c .before .before .put-zeros .ensures ∙
+    exact-record (now (a .s)) bytes (o .pre .0) (a .i) none tt (o .pre .1)
+
+pub remove-record-spec : {M : Type 1} → statement M
+remove-record-spec =
+    tie.close
+    (tie.spec
+    (λ c. omega (arith, exact-room _ (c .before .before .pre .0)))
+    (λ c. omega (arith, exact-room _ (c .before .before .pre .0)))
+    (λ c κs. omega
+    (arith, exact-room _ (c .before .before .pre .0))) (λ c. search needs) returns)

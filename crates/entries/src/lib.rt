@@ -1,0 +1,79 @@
+// Whether an entry of a store fits: a channel end by itself, and a packet record beside its channel end.
+use slots::Channel;
+use slots::Found;
+use slots::Record;
+use slots::Timeout;
+use slots::slot::channel_at;
+use store::Store;
+use tables::ordering::is_ordered;
+use tables::ordering::is_received;
+use tables::scan::find_channel;
+use wire::is_zero_digest;
+ghost use mathlib.Core.Path.{_≡_};
+ghost use mathlib.Core.Bool.{not};
+ghost use mathlib.Core.Option.{some};
+ghost use lib.ListN.{length};
+ghost use Rattle.wire.specs.Choice.{_and_};
+ghost use Rattle.wire.specs.Bytes.{areZero};
+ghost use Rattle.slots.specs.Height.{noTimeout, sameTimeout};
+ghost use Rattle.slots.specs.Layout.{sizeFor, storeIn};
+ghost use Rattle.slots.specs.Ordering.{isOrdered, isReceived};
+ghost use Rattle.slots.specs.Fit.{channelFits, fitsEnd, recordFits};
+
+// OPEN or CLOSED, ordered or unordered, counters at least 1.
+pub fn channel_fits(c: Channel) -> bool
+    ensures { λ r. ⌜ r ≡ channelFits c ⌝ }
+{
+    ((Channel::OPEN <= c.state) & (c.state <= Channel::CLOSED))
+        & ((Channel::ORDERED <= c.order) & (c.order <= Channel::UNORDERED))
+        & ((1 <= c.next.send) & (1 <= c.next.receive) & (1 <= c.next.acknowledge))
+}
+
+fn is_no_timeout(t: Timeout) -> bool
+    ensures { λ r. ⌜ r ≡ sameTimeout t noTimeout ⌝ }
+{
+    (t.height == 0) & (t.time == 0)
+}
+
+fn receipt_fits(r: Record, c: Channel) -> bool
+    ensures { λ b. ⌜ b ≡ (not (isOrdered c) and sameTimeout (r .timeout) noTimeout and areZero (r .digest)) ⌝ }
+{
+    let t = r.timeout;
+    let d = r.digest;
+    !is_ordered(c) & is_no_timeout(t) & is_zero_digest(d)
+}
+
+fn acknowledgement_fits(s: &[u8], count: usize, r: Record, c: Channel) -> bool
+    requires { ⌜ length (now s) ≡ sizeFor count ⌝ }
+    ensures { λ b. ⌜
+        b ≡ (sameTimeout (r .timeout) noTimeout and isReceived (storeIn (now (s .entry)) .records) c (r .sequence))
+        ⌝ }
+{
+    let t = r.timeout;
+    is_no_timeout(t) & is_received(s, count, c, r.sequence)
+}
+
+// By kind, on the record's own channel end.
+fn fits_end(s: &[u8], count: usize, r: Record, c: Channel) -> bool
+    requires { ⌜ length (now s) ≡ sizeFor count ⌝ }
+    ensures { λ b. ⌜ b ≡ fitsEnd (storeIn (now (s .entry))) r (some c) ⌝ }
+{
+    let kind = r.kind;
+    match kind {
+        Record::COMMITMENT => r.sequence < c.next.send,
+        Record::RECEIPT => receipt_fits(r, c),
+        Record::ACKNOWLEDGEMENT => acknowledgement_fits(s, count, r, c),
+        _ => false,
+    }
+}
+
+pub fn record_fits(s: &[u8], count: usize, r: Record) -> bool
+    requires { ⌜ length (now s) ≡ sizeFor count ⌝ }
+    ensures { λ b. ⌜ b ≡ recordFits (storeIn (now (s .entry))) r ⌝ }
+{
+    let Found::At(j) = find_channel(s, r.channel) else {
+        return false;
+    };
+    let c = channel_at(s, Store::HEADER + Store::SLOT * j);
+    (1 <= r.sequence) & fits_end(s, count, r, c)
+}

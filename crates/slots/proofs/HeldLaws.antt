@@ -1,0 +1,110 @@
+-- Effects one after another: bytes that hold a store whose fields fit are exact, are read as that store, and hold the
+-- next store after each effect. Assumes nothing.
+use mathlib.Core.Path.{_≡_, sym, ap, _∙_}
+use mathlib.Core.Bool.{true}
+use mathlib.Core.List.{List, [], _∷_}
+use mathlib.Core.Option.{Option, none, some}
+use Prim.Native.Nat.{ℕ, zero, suc, _^_, _<_}
+use lib.ListN.{length, set, length-set}
+use Rattle.wire.proofs.ChoiceLaws.{and-both}
+use Rattle.wire.proofs.BytesLaws.{same-eq}
+use Rattle.slots.specs.declared.OwnHeight.{OwnHeight}
+use Rattle.slots.specs.declared.Channel.{Channel}
+use Rattle.slots.specs.declared.Record.{Record}
+use Rattle.slots.specs.Layout.{Store, bytesOf, storeIn}
+use Rattle.slots.specs.Fit.{sizeFits, isFit}
+use Rattle.slots.specs.Effect.{Exact, withTimes, withChannelSlot, withRecordSlot}
+use Rattle.slots.proofs.TableLaws.{Each}
+use Rattle.slots.proofs.LayoutLaws.{ChannelFields, RecordFields, StoreFields, read-back, size-of}
+use Rattle.slots.proofs.FitLaws.{size-fits}
+
+pub record Held (s : Store) (bs : List ℕ) : Type 0 where
+  pub bytes : bs ≡ bytesOf s
+  pub fields : StoreFields s
+
+pub fit-exact : (bs : List ℕ) → isFit bs ≡ true → Exact bs
+unfolding isFit
+fit-exact bs h =
+    let a = and-both (and-both h .0) in
+    record { size = a .0; laid = same-eq (bytesOf (storeIn bs)) bs (a .1) }
+
+-- what is made of a held store, call by call
+module _ {s : Store} {bs : List ℕ} (h : Held s bs) where
+  pub held-store : storeIn bs ≡ s
+  held-store = ap storeIn (h .bytes) ∙ read-back s (h .fields)
+
+  pub held-exact : Exact bs
+  held-exact =
+      record {
+        size =
+            ap (λ (l : List ℕ). sizeFits (length l)) (h .bytes) ∙ ap sizeFits (size-of s (h .fields)) ∙
+            size-fits (length (s .records)) (h .fields .low) (h .fields .high);
+        laid = ap bytesOf held-store ∙ sym (h .bytes);
+      }
+
+each-set : {A : Type 0} (P : A → Type 0) (y : Option A) (i : ℕ) (xs : List (Option A)) → Each P (y ∷ []) → Each P xs →
+    Each P (set xs i y)
+each-set P y i [] p h = tt
+each-set P none zero (none ∷ xs) p h = h
+each-set P none zero (some x ∷ xs) p h = h .1
+each-set P (some y) zero (none ∷ xs) p h = (p .0, h)
+each-set P (some y) zero (some x ∷ xs) p h = (p .0, h .1)
+each-set P y (suc i) (none ∷ xs) p h = each-set P y i xs p h
+each-set P y (suc i) (some x ∷ xs) p h = (h .0, each-set P y i xs p (h .1))
+
+-- EACH EFFECT
+module _ {s : Store} {bs : List ℕ} (h : Held s bs) (next : List ℕ) where
+  pub held-times : (k : OwnHeight) (t : ℕ) → k .0 < 256 ^ 8 → t < 256 ^ 8 →
+      next ≡ bytesOf (withTimes (storeIn bs) k t) → Held (withTimes s k t) next
+  held-times k t p q e =
+      let f = h .fields in
+      record {
+        bytes = e ∙ ap (λ (u : Store). bytesOf (withTimes u k t)) (held-store h);
+        fields =
+            record {
+              height = p;
+              time = q;
+              slots = f .slots;
+              low = f .low;
+              high = f .high;
+              channels = f .channels;
+              records = f .records;
+            };
+      }
+
+  pub held-channel : (j : ℕ) (x : Option Channel) → Each ChannelFields (x ∷ []) →
+      next ≡ bytesOf (withChannelSlot (storeIn bs) j x) → Held (withChannelSlot s j x) next
+  held-channel j x p e =
+      let f = h .fields in
+      record {
+        bytes = e ∙ ap (λ (u : Store). bytesOf (withChannelSlot u j x)) (held-store h);
+        fields =
+            record {
+              height = f .height;
+              time = f .time;
+              slots = length-set (s .channels) j x ∙ f .slots;
+              low = f .low;
+              high = f .high;
+              channels = each-set ChannelFields x j (s .channels) p (f .channels);
+              records = f .records;
+            };
+      }
+
+  pub held-record : (i : ℕ) (x : Option Record) → Each RecordFields (x ∷ []) →
+      next ≡ bytesOf (withRecordSlot (storeIn bs) i x) → Held (withRecordSlot s i x) next
+  held-record i x p e =
+      let f = h .fields in
+      let n = length-set (s .records) i x in
+      record {
+        bytes = e ∙ ap (λ (u : Store). bytesOf (withRecordSlot u i x)) (held-store h);
+        fields =
+            record {
+              height = f .height;
+              time = f .time;
+              slots = f .slots;
+              low = rw n (f .low);
+              high = rw n (f .high);
+              channels = f .channels;
+              records = each-set RecordFields x i (s .records) p (f .records);
+            };
+      }

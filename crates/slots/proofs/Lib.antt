@@ -1,0 +1,13 @@
+pub mod TableLaws
+pub mod RecordLaws
+pub mod ChannelLaws
+pub mod LayoutLaws
+pub mod FitLaws
+pub mod FitRecordLaws
+pub mod Laws
+pub mod SlotLaws
+pub mod ScanLaws
+pub mod TurnLaws
+pub mod SlotTestLaws
+pub mod EffectLaws
+pub mod HeldLaws

@@ -1,0 +1,241 @@
+-- Laws of tables of slots, whatever the entries and the tests are. Assumes nothing.
+use Rattle.wire.proofs.Prelude.{_≡_, refl, sym, ap, subst, _∙_, Bool, true, false, not, List, [], _∷_, Option, none}
+use Rattle.wire.proofs.Prelude.{some, ℕ, suc, arith, length}
+use Rattle.wire.specs.Names.{pick, isSome}
+use Rattle.wire.proofs.Laws.{and-both, both-and, clash, cases, of-pick, not-some}
+use Rattle.slots.specs.Names.{find, replace, insert, hasFree, count, all, distinct}
+
+-- every entry has a property
+abbrev pub Each : {A : Type 0} → (A → Type 0) → List (Option A) → Type 0
+Each P [] = Unit {0}
+Each P (none ∷ xs) = Each P xs
+Each P (some x ∷ xs) = P x × Each P xs
+
+module _ {A : Type 0} where
+  pub all-each : (t : A → Bool) (xs : List (Option A)) → all t xs ≡ true → Each (λ x. t x ≡ true) xs
+  unfolding all
+  all-each t [] h = tt
+  all-each t (none ∷ xs) h = all-each t xs h
+  all-each t (some x ∷ xs) h = (and-both h .0, all-each t xs (and-both h .1))
+
+  pub each-all : (t : A → Bool) (xs : List (Option A)) → Each (λ x. t x ≡ true) xs → all t xs ≡ true
+  unfolding all
+  each-all t [] h = refl
+  each-all t (none ∷ xs) h = each-all t xs h
+  each-all t (some x ∷ xs) h = both-and (h .0) (each-all t xs (h .1))
+
+  pub each-of : {P : A → Type 0} → ((x : A) → P x) → (xs : List (Option A)) → Each P xs
+  each-of f [] = tt
+  each-of f (none ∷ xs) = each-of f xs
+  each-of f (some x ∷ xs) = (f x, each-of f xs)
+
+  pub each-map : {P Q : A → Type 0} → ((x : A) → P x → Q x) → (xs : List (Option A)) → Each P xs → Each Q xs
+  each-map f [] h = tt
+  each-map f (none ∷ xs) h = each-map f xs h
+  each-map f (some x ∷ xs) h = (f x (h .0), each-map f xs (h .1))
+
+  -- FIND
+  pub find-passes : (t : A → Bool) (xs : List (Option A)) (x : A) → find t xs ≡ some x → t x ≡ true
+  unfolding find
+  find-passes t [] x h = cc
+  find-passes t (none ∷ xs) x h = find-passes t xs x h
+  find-passes t (some y ∷ xs) x h =
+      let ih = find-passes t xs x in
+      cases (t y) (λ e. let z : y ≡ x = cc in cc) (λ e. ih (cc))
+
+  pub each-find : (P : A → Type 0) (t : A → Bool) (xs : List (Option A)) (x : A) → Each P xs → find t xs ≡ some x → P x
+  unfolding find
+  each-find P t [] x h e = let z : _≡_ {A = ℕ} 0 1 = cc in absurd (omega arith)
+  each-find P t (none ∷ xs) x h e = each-find P t xs x h e
+  each-find P t (some y ∷ xs) x h e =
+      let ih = each-find P t xs x (h .1) in
+      cases (t y) (λ q. let z : y ≡ x = cc in subst P z (h .0)) (λ q. ih (cc))
+
+  -- what no entry passes, no entry passes that asks for more
+  pub find-none : (t u : A → Bool) (xs : List (Option A)) → ((x : A) → t x ≡ true → u x ≡ true) → find u xs ≡ none →
+      find t xs ≡ none
+  unfolding find
+  find-none t u [] h e = refl
+  find-none t u (none ∷ xs) h e = find-none t u xs h e
+  find-none t u (some x ∷ xs) h e =
+      let ih = find-none t u xs h in
+      cases (t x) (λ q. let z = h x q in cc) (λ q. cases (u x) (λ w. cc) (λ w. let k = ih (cc) in cc))
+
+  pub find-cons-none : (t : A → Bool) (x : A) (xs : List (Option A)) → find t (some x ∷ xs) ≡ none →
+      (t x ≡ false) × (find t xs ≡ none)
+  unfolding find
+  find-cons-none t x xs h = (cases (t x) (λ e. cc) (λ e. e), cases (t x) (λ e. cc) (λ e. cc))
+
+  -- REPLACE
+  pub find-replace : (t : A → Bool) (y : A) (xs : List (Option A)) → t y ≡ true → isSome (find t xs) ≡ true →
+      find t (replace t (some y) xs) ≡ some y
+  unfolding find replace
+  find-replace t y [] p h = cc
+  find-replace t y (none ∷ xs) p h = find-replace t y xs p h
+  find-replace t y (some x ∷ xs) p h =
+      let ih = find-replace t y xs p in
+      cases (t x) (λ e. cc) (λ e. let k = ih (cc) in cc)
+
+  pub find-replace-other : (t u : A → Bool) (y : Option A) (xs : List (Option A)) →
+      ((x : A) → t x ≡ true → u x ≡ true → ⊥) → find u (y ∷ []) ≡ none → find u (replace t y xs) ≡ find u xs
+  unfolding find replace
+  find-replace-other t u y [] h n = refl
+  find-replace-other t u y (none ∷ xs) h n = find-replace-other t u y xs h n
+  find-replace-other t u y (some x ∷ xs) h n =
+      let ih = find-replace-other t u y xs h n in
+      cases (t x) (λ e. let f : u x ≡ false = cases (u x) (λ q. absurd (h x e q)) (λ q. q) in let k = skip y n in cc)
+      (λ e. cc)
+    where
+      skip : (z : Option A) → find u (z ∷ []) ≡ none → find u (z ∷ xs) ≡ find u xs
+      skip none k = refl
+      skip (some w) k = let q = find-cons-none u w [] k .0 in cc
+
+  -- what is replaced by nothing is gone, where no entry stands twice
+  pub find-remove : (t : A → Bool) (u : A → A → Bool) (xs : List (Option A)) →
+      ((x y : A) → t x ≡ true → t y ≡ true → u x y ≡ true) →
+      distinct u xs ≡ true → find t (replace t none xs) ≡ none
+  unfolding find replace distinct
+  find-remove t u [] h d = refl
+  find-remove t u (none ∷ xs) h d = find-remove t u xs h d
+  find-remove t u (some x ∷ xs) h d =
+      let ih = find-remove t u xs h (and-both d .1) in
+      cases (t x) (λ e. let k = find-none t (u x) xs (λ y. h x y e) (not-some (find (u x) xs) (and-both d .0)) in cc)
+      (λ e. cc)
+
+  pub each-replace : (P : A → Type 0) (t : A → Bool) (y : Option A) (xs : List (Option A)) → Each P (y ∷ []) →
+      Each P xs → Each P (replace t y xs)
+  unfolding replace
+  each-replace P t y [] p h = tt
+  each-replace P t y (none ∷ xs) p h = each-replace P t y xs p h
+  each-replace P t y (some x ∷ xs) p h =
+      of-pick (Each P) (t x) (y ∷ xs) (some x ∷ replace t y xs) (λ e. put y p)
+      (λ e. (h .0, each-replace P t y xs p (h .1)))
+    where
+      put : (z : Option A) → Each P (z ∷ []) → Each P (z ∷ xs)
+      put none q = h .1
+      put (some w) q = (q .0, h .1)
+
+  pub length-replace : (t : A → Bool) (y : Option A) (xs : List (Option A)) → length (replace t y xs) ≡ length xs
+  unfolding replace
+  length-replace t y [] = refl
+  length-replace t y (none ∷ xs) = ap suc (length-replace t y xs)
+  length-replace t y (some x ∷ xs) =
+      of-pick (λ (l : List (Option A)). length l ≡ suc (length xs)) (t x) (y ∷ xs) (some x ∷ replace t y xs) (λ e. refl)
+      (λ e. ap suc (length-replace t y xs))
+
+  pub count-remove : (t u : A → Bool) (xs : List (Option A)) (x : A) → find t xs ≡ some x →
+      count u xs ≡ pick (u x) (suc (count u (replace t none xs))) (count u (replace t none xs))
+  unfolding find replace count
+  count-remove t u [] x h = let z : _≡_ {A = ℕ} 0 1 = cc in absurd (omega arith)
+  count-remove t u (none ∷ xs) x h = count-remove t u xs x h
+  count-remove t u (some y ∷ xs) x h =
+      let ih = count-remove t u xs x in
+      cases (t y) (λ e. let z : y ≡ x = cc in cc) (λ e. let k = ih (cc) in turn (u x) refl (u y) refl e k)
+    where
+      turn : (a : Bool) → u x ≡ a → (b : Bool) → u y ≡ b → t y ≡ false →
+          count u xs ≡ pick (u x) (suc (count u (replace t none xs))) (count u (replace t none xs)) →
+          count u (some y ∷ xs) ≡ pick (u x) (suc (count u (replace t none (some y ∷ xs))))
+          (count u (replace t none (some y ∷ xs)))
+      turn true p true q e k = cc
+      turn true p false q e k = cc
+      turn false p true q e k = cc
+      turn false p false q e k = cc
+
+  -- INSERT
+  pub find-insert : (t : A → Bool) (y : A) (xs : List (Option A)) → hasFree xs ≡ true → t y ≡ true → find t xs ≡ none →
+      find t (insert y xs) ≡ some y
+  unfolding find insert hasFree
+  find-insert t y [] f p h = cc
+  find-insert t y (none ∷ xs) f p h = cc
+  find-insert t y (some x ∷ xs) f p h =
+      let k = find-cons-none t x xs h in
+      let ih = find-insert t y xs f p (k .1) in
+      let q = k .0 in
+      cc
+
+  pub find-insert-other : (t : A → Bool) (y : A) (xs : List (Option A)) → t y ≡ false → find t (insert y xs) ≡ find t xs
+  unfolding find insert
+  find-insert-other t y [] p = refl
+  find-insert-other t y (none ∷ xs) p = cc
+  find-insert-other t y (some x ∷ xs) p = let ih = find-insert-other t y xs p in cc
+
+  pub each-insert : (P : A → Type 0) (y : A) (xs : List (Option A)) → P y → Each P xs → Each P (insert y xs)
+  unfolding insert
+  each-insert P y [] p h = tt
+  each-insert P y (none ∷ xs) p h = (p, h)
+  each-insert P y (some x ∷ xs) p h = (h .0, each-insert P y xs p (h .1))
+
+  pub length-insert : (y : A) (xs : List (Option A)) → length (insert y xs) ≡ length xs
+  unfolding insert
+  length-insert y [] = refl
+  length-insert y (none ∷ xs) = refl
+  length-insert y (some x ∷ xs) = ap suc (length-insert y xs)
+
+  pub count-insert : (t : A → Bool) (y : A) (xs : List (Option A)) → hasFree xs ≡ true →
+      count t (insert y xs) ≡ pick (t y) (suc (count t xs)) (count t xs)
+  unfolding insert count hasFree
+  count-insert t y [] f = let z : _≡_ {A = ℕ} 0 1 = cc in absurd (omega arith)
+  count-insert t y (none ∷ xs) f = refl
+  count-insert t y (some x ∷ xs) f = turn (t x) refl (t y) refl (count-insert t y xs f)
+    where
+      turn : (a : Bool) → t x ≡ a → (b : Bool) → t y ≡ b →
+          count t (insert y xs) ≡ pick (t y) (suc (count t xs)) (count t xs) →
+          count t (insert y (some x ∷ xs)) ≡ pick (t y) (suc (count t (some x ∷ xs))) (count t (some x ∷ xs))
+      turn true p true q k = cc
+      turn true p false q k = cc
+      turn false p true q k = cc
+      turn false p false q k = cc
+
+  -- DISTINCT
+  pub distinct-insert : (u : A → A → Bool) (y : A) (xs : List (Option A)) → ((a b : A) → u a b ≡ true → u b a ≡ true) →
+      find (u y) xs ≡ none →
+      distinct u xs ≡ true → distinct u (insert y xs) ≡ true
+  unfolding distinct insert find
+  distinct-insert u y [] s n h = refl
+  distinct-insert u y (none ∷ xs) s n h = both-and (ap (λ (z : Option A). not (isSome z)) n) h
+  distinct-insert u y (some x ∷ xs) s n h =
+      let k = find-cons-none (u y) x xs n in
+      let f : u x y ≡ false = cases (u x y) (λ e. clash (s x y e) (k .0)) (λ e. e) in
+      both-and (ap (λ (z : Option A). not (isSome z)) (find-insert-other (u x) y xs f) ∙ and-both h .0)
+      (distinct-insert u y xs s (k .1) (and-both h .1))
+
+  find-replace-none : (t v : A → Bool) (y : Option A) (xs : List (Option A)) →
+      ((x : A) → t x ≡ true → v x ≡ false → find v (y ∷ []) ≡ none) → find v xs ≡ none → find v (replace t y xs) ≡ none
+  unfolding find replace
+  find-replace-none t v y [] h n = refl
+  find-replace-none t v y (none ∷ xs) h n = find-replace-none t v y xs h n
+  find-replace-none t v y (some x ∷ xs) h n =
+      let k = find-cons-none v x xs n in
+      let ih = find-replace-none t v y xs h (k .1) in
+      of-pick (λ (l : List (Option A)). find v l ≡ none) (t x) (y ∷ xs) (some x ∷ replace t y xs)
+      (λ e. put y (h x e (k .0)) (k .1)) (λ e. let q = k .0 in cc)
+    where
+      put : (z : Option A) → find v (z ∷ []) ≡ none → find v xs ≡ none → find v (z ∷ xs) ≡ none
+      put none p q = q
+      put (some w) p q = let f = find-cons-none v w [] p .0 in cc
+
+  -- a slot that is free, or has the name of what it takes the place of
+  abbrev pub Heir : (A → A → Bool) → A → Option A → Type 0
+  Heir u x none = Unit {0}
+  Heir u x (some w) = (a : A) → (u w a ≡ u x a) × (u a w ≡ u a x)
+
+  pub distinct-replace : (u : A → A → Bool) (t : A → Bool) (y : Option A) (xs : List (Option A)) →
+      ((x : A) → t x ≡ true → Heir u x y) → distinct u xs ≡ true → distinct u (replace t y xs) ≡ true
+  unfolding distinct replace find
+  distinct-replace u t y [] h d = refl
+  distinct-replace u t y (none ∷ xs) h d = distinct-replace u t y xs h d
+  distinct-replace u t y (some x ∷ xs) h d =
+      let n = not-some (find (u x) xs) (and-both d .0) in
+      of-pick (λ (l : List (Option A)). distinct u l ≡ true) (t x) (y ∷ xs) (some x ∷ replace t y xs)
+      (λ e. put y (h x e) n) (λ e. both-and (ap (λ (z : Option A). not (isSome z))
+      (find-replace-none t (u x) y xs (λ w q f. pass y w (h w q) f) n)) (distinct-replace u t y xs h (and-both d .1)))
+    where
+      put : (z : Option A) → Heir u x z → find (u x) xs ≡ none → distinct u (z ∷ xs) ≡ true
+      put none k n = and-both d .1
+      put (some w) k n =
+          both-and (ap (λ (z : Option A). not (isSome z)) (find-none (u w) (u x) xs (λ a q. sym (k a .0) ∙ q) n))
+          (and-both d .1)
+
+      pass : (z : Option A) (w : A) → Heir u w z → u x w ≡ false → find (u x) (z ∷ []) ≡ none
+      pass none w k f = refl
+      pass (some v) w k f = let q = k x .1 in cc

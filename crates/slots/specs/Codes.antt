@@ -1,0 +1,42 @@
+-- The numbers that stand for states, orders and kinds, each by its name. `Channel` and `Record` have those of an entry
+-- as associated constants.
+use mathlib.Core.Bool.{Bool}
+use Prim.Native.Nat.{ℕ}
+use Rattle.wire.specs.Choice.{isIn}
+
+-- STATES of a channel end
+abbrev pub stateOpen : ℕ
+stateOpen = 3
+
+abbrev pub stateClosed : ℕ
+stateClosed = 4
+
+abbrev pub isState : ℕ → Bool
+isState n = isIn stateOpen stateClosed n
+
+-- ORDERS of a channel
+abbrev pub orderOrdered : ℕ
+orderOrdered = 1
+
+abbrev pub orderUnordered : ℕ
+orderUnordered = 2
+
+abbrev pub isOrder : ℕ → Bool
+isOrder n = isIn orderOrdered orderUnordered n
+
+-- KINDS of packet records
+abbrev pub commitmentKind : ℕ
+commitmentKind = 1
+
+abbrev pub receiptKind : ℕ
+receiptKind = 2
+
+abbrev pub acknowledgementKind : ℕ
+acknowledgementKind = 3
+
+-- KINDS of a store and of a channel record
+abbrev pub storeKind : ℕ
+storeKind = 0x0401
+
+abbrev pub channelKind : ℕ
+channelKind = 1

@@ -1,0 +1,54 @@
+-- A *fit* store: the layout holds exactly, and what the tables hold fits together.
+use mathlib.Core.Bool.{Bool, false, not}
+use mathlib.Core.List.{List}
+use mathlib.Core.Option.{Option, none, some}
+use Prim.Native.Nat.{ℕ, _-_, _%_}
+use lib.Dec.{ltb, leb, eqb}
+use lib.ListN.{length}
+use Rattle.wire.specs.Choice.{_and_, pick, isIn}
+use Rattle.wire.specs.Bytes.{same, areZero}
+use Rattle.slots.specs.declared.Channel.{Channel}
+use Rattle.slots.specs.declared.Record.{Record}
+use Rattle.slots.specs.Limits.{recordLimit}
+use Rattle.slots.specs.Codes.{isState, isOrder, commitmentKind, receiptKind, acknowledgementKind}
+use Rattle.slots.specs.Height.{noTimeout, sameTimeout}
+use Rattle.slots.specs.Table.{all, distinct, sameNumber, channelAt, sameKey}
+use Rattle.slots.specs.Layout.{Store, slotSize, recordsFrom, sizeFor, bytesOf, storeIn}
+use Rattle.slots.specs.Ordering.{isOrdered, isReceived}
+
+-- OPEN or CLOSED, ordered or unordered, counters at least 1
+unfoldable pub channelFits : Channel → Bool
+channelFits c =
+    isState (c .state) and isOrder (c .order) and
+    (leb 1 (c .next .send) and leb 1 (c .next .receive) and leb 1 (c .next .acknowledge))
+
+-- channel numbers differ
+unfoldable pub channelsFit : List (Option Channel) → Bool
+channelsFit cs = all channelFits cs and distinct sameNumber cs
+
+-- a commitment is below next send; a receipt is on an unordered channel, with zero timeouts and digest;
+-- an acknowledgement is of a received packet, with zero timeouts
+unfoldable pub fitsEnd : Store → Record → Option Channel → Bool
+fitsEnd s r none = false
+fitsEnd s r (some c) =
+    pick (eqb (r .kind) commitmentKind) (ltb (r .sequence) (c .next .send))
+    (pick (eqb (r .kind) receiptKind) (not (isOrdered c) and sameTimeout (r .timeout) noTimeout and areZero (r .digest))
+    (eqb (r .kind) acknowledgementKind and sameTimeout (r .timeout) noTimeout and
+    isReceived (s .records) c (r .sequence)))
+
+-- a sequence of at least 1, and a channel of the store
+unfoldable pub recordFits : Store → Record → Bool
+recordFits s r = leb 1 (r .sequence) and fitsEnd s r (channelAt (r .channel) (s .channels))
+
+-- no two have the same kind, channel and sequence
+unfoldable pub recordsFit : Store → Bool
+recordsFit s = all (recordFits s) (s .records) and distinct sameKey (s .records)
+
+unfoldable pub storeFits : Store → Bool
+storeFits s = channelsFit (s .channels) and recordsFit s
+
+unfoldable pub sizeFits : (size : ℕ) → Bool
+sizeFits n = isIn (sizeFor 1) (sizeFor recordLimit) n and eqb ((n - recordsFrom) % slotSize) 0
+
+unfoldable pub isFit : List ℕ → Bool
+isFit bs = sizeFits (length bs) and same (bytesOf (storeIn bs)) bs and storeFits (storeIn bs)

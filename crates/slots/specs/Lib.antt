@@ -1,0 +1,11 @@
+pub mod Limits
+pub mod Codes
+pub mod Height
+pub mod Part
+pub mod Table
+pub mod Layout
+pub mod Ordering
+pub mod Fit
+pub mod Names
+pub mod Scan
+pub mod Effect

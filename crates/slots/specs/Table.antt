@@ -1,0 +1,106 @@
+-- Tables of slots: the two tables of a store, known above by their laws. A slot is free (none) or holds an entry.
+use mathlib.Core.Bool.{Bool, true, false, not}
+use mathlib.Core.List.{List, [], _∷_}
+use mathlib.Core.Option.{Option, none, some}
+use Prim.Native.Nat.{ℕ, suc}
+use lib.Dec.{eqb}
+use Rattle.wire.specs.Choice.{_and_, pick, isSome}
+use Rattle.slots.specs.declared.End.{End}
+use Rattle.slots.specs.declared.Channel.{Channel}
+use Rattle.slots.specs.declared.Record.{Record}
+use Rattle.slots.specs.Codes.{commitmentKind, receiptKind, acknowledgementKind}
+
+-- the first entry that passes a test
+unfoldable pub find : {A : Type 0} → (A → Bool) → List (Option A) → Option A
+find t [] = none
+find t (none ∷ xs) = find t xs
+find t (some x ∷ xs) = pick (t x) (some x) (find t xs)
+
+-- the first entry that passes a test makes way for another slot
+unfoldable pub replace : {A : Type 0} → (A → Bool) → Option A → List (Option A) → List (Option A)
+replace t y [] = []
+replace t y (none ∷ xs) = none ∷ replace t y xs
+replace t y (some x ∷ xs) = pick (t x) (y ∷ xs) (some x ∷ replace t y xs)
+
+-- the free slot of lowest index takes an entry
+unfoldable pub insert : {A : Type 0} → A → List (Option A) → List (Option A)
+insert y [] = []
+insert y (none ∷ xs) = some y ∷ xs
+insert y (some x ∷ xs) = some x ∷ insert y xs
+
+unfoldable pub hasFree : {A : Type 0} → List (Option A) → Bool
+hasFree [] = false
+hasFree (none ∷ xs) = true
+hasFree (some x ∷ xs) = hasFree xs
+
+-- how many entries pass a test
+unfoldable pub count : {A : Type 0} → (A → Bool) → List (Option A) → ℕ
+count t [] = 0
+count t (none ∷ xs) = count t xs
+count t (some x ∷ xs) = pick (t x) (suc (count t xs)) (count t xs)
+
+-- each entry passes a test
+unfoldable pub all : {A : Type 0} → (A → Bool) → List (Option A) → Bool
+all t [] = true
+all t (none ∷ xs) = all t xs
+all t (some x ∷ xs) = t x and all t xs
+
+-- no entry is followed by one of the same name
+unfoldable pub distinct : {A : Type 0} → (A → A → Bool) → List (Option A) → Bool
+distinct u [] = true
+distinct u (none ∷ xs) = distinct u xs
+distinct u (some x ∷ xs) = not (isSome (find (u x) xs)) and distinct u xs
+
+-- CHANNELS, by number
+unfoldable pub isNumbered : (channel : ℕ) → Channel → Bool
+isNumbered n c = eqb (c .own .channel) n
+
+abbrev pub sameNumber : Channel → Channel → Bool
+sameNumber c = isNumbered (c .own .channel)
+
+abbrev pub channelAt : (channel : ℕ) → List (Option Channel) → Option Channel
+channelAt n cs = find (isNumbered n) cs
+
+-- the end of this number becomes this one
+abbrev pub withChannel : Channel → List (Option Channel) → List (Option Channel)
+withChannel c cs = replace (isNumbered (c .own .channel)) (some c) cs
+
+unfoldable pub sameEnd : End → End → Bool
+sameEnd a b = eqb (a .port) (b .port) and eqb (a .channel) (b .channel)
+
+-- PACKET RECORDS, by kind, channel and sequence
+pub record Key : Type 0 where
+  pub kind : ℕ
+  pub channel : ℕ
+  pub sequence : ℕ
+
+abbrev pub commitmentKey : (channel sequence : ℕ) → Key
+commitmentKey c n = record { kind = commitmentKind; channel = c; sequence = n }
+
+abbrev pub receiptKey : (channel sequence : ℕ) → Key
+receiptKey c n = record { kind = receiptKind; channel = c; sequence = n }
+
+abbrev pub acknowledgementKey : (channel sequence : ℕ) → Key
+acknowledgementKey c n = record { kind = acknowledgementKind; channel = c; sequence = n }
+
+abbrev pub keyOf : Record → Key
+keyOf r = record { kind = r .kind; channel = r .channel; sequence = r .sequence }
+
+unfoldable pub hasKey : Key → Record → Bool
+hasKey k r = eqb (r .kind) (k .kind) and eqb (r .channel) (k .channel) and eqb (r .sequence) (k .sequence)
+
+abbrev pub sameKey : Record → Record → Bool
+sameKey r = hasKey (keyOf r)
+
+abbrev pub lookup : Key → List (Option Record) → Option Record
+lookup k rs = find (hasKey k) rs
+
+abbrev pub remove : Key → List (Option Record) → List (Option Record)
+remove k rs = replace (hasKey k) none rs
+
+-- commitments still in the table, of one channel
+unfoldable pub isCommitmentOn : (channel : ℕ) → Record → Bool
+isCommitmentOn c r = eqb (r .kind) commitmentKind and eqb (r .channel) c
+
+abbrev pub commitments : (channel : ℕ) → List (Option Record) → ℕ
+commitments c rs = count (isCommitmentOn c) rs

@@ -1,0 +1,76 @@
+// What a store holds, and its slots of 64 bytes: the types of a channel end and of a packet record, read from lent
+// bytes and stored there. specs/ says what they mean, and what a store says by its bytes.
+pub mod part; // an end, and timeouts
+pub mod slot; // a channel end or a packet record in 64 bytes
+
+use wire::DIGEST;
+
+// A height of this ledger, and a height of the other one. Neither can stand where the other is meant.
+pub struct OwnHeight(pub u64);
+
+pub struct OtherHeight(pub u64);
+
+// A port and a channel of it.
+pub struct End {
+    pub port: u16,
+    pub channel: u32,
+}
+
+// A packet's timeouts, 0 for none. Whose height the first one is depends on who asks: specs/Height.antt.
+pub struct Timeout {
+    pub height: u64,
+    pub time: u64,
+}
+
+// The next sequence to send, to receive and to acknowledge.
+pub struct Counters {
+    pub send: u64,
+    pub receive: u64,
+    pub acknowledge: u64,
+}
+
+// A channel end.
+pub struct Channel {
+    pub state: u8,
+    pub order: u8,
+    pub own: End,
+    pub counterparty: End,
+    pub next: Counters,
+}
+
+// Its record's kind, its states and its orders, as specs/Codes.antt has them.
+impl Channel {
+    pub const KIND: u16 = 1;
+
+    pub const OPEN: u8 = 3;
+
+    pub const CLOSED: u8 = 4;
+
+    pub const ORDERED: u8 = 1;
+
+    pub const UNORDERED: u8 = 2;
+}
+
+// A packet record.
+pub struct Record {
+    pub kind: u16,
+    pub channel: u32,
+    pub sequence: u64,
+    pub timeout: Timeout,
+    pub digest: [u8; DIGEST],
+}
+
+// Its kinds, as specs/Codes.antt has them.
+impl Record {
+    pub const COMMITMENT: u16 = 1;
+
+    pub const RECEIPT: u16 = 2;
+
+    pub const ACKNOWLEDGEMENT: u16 = 3;
+}
+
+// Where a scan of a table's slots ends: at an index, or behind them all.
+pub enum Found {
+    At(usize),
+    Nothing,
+}
