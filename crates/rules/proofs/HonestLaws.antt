@@ -1,15 +1,15 @@
 -- A list of calls is honest where a test says so that computes: of each call that carries a verdict, what the premises
 -- look at is compared with what they look at of the others. Assumes nothing.
-use Rattle.wire.proofs.Prelude.{_≡_, refl, sym, ap, subst, _∙_, Bool, true, false, not, List, [], _∷_, map, ℕ, zero, suc}
-use Rattle.wire.proofs.Prelude.{_≤_, _<_, Option, none, some, getElem?, drop, arith, leb, ltb, leb-true, ltb-true}
-use Rattle.wire.proofs.Prelude.{le-leb, eq-eqb, not-true, ⊎-elim}
+use Rattle.wire.proofs.Prelude.{_≡_, ap, subst, Bool, true, false, not, List, [], _∷_, map, ⊎-elim, Option, none, some}
+use Rattle.wire.proofs.Prelude.{ℕ, zero, suc, _<_, arith, leb, ltb, drop, getElem?, leb-true, ltb-true, le-leb, eq-eqb}
+use Rattle.wire.proofs.Prelude.{not-true}
 use borrow.Author.Tests.{lt-leb}
 use Rattle.wire.specs.Names.{_and_, _or_, pick, Every}
 use Rattle.wire.proofs.Laws.{and-both, both-and, or-either, clash}
 use Rattle.store.specs.Names.{storeIn}
 use Rattle.datagram.specs.declared.Verdict.{Verdict}
 use Rattle.datagram.specs.Names.{kindIn, isProved}
-use Rattle.rules.specs.Names.{claimHolds, Side, across, isSide, Call, At, storeAfter, isAccepted}
+use Rattle.rules.specs.Names.{claimHolds, Side, across, isSide, Call, storeAfter, isAccepted}
 use Rattle.rules.specs.Names.{verdictOf, heightOf, timeOf, AcceptedOn, isUpTo, Honest}
 use Rattle.rules.proofs.History.{side-refl}
 

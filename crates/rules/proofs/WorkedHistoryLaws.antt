@@ -1,11 +1,10 @@
 -- The worked history is a run of made, paired stores, and honest. Assumes nothing.
-use Rattle.wire.proofs.Prelude.{_≡_, refl, List, ℕ, ltb, ltb-true, true}
-use Rattle.wire.specs.Names.{Every, Bytes}
+use Rattle.wire.proofs.Prelude.{_≡_, refl, true, List, ℕ, ltb-true}
+use Rattle.wire.specs.Names.{Bytes}
 use Rattle.wire.proofs.Laws.{every-map}
 use Rattle.store.specs.Names.{isNumbered, storeIn}
 use Rattle.store.proofs.Laws.{each-find}
-use Rattle.rules.specs.Names.{Side, first, second, Made, Paired, aSlice, openingsOn, stores, requests, history}
-use Rattle.rules.specs.Names.{WorkedHistory}
+use Rattle.rules.specs.Names.{aSlice, Side, first, second, openingsOn, stores, requests, history, WorkedHistory}
 use Rattle.rules.proofs.HonestLaws.{areAll, all-every, honest-seen}
 use Rattle.rules.proofs.CaseLaws.{isByte, Peer, Opened, facts}
 use Rattle.rules.proofs.Computed.{computed-run}
