@@ -1,4 +1,4 @@
--- Openings, packets and datagrams for examples, in the layouts of document 01.
+-- Openings, packets and datagrams for the worked cases and the worked history, by their bytes.
 use mathlib.Core.List.{List, [], _∷_, _++_}
 use Prim.Native.Nat.{ℕ}
 use lib.ListN.{replicate}
@@ -24,7 +24,7 @@ openings = anOpening 5 7 6 9 1 ++ anOpening 5 8 6 10 2
 unfoldable pub aContext : (height time port connection : ℕ) → List ℕ
 aContext h t p k = little 8 h ++ little 8 t ++ little 8 50 ++ little 2 p ++ (k ∷ replicate 5 0)
 
--- of a packet's data, and of an acknowledgement
+-- the digest of a packet's data, and that of an acknowledgement
 unfoldable pub aDigest : List ℕ
 aDigest = 1 ∷ replicate 31 0
 
@@ -54,7 +54,7 @@ aVerdict k b p c n h t d =
 unfoldable pub aSend : (context : List ℕ) → (channel height time : ℕ) → List ℕ
 aSend x c h t = framed 1 (x ++ little 4 c ++ little 8 h ++ little 8 t ++ aDigest)
 
--- its verdict has this digest
+-- with a verdict of a block: about the packet, with this digest
 unfoldable pub receiveOf : (context block : List ℕ) → Packet → (digest : List ℕ) → List ℕ
 receiveOf x b p d =
     framed 2 (x ++ packetBytes p ++
@@ -68,7 +68,7 @@ acknowledgeOf x b p d =
     framed 4 (x ++ packetBytes p ++ anAnswer ++
     aVerdict 2 b (p .destination .port) (p .destination .channel) (p .sequence) 0 0 d)
 
--- its verdict has this claim and sequence
+-- with this claim and sequence
 unfoldable pub timeoutOf : (context block : List ℕ) → Packet → (claim sequence : ℕ) → List ℕ
 timeoutOf x b p k n =
     framed 5 (x ++ packetBytes p ++ aVerdict k b (p .destination .port) (p .destination .channel) n 0 0 noDigest)

@@ -1,5 +1,5 @@
--- A worked history: two made stores with paired ends, and a list of calls in which each kind of datagram is accepted and
--- one call is refused, with true verdicts. It shows that the premises of demand 3 can be met, all of them together.
+-- A worked history: two made stores with paired ends, and a list of calls in which each kind of datagram is accepted
+-- and one call is refused, with true verdicts. So the premises of demand 3 can be met, all of them together.
 use mathlib.Core.Path.{_≡_}
 use mathlib.Core.List.{List, [], _∷_, _++_, map}
 use Prim.Native.Nat.{ℕ}
