@@ -36,8 +36,6 @@ ghost use Rattle.rules.specs.Refusals.{lowest, refusals, orNone, endFor};
 ghost use Rattle.rows.specs.Lines.{numberBehind};
 ghost use Rattle.answer.specs.Known.{Known};
 
-const OPEN: u8 = 3;
-
 const TIME_OUT: u16 = 5;
 
 // Lines 1 to 3: a fit store, room for every record that is emitted, a sound datagram.
@@ -93,7 +91,7 @@ fn answer_on(store: &[u8], count: usize, datagram: &[u8], kind: u16, x: Context,
         r ≡ numberBehind 5 (kindOf kind) (storeIn (now (store .entry))) (datagramIn (now (datagram .entry))) c
         ⌝ }
 {
-    if (kind != TIME_OUT) & (c.state != OPEN) {
+    if (kind != TIME_OUT) & (c.state != Channel::OPEN) {
         return 6;
     }
     if x.port != c.own.port {

@@ -1,6 +1,7 @@
 // What depends on a channel's ordering: the tests 14 for 5, 15, 16 for 2, 19, and 20 for 2, and whether a counter rises.
 // The store has the test 17, and no other test does.
 use slots::Channel;
+use slots::Record;
 use tables::ordering::is_ordered;
 use tables::scan::has_record;
 ghost use mathlib.Core.Path.{_≡_};
@@ -55,7 +56,7 @@ pub fn is_receipt_there(store: &[u8], count: usize, c: Channel, sequence: u64) -
     if is_ordered(c) {
         return false;
     }
-    has_record(store, count, 2, c.own.channel, sequence)
+    has_record(store, count, Record::RECEIPT, c.own.channel, sequence)
 }
 
 // 14, for 5: what a verdict has to claim of a packet that was not received, next receive or that there is no receipt.

@@ -87,7 +87,13 @@ pub fn is_committed(store: &[u8], count: usize, p: Packet) -> bool
     requires { ⌜ length (now store) ≡ sizeFor count ⌝ }
     ensures { λ r. ⌜ r ≡ isCommitted (storeIn (now (store .entry)) .records) p ⌝ }
 {
-    let Found::At(i) = find_record(store, count, 1, p.source.channel, p.sequence) else {
+    let Found::At(i) = find_record(
+        store,
+        count,
+        Record::COMMITMENT,
+        p.source.channel,
+        p.sequence,
+    ) else {
         return false;
     };
     let timeout = p.timeout;

@@ -21,6 +21,7 @@ use packets::has_free;
 use packets::is_committed;
 use packets::lacks_connection;
 use slots::Channel;
+use slots::Record;
 use slots::Timeout;
 use tables::ordering::is_received;
 use tables::scan::has_record;
@@ -126,7 +127,13 @@ pub fn write_row(store: &[u8], count: usize, sequence: u64, digest: [u8; 32], c:
         r ≡ numberBehind 7 (some write) (storeIn (now (store .entry))) d c)
         ⌝ }
 {
-    if has_record(store, count, 3, c.own.channel, sequence) {
+    if has_record(
+        store,
+        count,
+        Record::ACKNOWLEDGEMENT,
+        c.own.channel,
+        sequence,
+    ) {
         return 16;
     }
     if !is_received(store, count, c, sequence) {

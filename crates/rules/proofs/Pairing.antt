@@ -7,6 +7,7 @@ use Rattle.wire.proofs.Laws.{and-both}
 use Rattle.slots.specs.declared.End.{End}
 use Rattle.slots.specs.declared.Channel.{Channel}
 use Rattle.slots.specs.Names.{channelAt, sameEnd, Store, storeIn}
+use Rattle.slots.specs.Names.{stateClosed}
 use Rattle.datagram.specs.declared.Packet.{Packet}
 use Rattle.datagram.specs.Names.{receive, body, hasPart}
 use Rattle.rules.specs.Names.{fitsDestination, Side, across, Call, heard, At, fold, Paired, Peers, packetOf, isDelivery}
@@ -29,8 +30,8 @@ grown-trans a c e g h =
       state = state (g .state) (h .state);
     }
   where
-    state : (c .state ≡ a .state) ⊎ (c .state ≡ 4) → (e .state ≡ c .state) ⊎ (e .state ≡ 4) →
-        (e .state ≡ a .state) ⊎ (e .state ≡ 4)
+    state : (c .state ≡ a .state) ⊎ (c .state ≡ stateClosed) → (e .state ≡ c .state) ⊎ (e .state ≡ stateClosed) →
+        (e .state ≡ a .state) ⊎ (e .state ≡ stateClosed)
     state p (inr q) = inr q
     state (inl p) (inl q) = inl (q ∙ p)
     state (inr p) (inl q) = inr (q ∙ p)

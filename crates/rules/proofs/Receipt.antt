@@ -6,6 +6,7 @@ use Rattle.wire.proofs.Laws.{clash, cases, of-pick}
 use Rattle.slots.specs.declared.Channel.{Channel}
 use Rattle.slots.specs.declared.Record.{Record}
 use Rattle.slots.specs.Names.{receiptKey, channelAt, hasFree, Store, isOrdered, isReceived}
+use Rattle.slots.specs.Names.{orderOrdered}
 use Rattle.datagram.specs.Names.{send, receive, write, acknowledge, timeOut, Datagram}
 use Rattle.datagram.proofs.Laws.{kinds-apart}
 use Rattle.rules.specs.Names.{counted, closed, receivedEnd, receivedEdit, raisesAcknowledge, raisedAcknowledge}
@@ -113,7 +114,7 @@ module _ {s t : Store} {d : Datagram} {n m : ℕ} (st : Step s d t) (w : Waits s
   own-order : st .channel .own .channel ≡ n → isOrdered (st .effect .end) ≡ true
   unfolding isOrdered
   own-order q =
-      ap (λ (k : ℕ). eqb k 1) (own-grown st .order) ∙ ap (λ (c : Channel). eqb (c .order) 1) (own-waits q) ∙ w .ordered
+      ap (λ (k : ℕ). eqb k orderOrdered) (own-grown st .order) ∙ ap (λ (c : Channel). eqb (c .order) orderOrdered) (own-waits q) ∙ w .ordered
 
   waits-own : st .channel .own .channel ≡ n → (j : ℕ) → st .effect .end .next .receive ≡ j → Waits t n j
   waits-own q j h =
