@@ -29,7 +29,6 @@ pub record WriteOk (s : Store) (d : Datagram) (c : Channel) : Type 0 where
   pub room : hasFree (s .records) ≡ true
 
 pub record AcknowledgeOk (s : Store) (d : Datagram) (c : Channel) : Type 0 where
-  pub fits : fitsSource c (d .packet) ≡ true
   pub committed : isCommitted (s .records) (d .packet) ≡ true
   pub below : isAcknowledgeAtTop c ≡ false
 
@@ -82,7 +81,6 @@ module _ (bs : List ℕ) (room : ℕ) (b : List ℕ) (s : Store) (d : Datagram) 
   unfolding givenAt table only _or_
   acknowledge-ok h =
       record {
-        fits = not-false _ (not-given _ 8 (quiet 9 acknowledge h));
         committed = not-false _ (not-given _ 12 (quiet 13 acknowledge h));
         below = not-given _ 18 (quiet 19 acknowledge h);
       }
