@@ -1,4 +1,4 @@
-//! The witness behind the C signatures, right and deliberately wrong, to test the comparison with.
+//! The reference implementation behind the C signatures, right and deliberately wrong, to test the comparison with.
 
 use std::slice::{from_raw_parts, from_raw_parts_mut};
 
