@@ -8,7 +8,13 @@
  * it while the call runs. Bytes need no alignment. NULL with the length 0 is allowed and is an empty slice; with
  * another length it is not. The functions keep no pointer, allocate nothing and have no state of their own, so calls
  * with different memory may run at the same time. Any bytes may stand in the memory: none makes a call fail in another
- * way than by its answer. */
+ * way than by its answer.
+ *
+ * WHAT HOLDS FOR THE STORE. Each call gets the bytes that the last accepted call on its ledger left, or at first the
+ * maker. Nobody else changes them, and no older copy of them is put back, not even after a crash. An older copy is a
+ * fit store too, so no answer tells; but it does not know what came after it, and a packet that was delivered or
+ * finished since would be delivered or finished again. The proof is about lists of calls in which this holds. So the
+ * host saves the store before it hands on the emitted record. */
 
 #ifndef ROUTE_H
 #define ROUTE_H

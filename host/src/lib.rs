@@ -12,7 +12,10 @@
 //! - [`Datagram::acknowledge`] and [`Datagram::time_out`] finish a packet that was sent.
 //!
 //! The last two and the receive carry a [`Verdict`]: what the host's light client found about the other ledger. That
-//! verdicts are true is the host's part. So is it that nobody else changes the store's bytes.
+//! verdicts are true is the host's part. So is it that each call gets the store that the last accepted call on its
+//! ledger left: nobody else changes the bytes, and no older copy is put back. An older copy is fit too, so no refusal
+//! tells; but a packet that was delivered or finished since would be delivered or finished again. The proof is about
+//! lists of calls in which this holds. So a host saves [`Store::as_bytes`] before it hands on the emitted record.
 //!
 //! `examples/two_ledgers.rs` has two ledgers in one program.
 

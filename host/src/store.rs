@@ -93,7 +93,9 @@ impl Store {
         }
     }
 
-    /// The store in these bytes, as [`as_bytes`](Store::as_bytes) gave them.
+    /// The store in these bytes, as [`as_bytes`](Store::as_bytes) gave them behind the last accepted call on this
+    /// ledger. Older bytes pass this test too, and must not be used: they would let a packet be delivered or finished
+    /// again.
     ///
     /// # Errors
     ///

@@ -1,4 +1,4 @@
-//! The witness behind the C signatures, right and deliberately wrong, to test the comparison with.
+//! The reference implementation behind the C signatures, right and deliberately wrong, to test the comparison with.
 
 use std::slice::{from_raw_parts, from_raw_parts_mut};
 
@@ -11,7 +11,7 @@ use crate::subject::{Handle, Subject};
 pub const RIGHT: Subject = with(right);
 
 /// Handlers that each break one rule.
-pub const WRONG: [(&str, Handle); 13] = [
+pub const WRONG: [(&str, Handle); 14] = [
     ("refuses always", refuses_always),
     ("answers 0 always", answers_zero),
     ("accepts and stores nothing", stores_nothing),
@@ -22,6 +22,7 @@ pub const WRONG: [(&str, Handle); 13] = [
     ("asks for an OPEN end at a time-out", asks_open),
     ("times out no packet but the next", next_alone),
     ("gives back what was received", GIVES_BACK),
+    ("gives back before the timeout on a CLOSED end", early_if_closed),
     ("gives 7 before 6", seven_before_six),
     ("changes the last height on refusal 20", changes_on_refusal),
     ("writes behind the output", writes_behind),
@@ -170,6 +171,22 @@ behind_c!(gives_back, |store, output, datagram| {
     // The verdict's sequence.
     put_u64(&mut lower, 130, packet.sequence);
     crate::handle(store, output, &lower)
+});
+
+// On a CLOSED end any block is taken for a late one.
+behind_c!(early_if_closed, |store, output, datagram| {
+    let answer = crate::handle(store, output, datagram);
+    let packet = time_out_of(datagram).filter(|_| answer.0 == 12).map(|(packet, _)| packet);
+    let end = packet.and_then(|packet| find_channel(store, packet.source_channel)).map(|(_, end)| end);
+    if end.is_none_or(|end| end.is_open()) {
+        return answer;
+    }
+    let mut late = datagram.to_vec();
+    // The verdict's proof height and proof time.
+    for at in [108, 116] {
+        put_u64(&mut late, at, u64::MAX);
+    }
+    crate::handle(store, output, &late)
 });
 
 behind_c!(seven_before_six, |store, output, datagram| {

@@ -32,7 +32,8 @@ fn goes_back(store: &[u8], context: &Context) -> bool {
     context.height < height || context.time < time || context.height == height && context.time != time
 }
 
-fn own_channel(body: &Body) -> u32 {
+/// The channel of this ledger that a datagram is about.
+pub fn own_channel(body: &Body) -> u32 {
     match body {
         Body::Send { channel, .. } | Body::Write { channel, .. } => *channel,
         Body::Receive { packet, .. } => packet.dest_channel,

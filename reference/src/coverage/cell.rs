@@ -21,6 +21,8 @@ pub enum Cell {
     /// A time-out was accepted on an end of this order, OPEN or CLOSED, the sequence of its claim below the packet's or
     /// at it.
     TimedOut { ordered: bool, open: bool, below: bool },
+    /// This refusal applied, and no other, on a CLOSED end.
+    Closed(Row, u8),
     /// The store was damaged in the way of this index.
     Damage(usize),
     /// A datagram of this kind was malformed in the way of this index.
@@ -32,11 +34,12 @@ pub enum Cell {
 }
 
 /// The sorts of cells, as a run tells them.
-pub const SORTS: [&str; 8] = [
+pub const SORTS: [&str; 9] = [
     "answers by kind",
     "refusals alone",
     "pairs",
     "time-outs accepted",
+    "alone on CLOSED",
     "damages",
     "malformed ways",
     "maker's answers",
@@ -51,10 +54,11 @@ impl Cell {
             Cell::Alone(..) => 1,
             Cell::Pair(..) => 2,
             Cell::TimedOut { .. } => 3,
-            Cell::Damage(_) => 4,
-            Cell::Way(..) => 5,
-            Cell::Maker(_) => 6,
-            Cell::Length => 7,
+            Cell::Closed(..) => 4,
+            Cell::Damage(_) => 5,
+            Cell::Way(..) => 6,
+            Cell::Maker(_) => 7,
+            Cell::Length => 8,
         }
     }
 }
@@ -80,6 +84,7 @@ impl fmt::Display for Cell {
                 let claimed = if *below { "below" } else { "at" };
                 write!(out, "{}: accepted, end {state}, claim {claimed} the sequence", of_time_out(*ordered))
             }
+            Cell::Closed(row, number) => write!(out, "{row}: {number} alone, end CLOSED"),
             Cell::Damage(way) => write!(out, "damage: {}", damage::KINDS[*way].0),
             Cell::Way(kind, way) => write!(out, "{}: malformed by {}", name(*kind), malform::WAYS[*way].0),
             Cell::Maker(number) => write!(out, "maker: answer {number}"),
@@ -118,6 +123,17 @@ fn of_row(row: Row) -> Vec<Cell> {
     cells
 }
 
+/// The refusals that can apply alone in this row on a CLOSED end. There 6 applies to all kinds but a time-out; behind
+/// 1, 3 and 5 there is no end to look at.
+fn alone_on_closed(row: Row) -> Vec<u8> {
+    let mut numbers = fault::aims(row);
+    numbers.retain(|number| match row.kind {
+        TIME_OUT => !matches!(*number, STORE_NOT_FIT | MALFORMED | NO_CHANNEL),
+        _ => *number == NOT_OPEN,
+    });
+    numbers
+}
+
 /// Every cell that a run can reach.
 pub fn possible() -> Vec<Cell> {
     let maker = [0, STORE_LENGTH_UNFIT, OPENINGS_MALFORMED, TOO_MANY_OPENINGS, CHANNEL_TWICE];
@@ -130,6 +146,9 @@ pub fn possible() -> Vec<Cell> {
     for open in [true, false] {
         let claims = [(false, false), (true, false), (true, true)];
         cells.extend(claims.map(|(ordered, below)| Cell::TimedOut { ordered, open, below }));
+    }
+    for row in rows() {
+        cells.extend(alone_on_closed(row).into_iter().map(|number| Cell::Closed(row, number)));
     }
     cells.extend((0..damage::KINDS.len()).map(Cell::Damage));
     cells.extend(maker.map(Cell::Maker));

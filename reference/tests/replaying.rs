@@ -1,6 +1,6 @@
 //! The replay program's lines, on inputs that are written here byte by byte.
 
-use witness::replay::transcript;
+use reference::replay::transcript;
 
 fn first(records: u16, openings: &[u8]) -> Vec<u8> {
     let length = 8 + openings.len() as u32;

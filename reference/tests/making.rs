@@ -16,7 +16,7 @@ fn openings(count: u32) -> Vec<u8> {
 /// The answer on a slice that holds other bytes before; a refusal has to leave them.
 fn made(length: usize, openings: &[u8]) -> (u8, Vec<u8>) {
     let mut store = vec![0xee; length];
-    let number = witness::make_store(&mut store, openings);
+    let number = reference::make_store(&mut store, openings);
     assert!(number == 0 || store.iter().all(|byte| *byte == 0xee));
     (number, store)
 }
@@ -73,9 +73,9 @@ fn lowest_number_is_given() {
 
 #[test]
 fn store_lengths() {
-    assert_eq!(witness::store_length(0), 0);
-    assert_eq!(witness::store_length(1), 1152);
-    assert_eq!(witness::store_length(512), 33856);
-    assert_eq!(witness::store_length(513), 0);
-    assert_eq!(witness::store_length(usize::MAX), 0);
+    assert_eq!(reference::store_length(0), 0);
+    assert_eq!(reference::store_length(1), 1152);
+    assert_eq!(reference::store_length(512), 33856);
+    assert_eq!(reference::store_length(513), 0);
+    assert_eq!(reference::store_length(usize::MAX), 0);
 }

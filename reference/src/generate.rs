@@ -17,6 +17,7 @@ use crate::bytes::get_u16;
 use crate::datagram::*;
 use crate::places::{frame, OUTPUT};
 use crate::refusal::*;
+use crate::store::{Channel, CLOSED};
 pub use call::{Call, Origin, Row, Task};
 use draft::Draft;
 use rng::Rng;
@@ -58,13 +59,18 @@ impl Generator {
         (0..12).find_map(|_| grow::any_accepted(&mut self.rng, &self.store))
     }
 
-    /// A draft to be spoiled: it closes nothing, so all kinds come alike on channels of both orders.
+    /// A draft to be spoiled: it closes nothing, so all kinds come alike on channels of both orders. A time-out is as
+    /// good on a CLOSED end.
     fn draft_to_spoil(&mut self) -> Option<Draft> {
         let kind = self.rng.pick(&[SEND, RECEIVE, WRITE, ACKNOWLEDGE, TIME_OUT]);
         let ordered = self.rng.one_in(2);
-        (0..12).find_map(|_| {
+        let mut draft = (0..12).find_map(|_| {
             accept::accepted(&mut self.rng, &self.store, kind).filter(|draft| draft.row().ordered == ordered)
-        })
+        })?;
+        if kind == TIME_OUT && self.rng.one_in(4) {
+            draft.set_end(Channel { state: CLOSED, ..draft.end() });
+        }
+        Some(draft)
     }
 
     /// A call made for the answer 0; the store goes on with what it leaves.

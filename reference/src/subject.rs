@@ -113,14 +113,14 @@ impl Subject {
     }
 }
 
-/// What the witness leaves behind for the same call.
-pub fn witness_handle(store: &[u8], output: &[u8], datagram: &[u8]) -> Left {
+/// What the reference implementation leaves behind for the same call.
+pub fn reference_handle(store: &[u8], output: &[u8], datagram: &[u8]) -> Left {
     let (mut store, mut output) = (store.to_vec(), output.to_vec());
     let (number, size) = crate::handle(&mut store, &mut output, datagram);
     Left { number, size, store, output, strayed: Vec::new() }
 }
 
-pub fn witness_make_store(store: &[u8], openings: &[u8]) -> Left {
+pub fn reference_make_store(store: &[u8], openings: &[u8]) -> Left {
     let mut store = store.to_vec();
     let number = crate::make_store(&mut store, openings);
     Left { number, size: 0, store, output: Vec::new(), strayed: Vec::new() }

@@ -41,7 +41,7 @@ fn opening(port: u16, channel: u32, other_port: u16, other_channel: u32, order: 
 fn fresh() -> Vec<u8> {
     let mut store = vec![0xee; 1088 + 2 * 64];
     let openings = [opening(5, ORDERED_END, 6, 9, 1), opening(5, UNORDERED_END, 6, 10, 2)].concat();
-    assert_eq!(witness::make_store(&mut store, &openings), 0);
+    assert_eq!(reference::make_store(&mut store, &openings), 0);
     store
 }
 
@@ -86,7 +86,7 @@ fn time_out(sequence: u64, proof_height: u64, claimed: u64) -> Vec<u8> {
 fn answer(store: &mut [u8], datagram: &[u8]) -> (u8, Vec<u8>) {
     let before = store.to_vec();
     let mut output = vec![0xaa; 120];
-    let (number, length) = witness::handle(store, &mut output, datagram);
+    let (number, length) = reference::handle(store, &mut output, datagram);
     if number != 0 {
         assert_eq!((store.to_vec(), length), (before, 0));
     }

@@ -1,12 +1,12 @@
-//! Measures the static library and the plain Rust witness on the same datagrams, in one run: `bench [rounds]`.
+//! Measures the static library and the plain Rust of the reference on the same datagrams, in one run: `bench [rounds]`.
 
 use std::env;
 use std::hint::black_box;
 use std::time::{Duration, Instant};
 
-use witness::places::OUTPUT;
-use witness::route::ROUTE;
-use witness::workload::{workload, Workload, SEGMENT};
+use reference::places::OUTPUT;
+use reference::route::ROUTE;
+use reference::workload::{workload, Workload, SEGMENT};
 
 const CALLS: usize = 10_000;
 const SEED: u64 = 7;
@@ -72,7 +72,7 @@ fn measure(records: usize, rounds: usize) {
     let workload = workload(SEED, records, CALLS);
     // Short chunks, so that most of them are not disturbed by whatever else the machine does.
     let chunk = (SEGMENT * 8 / records).max(1);
-    let handlers: [Handler; 2] = [black_box(library), black_box(witness::handle)];
+    let handlers: [Handler; 2] = [black_box(library), black_box(reference::handle)];
     // The first round of each warms up and is not counted.
     let [first, second] = handlers.map(|handler| round(handler, &workload, chunk));
     assert!(first.sum == second.sum && first.store == second.store, "the two do not do the same work: run compare");

@@ -14,7 +14,7 @@ use crate::generate::rng::Rng;
 use crate::generate::shape::channels;
 use crate::places::{frame, OUTPUT};
 use crate::store::*;
-use crate::subject::{witness_handle, witness_make_store, Subject};
+use crate::subject::{reference_handle, reference_make_store, Subject};
 use ledger::Ledger;
 use tally::Tally;
 
@@ -32,7 +32,7 @@ pub struct Outcome {
     pub differences: Vec<String>,
 }
 
-/// Runs that many histories; the subject decides how each goes on, and the witness decides each call beside it.
+/// Runs that many histories; the subject decides how each goes on, and the reference decides each call beside it.
 pub fn run(subject: &Subject, histories: u64, seed: u64, truthful: bool) -> Outcome {
     let mut outcome = Outcome::default();
     for number in 0..histories {
@@ -65,7 +65,7 @@ impl History {
             let length = store_length(4 + rng.index(60));
             let slice = rng.bytes(length);
             let left = subject.make_store(&slice, &list, 0);
-            let found = differences(&witness_make_store(&slice, &list), &left);
+            let found = differences(&reference_make_store(&slice, &list), &left);
             outcome.differences.extend(found.iter().map(|text| format!("maker: {text}")));
             Ledger::new(left.store)
         });
@@ -85,7 +85,7 @@ impl History {
         let output = self.rng.bytes(length);
         let store = &self.ledgers[at].store;
         let left = subject.handle(store, &output, &datagram, (outcome.calls % 16) as usize);
-        let expected = witness_handle(store, &output, &datagram);
+        let expected = reference_handle(store, &output, &datagram);
         outcome.calls += 1;
         outcome.answers.count(&datagram, left.number);
         outcome.differences.extend(differences(&expected, &left).iter().map(|text| format!("{place}: {text}")));

@@ -16,7 +16,7 @@ fn right_handler_passes() {
     let report = compare(&shim::RIGHT, 60_000, SEED);
     println!("{}", report.coverage);
     assert_eq!(report.differences, Vec::<String>::new());
-    assert_eq!(report.witness_faults, Vec::<String>::new());
+    assert_eq!(report.reference_faults, Vec::<String>::new());
     assert_eq!(report.coverage.unmet(), []);
 }
 
@@ -35,7 +35,7 @@ fn wrong_handlers_are_found() {
         let report = compare(&shim::with(handle), 3_000, SEED);
         println!("{name}: {} different calls", report.different_calls);
         assert!(report.different_calls > 0, "{name}");
-        assert!(report.witness_faults.is_empty());
+        assert!(report.reference_faults.is_empty());
     }
 }
 
@@ -70,7 +70,7 @@ fn right_histories_keep_all_promises() {
     }
 }
 
-/// Counting alone finds these, without the witness beside them.
+/// Counting alone finds these, without the reference implementation beside them.
 #[test]
 fn wrong_histories_break_promises() {
     for (name, handle, truthful, promise) in [

@@ -11,6 +11,7 @@ use crate::generate::{Call, Origin, Row, Task};
 use crate::places::frame;
 use crate::refusal::*;
 use crate::store::find_channel;
+use crate::table::own_channel;
 use cell::{Cell, KINDS, SORTS};
 
 const COLUMNS: usize = KINDS.len() + 2;
@@ -71,8 +72,7 @@ impl Coverage {
             Task::Handle { store, datagram, .. } => {
                 let column = column_of(datagram);
                 self.answers.add(column, number);
-                // An accepted call has a fit store, so its end can be looked up.
-                if let Some(cell) = (number == 0).then(|| time_out_cell(store, datagram)).flatten() {
+                if let Some(cell) = cell_of_end(store, datagram, applying) {
                     self.reach(cell);
                 }
                 if column < OTHER {
@@ -116,13 +116,22 @@ fn both_hit(applying: &[u8], low: u8, high: u8) -> bool {
     applying.contains(&low) && (hidden || applying.contains(&high))
 }
 
-/// The cell of a time-out that is accepted.
-fn time_out_cell(store: &[u8], bytes: &[u8]) -> Option<Cell> {
-    let Body::TimeOut { packet, verdict } = read(bytes)?.body else {
+/// The cell of a time-out that is accepted, and of a refusal that applies alone on a CLOSED end.
+fn cell_of_end(store: &[u8], bytes: &[u8], applying: &[u8]) -> Option<Cell> {
+    // Only in a fit store can the end be looked up.
+    if applying.contains(&STORE_NOT_FIT) {
         return None;
-    };
-    let (_, end) = find_channel(store, packet.source_channel)?;
-    Some(Cell::TimedOut { ordered: end.is_ordered(), open: end.is_open(), below: verdict.sequence < packet.sequence })
+    }
+    let body = read(bytes)?.body;
+    let (_, end) = find_channel(store, own_channel(&body))?;
+    let (ordered, open) = (end.is_ordered(), end.is_open());
+    match (applying, body) {
+        ([], Body::TimeOut { packet, verdict }) => {
+            Some(Cell::TimedOut { ordered, open, below: verdict.sequence < packet.sequence })
+        }
+        ([number], _) if !open => Some(Cell::Closed(Row { kind: get_u16(bytes, frame::KIND), ordered }, *number)),
+        _ => None,
+    }
 }
 
 fn column_of(datagram: &[u8]) -> usize {

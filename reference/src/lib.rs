@@ -1,4 +1,4 @@
-//! A second, independent implementation of the packet handler's rules, for comparison.
+//! The reference implementation of the packet handler's rules, independent of the proved code, for comparison.
 //!
 //! It is written from the rules alone, in the most direct way: read the values, ask each refusal in rising
 //! order, decide the whole effect, write it. The other modules make calls, hold two implementations against

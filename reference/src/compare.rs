@@ -1,9 +1,9 @@
-//! Random calls given to the witness and to the implementation under test; whatever they leave is compared whole.
+//! Random calls given to the reference implementation and to the one under test; whatever they leave is compared whole.
 
 use crate::coverage::Coverage;
 use crate::fit::fit;
 use crate::generate::{Call, Generator, Task};
-use crate::subject::{witness_handle, witness_make_store, Left, Subject};
+use crate::subject::{reference_handle, reference_make_store, Left, Subject};
 use crate::table::applying;
 
 /// Differences beyond this many are counted and not kept.
@@ -16,8 +16,8 @@ pub struct Report {
     pub different_calls: u64,
     /// The first differences, each with the index of its call.
     pub differences: Vec<String>,
-    /// Calls at which the witness broke a law of its own or missed what the call was made for.
-    pub witness_faults: Vec<String>,
+    /// Calls at which the reference implementation broke a law of its own or missed what the call was made for.
+    pub reference_faults: Vec<String>,
 }
 
 /// Compares that many random calls.
@@ -35,10 +35,10 @@ fn compare_call(subject: &Subject, call: &Call, index: u64, report: &mut Report)
     let shift = (index % 16) as usize;
     let (expected, given) = match &call.task {
         Task::Handle { store, output, datagram } => {
-            (witness_handle(store, output, datagram), subject.handle(store, output, datagram, shift))
+            (reference_handle(store, output, datagram), subject.handle(store, output, datagram, shift))
         }
         Task::Make { store, openings } => {
-            (witness_make_store(store, openings), subject.make_store(store, openings, shift))
+            (reference_make_store(store, openings), subject.make_store(store, openings, shift))
         }
         Task::StoreLength(records) => {
             let (expected, given) = (crate::store_length(*records), subject.store_length(*records));
@@ -55,8 +55,8 @@ fn compare_call(subject: &Subject, call: &Call, index: u64, report: &mut Report)
     if !found.is_empty() {
         note(report, call, index, found);
     }
-    if let Some(fault) = witness_fault(call, &expected, &applying) {
-        report.witness_faults.push(format!("call {index}, {:?}: {fault}", call.origin));
+    if let Some(fault) = reference_fault(call, &expected, &applying) {
+        report.reference_faults.push(format!("call {index}, {:?}: {fault}", call.origin));
     }
 }
 
@@ -107,9 +107,9 @@ fn first_difference(expected: &[u8], given: &[u8]) -> Option<usize> {
     differs.or((expected.len() != given.len()).then_some(expected.len().min(given.len())))
 }
 
-/// Laws that are independent of how the witness decides: a call made for an answer gets it, the lowest refusal of the
+/// Laws that are independent of how the reference decides: a call made for an answer gets it, the lowest refusal of the
 /// table is given, a refusal changes nothing, an acceptance leaves a fit store and nothing behind what it emits.
-fn witness_fault(call: &Call, left: &Left, applying: &[u8]) -> Option<String> {
+fn reference_fault(call: &Call, left: &Left, applying: &[u8]) -> Option<String> {
     if left.number != applying.first().copied().unwrap_or(0) {
         return Some(format!("{applying:?} apply, got {}", left.number));
     }

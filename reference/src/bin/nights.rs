@@ -1,6 +1,6 @@
-//! Holds a replay program against the witness: `nights PROGRAM [inputs] [seed]`.
+//! Holds a replay program against the reference implementation: `nights PROGRAM [inputs] [seed]`.
 //!
-//! Each random input is fed to the program, in pieces or whole, and what it prints is compared with the witness's
+//! Each random input is fed to the program, in pieces or whole, and what it prints is compared with the reference's
 //! transcript.
 
 use std::env;
@@ -8,10 +8,10 @@ use std::io::{self, Write};
 use std::process::{ChildStdin, Command, ExitCode, Stdio};
 use std::thread;
 
-use witness::compare::hex;
-use witness::generate::night::night;
-use witness::generate::rng::Rng;
-use witness::replay::transcript;
+use reference::compare::hex;
+use reference::generate::night::night;
+use reference::generate::rng::Rng;
+use reference::replay::transcript;
 
 const DEFAULT_INPUTS: u64 = 2_000;
 const DEFAULT_SEED: u64 = 1;

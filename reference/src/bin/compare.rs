@@ -1,12 +1,12 @@
-//! Holds the static library against the witness: `compare [calls] [seed]`.
+//! Holds the static library against the reference implementation: `compare [calls] [seed]`.
 
 use std::env;
 use std::process::ExitCode;
 use std::time::{SystemTime, UNIX_EPOCH};
 
-use witness::compare::compare;
-use witness::history;
-use witness::route::ROUTE;
+use reference::compare::compare;
+use reference::history;
+use reference::route::ROUTE;
 
 /// The full run. From some 60,000 calls on every cell of the coverage is met; fewer calls fail for that.
 const DEFAULT_CALLS: u64 = 1_000_000;
@@ -42,10 +42,10 @@ fn compare_calls(calls: u64, seed: u64) -> u64 {
     println!("{}", report.coverage);
     println!("{} calls differ", report.different_calls);
     show(&report.differences, seed);
-    show(&report.witness_faults, seed);
+    show(&report.reference_faults, seed);
     let unmet: Vec<String> = report.coverage.unmet().iter().map(|cell| format!("not met: {cell}")).collect();
     show(&unmet, seed);
-    report.different_calls + (report.witness_faults.len() + unmet.len()) as u64
+    report.different_calls + (report.reference_faults.len() + unmet.len()) as u64
 }
 
 fn run_histories(histories: u64, seed: u64, truthful: bool) -> u64 {
