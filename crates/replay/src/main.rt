@@ -1,17 +1,17 @@
-// Reads a night from standard input and writes its transcript to standard output, piece by piece. The work is the
+// Reads a trace from standard input and writes its transcript to standard output, piece by piece. The work is the
 // library's, `transcript`: here bytes are read, fed, and written.
 use libc::STDIN_FILENO;
 use libc::STDOUT_FILENO;
-use night::Night;
-use night::is_over;
-use night::start;
+use trace::Replay;
+use trace::is_over;
+use trace::start;
 use transcript::feed;
 use transcript::finish;
 use transcript::keep;
 
-// How the night stands, the bytes that are held of the last piece, and whether to read on.
+// How the replay stands, the bytes that are held of the last piece, and whether to read on.
 struct Reading {
-    night: Night,
+    replay: Replay,
     held: usize,
     goes_on: bool,
 }
@@ -24,11 +24,11 @@ fn write_text(text: &[u8], size: usize) -> bool {
 }
 
 // The last line.
-fn end(text: &mut [u8], left: usize, night: Night) -> Reading {
-    let size = finish(text, left, night);
+fn end(text: &mut [u8], left: usize, replay: Replay) -> Reading {
+    let size = finish(text, left, replay);
     write_text(text, size);
     Reading {
-        night: night,
+        replay: replay,
         held: 0,
         goes_on: false,
     }
@@ -40,19 +40,19 @@ fn feed_held(
     piece: &mut [u8],
     text: &mut [u8],
     held: usize,
-    night: Night,
+    replay: Replay,
 ) -> Reading {
     if piece.len() < held {
-        return end(text, held, night);
+        return end(text, held, replay);
     }
-    let fed = feed(room, &piece[0..held], text, night);
+    let fed = feed(room, &piece[0..held], text, replay);
     let is_written = write_text(text, fed.size);
     let left = keep(piece, fed.read, held);
-    let after = fed.night;
+    let after = fed.replay;
     let phase = after.phase;
     let is_ended = is_over(phase);
     Reading {
-        night: after,
+        replay: after,
         held: left,
         goes_on: is_written && !is_ended,
     }
@@ -60,27 +60,27 @@ fn feed_held(
 
 // Reads once. Where the read fails the input has not ended: it counts as torn.
 fn turn(room: &mut [u8], piece: &mut [u8], text: &mut [u8], t: Reading) -> Reading {
-    let night = t.night;
+    let replay = t.replay;
     let held = t.held;
     if piece.len() < held {
-        return end(text, held, night);
+        return end(text, held, replay);
     }
     let got = libc::read(STDIN_FILENO, &mut piece[held..]);
     if got < 0 {
-        return end(text, 1, night);
+        return end(text, 1, replay);
     }
     if got == 0 {
-        return end(text, held, night);
+        return end(text, held, replay);
     }
     let more = io::count(got, &piece[held..]);
-    feed_held(room, piece, text, held + more, night)
+    feed_held(room, piece, text, held + more, replay)
 }
 
 // A proved loop has to end, and nothing says that the input does. So the loop counts its turns down, from a number that
 // no run uses up.
 fn replay(room: &mut [u8], piece: &mut [u8], text: &mut [u8]) {
     let mut t = Reading {
-        night: start(),
+        replay: start(),
         held: 0,
         goes_on: true,
     };

@@ -7,7 +7,7 @@ use lib.ListN.{length, drop, set, getD, length-take, length-drop}
 use lib.Seq.{getD-set-other, getD-take, getD-drop}
 use borrow.Author.Tests.{le-leb, lt-leb}
 use Rattle.wire.specs.Bytes.{part, patch}
-use Rattle.night.specs.declared.Night.{Night}
+use Rattle.trace.specs.declared.Replay.{Replay}
 use Rattle.transcript.specs.Transcript.{lineRoom, lastLine, lastWithin}
 
 -- bytes behind a patch stay
@@ -26,10 +26,10 @@ unfolding part
 getD-part i n j bs h = getD-take n (drop i bs) j 0 h ∙ getD-drop i bs j 0
 
 -- THE LAST LINE, where there is room for it
-pub last-within : (n : ℕ) (night : Night) (k : ℕ) → lineRoom ≤ n → lastWithin n night k ≡ lastLine night k
+pub last-within : (n : ℕ) (replay : Replay) (k : ℕ) → lineRoom ≤ n → lastWithin n replay k ≡ lastLine replay k
 unfolding lastWithin
-last-within n night k h = rw (le-leb lineRoom n h)
+last-within n replay k h = rw (le-leb lineRoom n h)
 
-pub last-nowhere : (n : ℕ) (night : Night) (k : ℕ) → n < lineRoom → lastWithin n night k ≡ []
+pub last-nowhere : (n : ℕ) (replay : Replay) (k : ℕ) → n < lineRoom → lastWithin n replay k ≡ []
 unfolding lastWithin
-last-nowhere n night k h = rw (lt-leb lineRoom n h)
+last-nowhere n replay k h = rw (lt-leb lineRoom n h)

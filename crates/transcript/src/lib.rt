@@ -2,10 +2,10 @@
 mod piece; // a piece of the input
 mod reader; // one record at a time
 
-use night::Night;
 pub use piece::feed;
 pub use piece::finish;
 pub use piece::keep;
+use trace::Replay;
 
 // What stands at the front of an input: a whole record of so many bytes, a torn one, or too little to tell.
 pub enum Front {
@@ -14,9 +14,9 @@ pub enum Front {
     Short,
 }
 
-// How far a piece was fed: how the night stands, the bytes that were read, and the bytes of text that were stored.
+// How far a piece was fed: how the replay stands, the bytes that were read, and the bytes of text that were stored.
 pub struct Progress {
-    pub night: Night,
+    pub replay: Replay,
     pub read: usize,
     pub size: usize,
 }

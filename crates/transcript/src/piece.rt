@@ -2,12 +2,12 @@
 use super::Front;
 use super::Progress;
 use super::reader::record_at;
-use night::Night;
-use night::Phase;
-use night::is_over;
-use night::over;
-use night::put_word_line;
-use night::step;
+use trace::Phase;
+use trace::Replay;
+use trace::is_over;
+use trace::over;
+use trace::put_word_line;
+use trace::step;
 ghost use mathlib.Core.Path.{_≡_};
 ghost use Prim.Native.Nat.{_+_, _-_, _*_, _/_, _≤_};
 ghost use lib.ListN.{length, drop};
@@ -22,12 +22,12 @@ const LINE: usize = 64;
 fn turn(room: &mut [u8], input: &[u8], text: &mut [u8], p: Progress) -> Progress
     requires { ⌜ (p .read ≤ length (now input)) × (p .size + lineRoom ≤ length (now text)) ⌝ }
     ensures { λ r. ⌜
-        Feeds (fed 1 (p .night) (now (room .entry)) (drop (p .read) (now (input .entry)))) (p .size)
+        Feeds (fed 1 (p .replay) (now (room .entry)) (drop (p .read) (now (input .entry)))) (p .size)
         (now (input .entry)) (now (text .entry)) r (now (room .exit)) (now (text .exit))
         ⌝ }
 {
-    let night = p.night;
-    let phase = night.phase;
+    let replay = p.replay;
+    let phase = replay.phase;
     if is_over(phase) {
         return p;
     }
@@ -36,18 +36,18 @@ fn turn(room: &mut [u8], input: &[u8], text: &mut [u8], p: Progress) -> Progress
     match record_at(input, read) {
         Front::Whole(size) => {
             let end = read + size;
-            let left = step(room, &input[read..end], text, at, night);
-            let next = left.night;
+            let left = step(room, &input[read..end], text, at, replay);
+            let next = left.replay;
             Progress {
-                night: next,
+                replay: next,
                 read: end,
                 size: left.at,
             }
         }
         Front::Torn => {
-            let end = put_word_line(text, at, b"torn", night.count);
+            let end = put_word_line(text, at, b"torn", replay.count);
             Progress {
-                night: over(night.count, night.size),
+                replay: over(replay.count, replay.size),
                 read: read,
                 size: end,
             }
@@ -57,15 +57,15 @@ fn turn(room: &mut [u8], input: &[u8], text: &mut [u8], p: Progress) -> Progress
 }
 
 // As many whole records as there are, and as the text has room for.
-pub fn feed(room: &mut [u8], input: &[u8], text: &mut [u8], night: Night) -> Progress
+pub fn feed(room: &mut [u8], input: &[u8], text: &mut [u8], replay: Replay) -> Progress
     ensures { λ r. ⌜
-        Feeds (fed (length (now (text .entry)) / lineRoom) night (now (room .entry)) (now (input .entry))) 0
+        Feeds (fed (length (now (text .entry)) / lineRoom) replay (now (room .entry)) (now (input .entry))) 0
         (now (input .entry)) (now (text .entry)) r (now (room .exit)) (now (text .exit))
         ⌝ }
 {
     let lines = text.len() / LINE;
     let mut p = Progress {
-        night: night,
+        replay: replay,
         read: 0,
         size: 0,
     };
@@ -82,23 +82,23 @@ pub fn feed(room: &mut [u8], input: &[u8], text: &mut [u8], night: Night) -> Pro
 }
 
 // The last line, where so many bytes are left at the end of the input. Answers the bytes of text that were stored.
-pub fn finish(text: &mut [u8], left: usize, night: Night) -> usize
-    ensures size { λ r. ⌜ r ≡ length (lastWithin (length (now (text .entry))) night left) ⌝ }
+pub fn finish(text: &mut [u8], left: usize, replay: Replay) -> usize
+    ensures size { λ r. ⌜ r ≡ length (lastWithin (length (now (text .entry))) replay left) ⌝ }
     ensures text { λ _. ⌜
-        now (text .exit) ≡ patch 0 (lastWithin (length (now (text .entry))) night left) (now (text .entry))
+        now (text .exit) ≡ patch 0 (lastWithin (length (now (text .entry))) replay left) (now (text .entry))
         ⌝ }
 {
     if text.len() < LINE {
         return 0;
     }
-    let phase = night.phase;
+    let phase = replay.phase;
     match phase {
         Phase::Before => put_word_line(text, 0, b"torn", 0),
         Phase::Running => {
             if left == 0 {
-                return put_word_line(text, 0, b"end", night.count);
+                return put_word_line(text, 0, b"end", replay.count);
             }
-            put_word_line(text, 0, b"torn", night.count)
+            put_word_line(text, 0, b"torn", replay.count)
         }
         Phase::Over => 0,
     }

@@ -12,7 +12,7 @@ use Rattle.transcript.proofs.piece.feed.Tie as tie
 
 abbrev Inv-loop : tie.InvT-loop
 Inv-loop room₀ input text₀ lines p₀ i₀ room text p i =
-    Reached lines (p₀ .night) room₀ input text₀ i p room text
+    Reached lines (p₀ .replay) room₀ input text₀ i p room text
     × ((length room ≡ length room₀) × (length text ≡ length text₀))
 
 abbrev μ-loop : tie.MeasureT-loop
@@ -22,7 +22,7 @@ loop-holds : tie.Need-loop-holds Inv-loop μ-loop
 loop-holds c =
     let a = c .before .before .before .args in
     let text = now (a .text) in
-    (reached-start (length text / lineRoom) (a .night) (now (a .room)) (now (a .input)) text, (refl, refl))
+    (reached-start (length text / lineRoom) (a .replay) (now (a .room)) (now (a .input)) text, (refl, refl))
 
 turn-requires : tie.Need-turn-requires Inv-loop μ-loop
 turn-requires c κs =
@@ -32,12 +32,12 @@ turn-requires c κs =
 -- after a turn
 next : (c : tie.After-turn Inv-loop μ-loop) →
     let a = c .before .before .before .before .before .before .before .before .args in
-    Reached (length (now (a .text)) / lineRoom) (a .night) (now (a .room)) (now (a .input)) (now (a .text))
+    Reached (length (now (a .text)) / lineRoom) (a .replay) (now (a .room)) (now (a .input)) (now (a .text))
     (c .before .before .before .before .loop .i + 1) (c .turn .result) (c .turn .last .0) (c .turn .last .1 .1 .0)
 next c =
     let a = c .before .before .before .before .before .before .before .before .args in
     let text = now (a .text) in
-    reached-next (length text / lineRoom) (a .night) (now (a .room)) (now (a .input)) text
+    reached-next (length text / lineRoom) (a .replay) (now (a .room)) (now (a .input)) text
     (c .before .before .before .before .loop .inv .0) (c .before .before .before .loop-test .taken) (c .turn .ensures)
 
 same-length : tie.Need-same-length Inv-loop μ-loop
@@ -56,10 +56,10 @@ returns c =
     let a = t .before .before .before .before .before .before .before .before .args in
     let text = now (a .text) in
     let n = length text / lineRoom in
-    let still = reached-still n (a .night) (now (a .room)) (now (a .input)) text
+    let still = reached-still n (a .replay) (now (a .room)) (now (a .input)) text
     (t .before .before .before .before .loop .inv .0) (t .before .before .before .loop-test .taken) (t .turn .ensures)
     (c .if1 .taken) in
-    reached-done n (a .night) (now (a .room)) (now (a .input)) text (next t) still
+    reached-done n (a .replay) (now (a .room)) (now (a .input)) text (next t) still
 
 loop-again : tie.Need-loop-again Inv-loop μ-loop
 loop-again c =
@@ -75,7 +75,7 @@ returns-2 c =
     let text = now (a .text) in
     let n = length text / lineRoom in
     let z : n - v .i ≡ 0 = omega (arith, v .inv .0 .turns) in
-    reached-done n (a .night) (now (a .room)) (now (a .input)) text (v .inv .0) (rw z)
+    reached-done n (a .replay) (now (a .room)) (now (a .input)) text (v .inv .0) (rw z)
 
 pub feed-spec : {M : Type 1} → statement M
 feed-spec =

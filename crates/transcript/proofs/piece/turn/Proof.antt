@@ -1,4 +1,4 @@
--- By whether the night is over, and then by what stands at the front. Assumes nothing.
+-- By whether the replay is over, and then by what stands at the front. Assumes nothing.
 use mathlib.Core.Path.{_≡_, sym, subst, _∙_}
 use mathlib.Core.Bool.{true, false}
 use Prim.Native.Nat.{ℕ, _+_, _-_, _≤_}
@@ -8,16 +8,16 @@ use denote.Ref.{now}
 use borrow.Author.Needs.{needs}
 use Rattle.transcript.specs.declared.Front.the-variants.{Whole}
 use Rattle.transcript.specs.Front.{frontOf}
-use Rattle.night.specs.Night.{isOver, over, stepped}
-use Rattle.night.specs.Stepped.{Leaves}
+use Rattle.trace.specs.Trace.{isOver, over, stepped}
+use Rattle.trace.specs.Stepped.{Leaves}
 use Rattle.transcript.specs.Feeds.{Feeds}
 use Rattle.transcript.proofs.FedLaws.{front-room, fed-over, fed-short, fed-torn, fed-whole}
 use Rattle.transcript.proofs.TurnLaws.{feeds-stays, feeds-torn, feeds-read}
 use Rattle.transcript.proofs.piece.turn.Statement.{statement}
 use Rattle.transcript.proofs.piece.turn.Tie as tie
 
--- where the night goes on
-goes-on : (c : tie.Else1) → isOver (c .before .before .before .before .before .before .args .p .night .phase) ≡ false
+-- where the replay goes on
+goes-on : (c : tie.Else1) → isOver (c .before .before .before .before .before .before .args .p .replay .phase) ≡ false
 goes-on c = sym (c .before .is-over .ensures) ∙ c .if1 .left
 
 -- a whole record stands at the place, and is there whole
@@ -41,7 +41,7 @@ returns c =
     let a = s .args in
     let e = sym (c .before .is-over .ensures) ∙ c .if1 .taken in
     feeds-stays (a .p) (now (a .room)) (now (a .input)) (now (a .text)) (s .pre .0)
-    (fed-over 1 (a .p .night) (now (a .room)) (drop (a .p .read) (now (a .input))) e)
+    (fed-over 1 (a .p .replay) (now (a .room)) (drop (a .p .read) (now (a .input))) e)
 
 add-end : tie.Need-add-end
 add-end c = omega (arith, room-for (c .before))
@@ -58,10 +58,10 @@ returns-2 c =
     let rest = drop (a .p .read) (now (a .input)) in
     let size : a .p .read + k - a .p .read ≡ k = omega arith in
     let left = c .before .before .before .before .before .step in
-    let leaves = subst (λ (n : ℕ). Leaves (stepped (a .p .night) (now (a .room)) (take n rest)) (a .p .size)
+    let leaves = subst (λ (n : ℕ). Leaves (stepped (a .p .replay) (now (a .room)) (take n rest)) (a .p .size)
     (now (a .text)) (left .result) (left .last .0) (left .last .1 .1 .0)) size (left .ensures) in
     feeds-read (a .p) (now (a .room)) (now (a .input)) (now (a .text)) (s .pre .0) k (room-for w)
-    (fed-whole 0 k (a .p .night) (now (a .room)) rest (goes-on (w .before .before .before)) (whole w)) leaves
+    (fed-whole 0 k (a .p .replay) (now (a .room)) rest (goes-on (w .before .before .before)) (whole w)) leaves
 
 returns-3 : tie.Need-returns-3
 returns-3 c =
@@ -71,7 +71,7 @@ returns-3 c =
     let rest = drop (a .p .read) (now (a .input)) in
     let torn = sym (m .before .before .record-at .ensures) ∙ m .enum-told .given .1 in
     rw (c .over .ensures) (feeds-torn (a .p) (now (a .room)) (now (a .input)) (now (a .text)) (s .pre .0)
-    (fed-torn 0 (a .p .night) (now (a .room)) rest (goes-on (m .before .before .before)) torn)
+    (fed-torn 0 (a .p .replay) (now (a .room)) rest (goes-on (m .before .before .before)) torn)
     (c .before .before .before .put-word-line .ensures))
 
 returns-4 : tie.Need-returns-4
@@ -80,7 +80,7 @@ returns-4 c =
     let a = s .args in
     let short = sym (c .before .before .record-at .ensures) ∙ c .enum-told2 .given .1 in
     feeds-stays (a .p) (now (a .room)) (now (a .input)) (now (a .text)) (s .pre .0)
-    (fed-short 1 (a .p .night) (now (a .room)) (drop (a .p .read) (now (a .input))) short)
+    (fed-short 1 (a .p .replay) (now (a .room)) (drop (a .p .read) (now (a .input))) short)
 
 pub turn-spec : {M : Type 1} → statement M
 turn-spec =

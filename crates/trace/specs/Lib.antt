@@ -1,0 +1,3 @@
+pub mod Line
+pub mod Trace
+pub mod Stepped
