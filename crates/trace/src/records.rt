@@ -53,7 +53,7 @@ fn answer_datagram(room: &mut [u8], size: usize, datagram: &[u8]) -> u8
         ⌝ }
 {
     let end = end_within(room, size);
-    let mut output = [0u8; 106];
+    let mut output = [0u8; Store::OUTPUT];
     let told = handle(&mut room[..end], &mut output, datagram);
     told.number
 }
