@@ -11,7 +11,7 @@ use Rattle.store.specs.Maker.{makeTold, makeStore}
 use Rattle.datagram.specs.Output.{atFront}
 use Rattle.trace.specs.declared.Phase.the-variants.{Running}
 use Rattle.trace.specs.declared.Replay.{Replay}
-use Rattle.trace.specs.Line.{lineOf, openWord, endWord, tornWord}
+use Rattle.text.specs.Line.{lineOf, openWord, endWord, tornWord}
 use Rattle.trace.specs.Trace.{After, over, isOpening, openingsOf, lengthOf, openedText, openedReplay, opens}
 
 -- what a call left in the first e bytes, before the bytes behind them

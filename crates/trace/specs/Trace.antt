@@ -14,7 +14,7 @@ use Rattle.rules.specs.Call.{callTold, callStore}
 use Rattle.trace.specs.declared.Phase.{Phase}
 use Rattle.trace.specs.declared.Phase.the-variants.{Before, Running, Over}
 use Rattle.trace.specs.declared.Replay.{Replay}
-use Rattle.trace.specs.Line.{decimalOf, lineOf, openWord, endWord, tornWord}
+use Rattle.text.specs.Line.{decimalOf, lineOf, openWord, endWord, tornWord}
 
 -- what a record leaves: its lines, how the replay stands, and the bytes in which the store stands
 pub record After : Type 0 where

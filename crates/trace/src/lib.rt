@@ -1,8 +1,6 @@
 // A trace of one ledger: a first record that opens the store, then datagrams, each answered by a line.
-mod line; // lines of text
 mod records; // what a record does
 
-pub use line::put_word_line;
 pub use records::is_over;
 pub use records::over;
 pub use records::start;

@@ -2,11 +2,11 @@
 use super::Phase;
 use super::Replay;
 use super::Stepped;
-use super::line::put_number_line;
-use super::line::put_word_line;
 use handler::handle;
 use std::num::wrapping_add_u64;
 use store::Store;
+use text::put_number_line;
+use text::put_word_line;
 use wire::u16_at;
 ghost use mathlib.Core.Path.{_≡_};
 ghost use Prim.Native.Nat.{_+_, _≤_};

@@ -6,7 +6,7 @@ use native.Mathlib.Omega.{arith}
 use lib.ListN.{length, take, drop, length-drop}
 use lib.Seq.{take-append-le, drop-append-le}
 use Rattle.trace.specs.declared.Replay.{Replay}
-use Rattle.trace.specs.Line.{lineOf, tornWord}
+use Rattle.text.specs.Line.{lineOf, tornWord}
 use Rattle.trace.specs.Trace.{freshReplay, over, stepped}
 use Rattle.transcript.specs.Transcript.{Fed, stays, fed, finished, freshRoom, lastLine, textFrom}
 use Rattle.transcript.specs.Pieces.{Piece, fedPiece, fedPieces, joined, HaveRoom, PiecesHold}

@@ -16,13 +16,13 @@ use Rattle.trace.specs.declared.Phase.the-variants.{Before, Running, Over}
 use Rattle.trace.specs.declared.Replay.{Replay}
 use Rattle.transcript.specs.declared.Progress.{Progress}
 use Rattle.trace.specs.declared.Stepped.{Stepped}
-use Rattle.trace.specs.Line.{decimalOf, lineOf, openWord, endWord, tornWord}
+use Rattle.text.specs.Line.{decimalOf, lineOf, openWord, endWord, tornWord}
 use Rattle.trace.specs.Trace.{After, over, isOpening, openingsOf, lengthOf, openedText, opens, next}
 use Rattle.trace.specs.Trace.{freshOutput, answers, steppedIn, stepped}
 use Rattle.transcript.specs.Transcript.{Fed, stays, behind, fed, lineRoom}
 use Rattle.trace.specs.Stepped.{Leaves}
 use Rattle.transcript.specs.Feeds.{Feeds}
-use Rattle.trace.proofs.LineLaws.{length-decimal, length-line}
+use Rattle.text.proofs.LineLaws.{length-decimal, length-line}
 use Rattle.transcript.proofs.FedLaws.{Turn, idle, tears, reads, tornAt, readAt, turn-of}
 
 -- the place behind what was read

@@ -5,7 +5,7 @@ use Prim.Native.Nat.{ℕ, _*_, _≤_}
 use lib.ListN.{length}
 use Rattle.trace.specs.declared.Replay.{Replay}
 use Rattle.trace.specs.Trace.{freshReplay}
-use Rattle.transcript.specs.Front.{leastRecord}
+use Rattle.reader.specs.Front.{leastRecord}
 use Rattle.transcript.specs.Transcript.{Fed, stays, behind, fed, finished, freshRoom, transcriptOf}
 
 pub record Piece : Type 0 where

@@ -6,13 +6,13 @@ use lib.ListN.{length, take, drop, replicate}
 use Rattle.wire.specs.Choice.{pick}
 use Rattle.store.specs.Limits.{recordLimit}
 use Rattle.store.specs.Layout.{sizeFor}
-use Rattle.transcript.specs.declared.Front.{Front}
-use Rattle.transcript.specs.declared.Front.the-variants.{Whole, Torn, Short}
+use Rattle.reader.specs.declared.Front.{Front}
+use Rattle.reader.specs.declared.Front.the-variants.{Whole, Torn, Short}
 use Rattle.trace.specs.declared.Phase.{Phase}
 use Rattle.trace.specs.declared.Phase.the-variants.{Before, Running, Over}
 use Rattle.trace.specs.declared.Replay.{Replay}
-use Rattle.trace.specs.Line.{lineOf, endWord, tornWord}
-use Rattle.transcript.specs.Front.{frontOf}
+use Rattle.text.specs.Line.{lineOf, endWord, tornWord}
+use Rattle.reader.specs.Front.{frontOf}
 use Rattle.trace.specs.Trace.{freshReplay, isOver, over, stepped}
 
 -- what bytes of the input leave: the lines so far, how the replay stands, the store's room, and the bytes not yet read

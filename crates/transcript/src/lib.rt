@@ -1,18 +1,10 @@
 // The text that the replay program prints for its input, however the input is cut into pieces.
 mod piece; // a piece of the input
-mod reader; // one record at a time
 
 pub use piece::feed;
 pub use piece::finish;
 pub use piece::keep;
 use trace::Replay;
-
-// What stands at the front of an input: a whole record of so many bytes, a torn one, or too little to tell.
-pub enum Front {
-    Whole(usize),
-    Torn,
-    Short,
-}
 
 // How far a piece was fed: how the replay stands, the bytes that were read, and the bytes of text that were stored.
 pub struct Progress {

@@ -1,12 +1,12 @@
 // A piece of the input is fed record by record. What is left of it goes before the next piece.
-use super::Front;
 use super::Progress;
-use super::reader::record_at;
+use reader::Front;
+use reader::next_at;
+use text::put_word_line;
 use trace::Phase;
 use trace::Replay;
 use trace::is_over;
 use trace::over;
-use trace::put_word_line;
 use trace::step;
 ghost use mathlib.Core.Path.{_≡_};
 ghost use Prim.Native.Nat.{_+_, _-_, _*_, _/_, _≤_};
@@ -33,7 +33,7 @@ fn turn(room: &mut [u8], input: &[u8], text: &mut [u8], p: Progress) -> Progress
     }
     let read = p.read;
     let at = p.size;
-    match record_at(input, read) {
+    match next_at(input, read) {
         Front::Whole(size) => {
             let end = read + size;
             let left = step(room, &input[read..end], text, at, replay);

@@ -3,8 +3,8 @@ use mathlib.Core.Path.{_≡_}
 use native.Mathlib.Omega.{arith}
 use denote.Ref.{now}
 use borrow.Author.Needs.{needs}
-use Rattle.trace.specs.Line.{lineOf, openWord, endWord}
-use Rattle.trace.proofs.LineLaws.{length-line, line-behind}
+use Rattle.text.specs.Line.{lineOf, openWord, endWord}
+use Rattle.text.proofs.LineLaws.{length-line, line-behind}
 use Rattle.trace.proofs.TraceLaws.{opened-zero, opened-refused}
 use Rattle.trace.proofs.records.told_opening.Statement.{statement}
 use Rattle.trace.proofs.records.told_opening.Tie as tie

@@ -10,7 +10,7 @@ use borrow.Author.Needs.{needs}
 use borrow.Author.Tests.{eq-eqb, ne-eqb}
 use Rattle.wire.specs.Bytes.{patch}
 use Rattle.trace.specs.declared.Replay.{Replay}
-use Rattle.trace.specs.Line.{lineOf, endWord, tornWord}
+use Rattle.text.specs.Line.{lineOf, endWord, tornWord}
 use Rattle.transcript.specs.Transcript.{lineRoom, lastLine, lastWithin}
 use Rattle.transcript.proofs.KeptLaws.{last-within, last-nowhere}
 use Rattle.transcript.proofs.piece.finish.Statement.{statement}

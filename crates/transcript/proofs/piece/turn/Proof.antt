@@ -6,12 +6,13 @@ use native.Mathlib.Omega.{arith}
 use lib.ListN.{length, take, drop, length-drop}
 use denote.Ref.{now}
 use borrow.Author.Needs.{needs}
-use Rattle.transcript.specs.declared.Front.the-variants.{Whole}
-use Rattle.transcript.specs.Front.{frontOf}
+use Rattle.reader.specs.declared.Front.the-variants.{Whole}
+use Rattle.reader.specs.Front.{frontOf}
 use Rattle.trace.specs.Trace.{isOver, over, stepped}
 use Rattle.trace.specs.Stepped.{Leaves}
 use Rattle.transcript.specs.Feeds.{Feeds}
-use Rattle.transcript.proofs.FedLaws.{front-room, fed-over, fed-short, fed-torn, fed-whole}
+use Rattle.reader.proofs.FrontLaws.{front-room}
+use Rattle.transcript.proofs.FedLaws.{fed-over, fed-short, fed-torn, fed-whole}
 use Rattle.transcript.proofs.TurnLaws.{feeds-stays, feeds-torn, feeds-read}
 use Rattle.transcript.proofs.piece.turn.Statement.{statement}
 use Rattle.transcript.proofs.piece.turn.Tie as tie
@@ -24,7 +25,7 @@ goes-on c = sym (c .before .is-over .ensures) ∙ c .if1 .left
 whole : (c : tie.After-size) →
     let a = c .before .before .before .before .before .before .before .before .before .args in
     frontOf (drop (a .p .read) (now (a .input))) ≡ Whole (c .size .given .0 .0)
-whole c = sym (c .before .before .record-at .ensures) ∙ c .size .given .1
+whole c = sym (c .before .before .next-at .ensures) ∙ c .size .given .1
 
 room-for : (c : tie.After-size) →
     let a = c .before .before .before .before .before .before .before .before .before .args in
@@ -69,7 +70,7 @@ returns-3 c =
     let s = m .before .before .before .before .before .before .before .before .before in
     let a = s .args in
     let rest = drop (a .p .read) (now (a .input)) in
-    let torn = sym (m .before .before .record-at .ensures) ∙ m .enum-told .given .1 in
+    let torn = sym (m .before .before .next-at .ensures) ∙ m .enum-told .given .1 in
     rw (c .over .ensures) (feeds-torn (a .p) (now (a .room)) (now (a .input)) (now (a .text)) (s .pre .0)
     (fed-torn 0 (a .p .replay) (now (a .room)) rest (goes-on (m .before .before .before)) torn)
     (c .before .before .before .put-word-line .ensures))
@@ -78,7 +79,7 @@ returns-4 : tie.Need-returns-4
 returns-4 c =
     let s = c .before .before .before .before .before .before .before .before .before in
     let a = s .args in
-    let short = sym (c .before .before .record-at .ensures) ∙ c .enum-told2 .given .1 in
+    let short = sym (c .before .before .next-at .ensures) ∙ c .enum-told2 .given .1 in
     feeds-stays (a .p) (now (a .room)) (now (a .input)) (now (a .text)) (s .pre .0)
     (fed-short 1 (a .p .replay) (now (a .room)) (drop (a .p .read) (now (a .input))) short)
 
