@@ -3,6 +3,7 @@ use super::Phase;
 use super::Replay;
 use super::Stepped;
 use handler::handle;
+use input::end_within;
 use std::num::wrapping_add_u64;
 use store::Store;
 use text::put_number_line;
@@ -19,18 +20,6 @@ ghost use Rattle.trace.specs.Trace.{freshReplay, isOver, isOpening, fres
 ghost use Rattle.trace.specs.Trace.{opens, answers, stepped};
 ghost use Rattle.trace.specs.Trace.{over as Replay·over};
 ghost use Rattle.trace.specs.Stepped.{steppedTo, Leaves};
-
-// The end of the store in its room: no more than there is.
-fn end_within(room: &[u8], size: usize) -> usize
-    ensures { λ r. ⌜
-        (r ≤ length (now (room .entry))) × (take r (now (room .entry)) ≡ take size (now (room .entry)))
-        ⌝ }
-{
-    if room.len() < size {
-        return room.len();
-    }
-    size
-}
 
 fn make_store(room: &mut [u8], size: usize, openings: &[u8]) -> u8
     ensures told { λ r. ⌜ r ≡ makeTold (take size (now (room .entry))) (now (openings .entry)) ⌝ }

@@ -2,9 +2,10 @@
 use mathlib.Core.Path.{_≡_, refl, sym, ap, _∙_}
 use mathlib.Core.Bool.{true, false}
 use mathlib.Core.List.{List, [], _∷_, _++_, append-nil}
-use Prim.Native.Nat.{ℕ, zero, suc, _*_, _≤_}
+use Prim.Native.Nat.{ℕ, zero, suc, _+_, _*_, _-_, _≤_}
 use native.Mathlib.Omega.{arith}
 use lib.ListN.{length, take, drop, length-append, length-drop}
+use lib.Seq.{drop-drop}
 use Rattle.wire.specs.Bytes.{field}
 use Rattle.wire.proofs.ChoiceLaws.{cases}
 use Rattle.reader.specs.declared.Front.the-variants.{Whole, Torn, Short}
@@ -128,6 +129,32 @@ fed-still n replay room bs same = by-turn (turn-of replay room bs) where
   by-turn (reads k l r h more) =
       let e = ap (λ (f : Fed). length (f .rest)) (h 0) in
       absurd (omega (arith, e, same, length-drop k bs))
+
+-- what is left stands behind what was read
+abbrev Behind : (bs xs : List ℕ) → Type 0
+Behind bs xs = xs ≡ drop (length bs - length xs) bs
+
+pub drop-behind : (k : ℕ) (bs xs : List ℕ) → k ≤ length bs → Behind (drop k bs) xs → Behind bs xs
+drop-behind k bs xs h e =
+    let j = length (drop k bs) - length xs in
+    let place : k + j ≡ length bs - length xs =
+    omega (arith, length-drop k bs, ap length e, length-drop j (drop k bs)) in
+    e ∙ drop-drop j k bs ∙ ap (λ (i : ℕ). drop i bs) place
+
+pub fed-behind : (n : ℕ) (replay : Replay) (room bs : List ℕ) → Behind bs (fed n replay room bs .rest)
+unfolding fed
+fed-behind zero replay room bs = let z : length bs - length bs ≡ 0 = omega arith in rw z
+fed-behind (suc n) replay room bs =
+    by-turn (turn-of replay room bs) (λ k after room′. fed-behind n after room′ (drop k bs)) where
+      by-turn : Turn replay room bs
+          → ((k : ℕ) (after : Replay) (room′ : List ℕ) → Behind (drop k bs) (fed n after room′ (drop k bs) .rest))
+          → Behind bs (fed (suc n) replay room bs .rest)
+      by-turn (idle h) rest = let z : length bs - length bs ≡ 0 = omega arith in rw (h (suc n), z)
+      by-turn (tears l h more) rest = let z : length bs - length bs ≡ 0 = omega arith in rw (h n, z)
+      by-turn (reads k l r h more) rest =
+          let s = stepped replay room (take k bs) in
+          rw (h n)
+          (drop-behind k bs (fed n (s .replay) (s .room) (drop k bs) .rest) r (rest k (s .replay) (s .room)))
 
 -- ENOUGH: no more records are read than there are bytes
 none-at-all : (m : ℕ) (replay : Replay) (room bs : List ℕ) → length bs ≤ 0 → Turn replay room bs

@@ -23,7 +23,7 @@ use Rattle.transcript.specs.Transcript.{Fed, stays, behind, fed, lineRoo
 use Rattle.trace.specs.Stepped.{Leaves}
 use Rattle.transcript.specs.Feeds.{Feeds}
 use Rattle.text.proofs.LineLaws.{length-decimal, length-line}
-use Rattle.transcript.proofs.FedLaws.{Turn, idle, tears, reads, tornAt, readAt, turn-of}
+use Rattle.transcript.proofs.FedLaws.{Turn, idle, tears, reads, tornAt, readAt, turn-of, drop-behind, fed-behind}
 
 -- the place behind what was read
 pub drop-left : (k : ℕ) (bs : List ℕ) → k ≤ length bs → length bs - length (drop k bs) ≡ k
@@ -94,12 +94,5 @@ length-fed-one replay room bs = by-turn (turn-of replay room bs) where
 -- PLACES: what is left stands behind the place
 pub rest-behind : (k : ℕ) (replay : Replay) (room input : List ℕ) → k ≤ length input
     → let f = fed 1 replay room (drop k input) in f .rest ≡ drop (length input - length (f .rest)) input
-unfolding fed
-rest-behind k replay room input inside = by-turn (turn-of replay room (drop k input)) where
-  by-turn : Turn replay room (drop k input)
-      → let f = fed 1 replay room (drop k input) in f .rest ≡ drop (length input - length (f .rest)) input
-  by-turn (idle h) = rw (h 1, drop-left k input inside)
-  by-turn (tears l h more) = rw (h 0, drop-left k input inside)
-  by-turn (reads j l r h more) =
-      let more : k + j ≤ length input = omega (arith, length-drop k input) in
-      rw (h 0, drop-drop j k input, drop-left (k + j) input more)
+rest-behind k replay room input inside =
+    drop-behind k input (fed 1 replay room (drop k input) .rest) inside (fed-behind 1 replay room (drop k input))

@@ -2,18 +2,12 @@
 use mathlib.Core.Path.{_≡_, sym, ap, _∙_}
 use native.Mathlib.Omega.{arith}
 use lib.ListN.{length, take}
-use lib.Seq.{length-take-le}
 use denote.Ref.{now}
 use borrow.Author.Needs.{needs}
 use Rattle.rules.specs.declared.Told.{Told}
 use Rattle.trace.proofs.TraceLaws.{front-back}
 use Rattle.trace.proofs.records.answer_datagram.Statement.{statement}
 use Rattle.trace.proofs.records.answer_datagram.Tie as tie
-
-slice-aggregate-handle : tie.Need-slice-aggregate-handle
-slice-aggregate-handle c =
-    let e = c .before .end-within in
-    sym (length-take-le (e .result) (now (c .before .before .before .before .before .args .room)) (e .ensures .0))
 
 returns : tie.Need-returns
 returns c =
@@ -28,5 +22,5 @@ pub answer-datagram-spec : {M : Type 1} → statement M
 answer-datagram-spec =
     tie.close
     (tie.spec
-    (λ c κs. search needs) (λ c. search needs) slice-aggregate-handle (λ c. search needs) (λ c κs. search needs)
+    (λ c κs. search needs) (λ c. search needs) (λ c. search needs) (λ c. search needs) (λ c κs. search needs)
     (λ c. search needs) returns)

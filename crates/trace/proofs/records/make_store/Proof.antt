@@ -2,18 +2,12 @@
 use mathlib.Core.Path.{_≡_, sym, ap, _∙_}
 use native.Mathlib.Omega.{arith}
 use lib.ListN.{length, take}
-use lib.Seq.{length-take-le}
 use denote.Ref.{now}
 use borrow.Author.Needs.{needs}
 use Rattle.store.specs.Maker.{makeTold, makeStore}
 use Rattle.trace.proofs.TraceLaws.{front-back}
 use Rattle.trace.proofs.records.make_store.Statement.{statement}
 use Rattle.trace.proofs.records.make_store.Tie as tie
-
-slice-aggregate-make : tie.Need-slice-aggregate-make
-slice-aggregate-make c =
-    let e = c .before .end-within in
-    sym (length-take-le (e .result) (now (c .before .before .before .before .before .args .room)) (e .ensures .0))
 
 returns : tie.Need-returns
 returns c =
@@ -28,4 +22,4 @@ pub make-store-spec : {M : Type 1} → statement M
 make-store-spec =
     tie.close
     (tie.spec
-    (λ c κs. search needs) (λ c. search needs) slice-aggregate-make (λ c κs. search needs) (λ c. search needs) returns)
+    (λ c κs. search needs) (λ c. search needs) (λ c. search needs) (λ c κs. search needs) (λ c. search needs) returns)

@@ -5,9 +5,9 @@ use native.Mathlib.Omega.{arith}
 use lib.ListN.{length}
 use denote.Ref.{now}
 use borrow.Author.Needs.{needs}
-use Rattle.transcript.proofs.KeptLaws.{length-part-most}
-use Rattle.transcript.proofs.piece.size_between.Statement.{statement}
-use Rattle.transcript.proofs.piece.size_between.Tie as tie
+use Rattle.input.proofs.KeptLaws.{length-part-most}
+use Rattle.input.proofs.size_between.Statement.{statement}
+use Rattle.input.proofs.size_between.Tie as tie
 
 returns : tie.Need-returns
 returns c =

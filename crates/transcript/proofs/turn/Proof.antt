@@ -14,8 +14,8 @@ use Rattle.transcript.specs.Feeds.{Feeds}
 use Rattle.reader.proofs.FrontLaws.{front-room}
 use Rattle.transcript.proofs.FedLaws.{fed-over, fed-short, fed-torn, fed-whole}
 use Rattle.transcript.proofs.TurnLaws.{feeds-stays, feeds-torn, feeds-read}
-use Rattle.transcript.proofs.piece.turn.Statement.{statement}
-use Rattle.transcript.proofs.piece.turn.Tie as tie
+use Rattle.transcript.proofs.turn.Statement.{statement}
+use Rattle.transcript.proofs.turn.Tie as tie
 
 -- where the replay goes on
 goes-on : (c : tie.Else1) → isOver (c .before .before .before .before .before .before .args .p .replay .phase) ≡ false

@@ -10,10 +10,11 @@ use lib.Seq.{length-take-le, take-suc, take-all}
 use denote.Ref.{now}
 use borrow.Author.Needs.{needs}
 use Rattle.wire.specs.Bytes.{part, patch}
+use Rattle.wire.proofs.PartLaws.{byte-part}
 use Rattle.wire.proofs.PatchLaws.{length-patch, patch-more}
-use Rattle.transcript.proofs.KeptLaws.{getD-patch-behind, length-part-most, getD-part}
-use Rattle.transcript.proofs.piece.keep.Statement.{statement}
-use Rattle.transcript.proofs.piece.keep.Tie as tie
+use Rattle.input.proofs.KeptLaws.{getD-patch-behind, length-part-most}
+use Rattle.input.proofs.keep.Statement.{statement}
+use Rattle.input.proofs.keep.Tie as tie
 
 abbrev Inv-loop : tie.InvT-loop
 Inv-loop piece₀ from to size i₀ piece i = (i ≤ size) × (piece ≡ patch 0 (take i (part from (to - from) piece₀)) piece₀)
@@ -52,7 +53,7 @@ loop-again c =
     let behind : getD (patch 0 (take (v .i) xs) p) (a .from + v .i) 0 ≡ getD p (a .from + v .i) 0 =
     getD-patch-behind 0 (a .from + v .i) (take (v .i) xs) p (omega arith) in
     let read : getD xs (v .i) 0 ≡ getD p (a .from + v .i) 0 =
-    getD-part (a .from) n (v .i) p (omega (arith, z .ensures)) in
+    byte-part (v .i) (a .from) n p (omega (arith, z .ensures)) in
     let more = patch-more 0 (v .i) (getD xs (v .i) 0) (take (v .i) xs) p l in
     let stored = subst (λ (j : ℕ). set (patch 0 (take (v .i) xs) p) j (getD xs (v .i) 0)
     ≡ patch 0 (take (v .i) xs ++ (getD xs (v .i) 0 ∷ [])) p) (zero-add (v .i)) more in (

@@ -7,8 +7,8 @@ use denote.Ref.{now}
 use borrow.Author.Needs.{needs}
 use Rattle.transcript.specs.Transcript.{fed, lineRoom}
 use Rattle.transcript.proofs.ReachedLaws.{Reached, reached-start, reached-next, reached-still, reached-done}
-use Rattle.transcript.proofs.piece.feed.Statement.{statement}
-use Rattle.transcript.proofs.piece.feed.Tie as tie
+use Rattle.transcript.proofs.feed.Statement.{statement}
+use Rattle.transcript.proofs.feed.Tie as tie
 
 abbrev Inv-loop : tie.InvT-loop
 Inv-loop room₀ input text₀ lines p₀ i₀ room text p i =

@@ -11,10 +11,10 @@ use borrow.Author.Tests.{eq-eqb, ne-eqb}
 use Rattle.wire.specs.Bytes.{patch}
 use Rattle.trace.specs.declared.Replay.{Replay}
 use Rattle.text.specs.Line.{lineOf, endWord, tornWord}
 use Rattle.transcript.specs.Transcript.{lineRoom, lastLine, lastWithin}
-use Rattle.transcript.proofs.KeptLaws.{last-within, last-nowhere}
-use Rattle.transcript.proofs.piece.finish.Statement.{statement}
-use Rattle.transcript.proofs.piece.finish.Tie as tie
+use Rattle.stream.proofs.StreamLaws.{last-within, last-nowhere}
+use Rattle.stream.proofs.finish.Statement.{statement}
+use Rattle.stream.proofs.finish.Tie as tie
 
 -- what a line at the front says of the last line
 stored : (text : List ℕ) (replay : Replay) (k : ℕ) {line : List ℕ} {r : ℕ} {text′ : List ℕ} → lineRoom ≤ length text
