@@ -1,1 +1,2 @@
 mod StreamLaws
+pub mod ReadLaws
