@@ -1,11 +1,11 @@
--- Laws of the bytes of a piece: the front, a part, and bytes behind a patch. Assumes nothing.
+-- Laws of the bytes of a piece: a patch, a part, and a front. Assumes nothing.
 use mathlib.Core.Path.{_≡_, refl, sym, ap, _∙_}
 use mathlib.Core.List.{List, [], _∷_}
 use Prim.Native.Nat.{ℕ, suc, _+_, _-_, _≤_, _<_, min}
 use native.Mathlib.Omega.{arith}
 use lib.Dec.{leb}
-use lib.ListN.{length, take, drop, set, getD, length-take, length-drop}
-use lib.Seq.{getD-set-other, length-take-le, take-all}
+use lib.ListN.{length, take, drop, set, getD, length-take, length-drop, drop-of-length-le}
+use lib.Seq.{getD-set-other, length-take-le, take-all, take-length, drop-length}
 use borrow.Author.Tests.{leb-true, leb-false}
 use Rattle.wire.specs.Bytes.{part, patch}
 use Rattle.wire.proofs.ChoiceLaws.{cases}
@@ -21,14 +21,21 @@ pub length-part-most : (i n : ℕ) (bs : List ℕ) → length (part i n bs) ≡ 
 unfolding part
 length-part-most i n bs = length-take n (drop i bs) ∙ ap (min n) (length-drop i bs)
 
--- a front of more bytes than there are is all of them
+-- a front of more bytes than there are is all of them, and behind the last byte there is none
+most : (f : ℕ → List ℕ) (l n m : ℕ) → ((k : ℕ) → l ≤ k → f k ≡ f l) → n ≡ min m l → f n ≡ f m
+most f l n m past h =
+    cases (leb m l) (λ e. let same : n ≡ m = omega (arith, h, leb-true m l e) in ap f same)
+    (λ e. let less : l < m = leb-false m l e in
+    let all : n ≡ l = omega (arith, h) in
+    ap f all ∙ sym (past m (omega arith)))
+
 pub take-most : (n m : ℕ) (bs : List ℕ) → n ≡ min m (length bs) → take n bs ≡ take m bs
 take-most n m bs h =
-    cases (leb m (length bs))
-    (λ e. let same : n ≡ m = omega (arith, h, leb-true m (length bs) e) in
-    ap (λ (k : ℕ). take k bs) same)
-    (λ e. let more : length bs < m = leb-false m (length bs) e in
-    take-all n bs (omega (arith, h)) ∙ sym (take-all m bs (omega arith)))
+    most (λ (k : ℕ). take k bs) (length bs) n m (λ k l. take-all k bs l ∙ sym (take-length bs)) h
+
+pub drop-most : (n m : ℕ) (bs : List ℕ) → n ≡ min m (length bs) → drop n bs ≡ drop m bs
+drop-most n m bs h =
+    most (λ (k : ℕ). drop k bs) (length bs) n m (λ k l. drop-of-length-le bs l ∙ sym (drop-length bs)) h
 
 -- the end of a front
 pub length-front : (n m : ℕ) (bs : List ℕ) → n ≤ length bs → take n bs ≡ take m bs → n ≡ min m (length bs)

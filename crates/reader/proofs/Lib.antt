@@ -1,1 +1,2 @@
 pub mod FrontLaws
+mod Placed

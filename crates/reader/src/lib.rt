@@ -1,8 +1,11 @@
-// One record at a time. A reader holds the input and a place in it. The functions over it are thin, since each is
-// proved by a walk; the work is `front_at`, and callers use `next_at`, whose parameters are plain.
+// One record at a time. A reader holds the input and a place in it; it tells what stands there, hands out the record,
+// and moves on. The functions over it are thin, since each is proved by a walk: the work is `front_at` and `part_at`.
+// Other crates use `next_at` and `bytes_at`, whose parameters are plain.
+use input::end_within;
 use wire::u32_at;
 ghost use mathlib.Core.Path.{_≡_};
 ghost use lib.ListN.{drop};
+ghost use Rattle.wire.specs.Bytes.{part};
 ghost use Rattle.reader.specs.Front.{frontOf};
 
 // The least and the greatest length of a record.
@@ -46,10 +49,30 @@ fn front_at(src: &[u8], at: usize) -> Front
     Front::Whole(size)
 }
 
-pub fn reader_at<'a>(src: &'a [u8], at: usize) -> Reader<'a>
-    ensures { λ r. ⌜ (r .src ≡ src .entry) × (r .at ≡ at) ⌝ }
+// The work: so many bytes from a place on, or as many as are left.
+fn part_at(src: &[u8], at: usize, size: usize) -> &[u8]
+    ensures { λ r. ⌜ now r ≡ part at size (now (src .entry)) ⌝ }
 {
-    Reader { src, at }
+    let from = end_within(src, at);
+    let left = src.len() - from;
+    if left < size {
+        return &src[from..];
+    }
+    &src[from..from + size]
+}
+
+// At the start of an input.
+pub fn new<'a>(src: &'a [u8]) -> Reader<'a>
+    ensures { λ r. ⌜ (r .src ≡ src .entry) × (r .at ≡ 0) ⌝ }
+{
+    Reader { src, at: 0 }
+}
+
+// Moves on to a place.
+pub fn moved<'a>(r: Reader<'a>, at: usize) -> Reader<'a>
+    ensures { λ q. ⌜ (q .src ≡ r .entry .src) × (q .at ≡ at) ⌝ }
+{
+    Reader { src: r.src, at }
 }
 
 // What stands at the reader's place.
@@ -59,9 +82,22 @@ pub fn next<'a>(r: Reader<'a>) -> Front
     front_at(r.src, r.at)
 }
 
+// Hands out the record at the reader's place, which has so many bytes: a part of the input.
+pub fn bytes<'a>(r: Reader<'a>, size: usize) -> &'a [u8]
+    ensures { λ s. ⌜ now s ≡ part (r .entry .at) size (now (r .entry .src)) ⌝ }
+{
+    part_at(r.src, r.at, size)
+}
+
 // For every other caller: plain parameters, and the reader is a local.
 pub fn next_at(src: &[u8], at: usize) -> Front
     ensures { λ r. ⌜ r ≡ frontOf (drop at (now (src .entry))) ⌝ }
 {
-    next(reader_at(src, at))
+    next(moved(new(src), at))
+}
+
+pub fn bytes_at(src: &[u8], at: usize, size: usize) -> &[u8]
+    ensures { λ r. ⌜ now r ≡ part at size (now (src .entry)) ⌝ }
+{
+    bytes(moved(new(src), at), size)
 }

@@ -1,6 +1,7 @@
 // The text that the replay program prints for its input. A piece of the input is fed record by record, and what is left
 // of it goes before the next piece.
 use reader::Front;
+use reader::bytes_at;
 use reader::next_at;
 use text::put_word_line;
 use trace::Replay;
@@ -41,7 +42,8 @@ fn turn(room: &mut [u8], input: &[u8], text: &mut [u8], p: Progress) -> Progress
     match next_at(input, read) {
         Front::Whole(size) => {
             let end = read + size;
-            let left = step(room, &input[read..end], text, at, replay);
+            let record = bytes_at(input, read, size);
+            let left = step(room, record, text, at, replay);
             let next = left.replay;
             Progress {
                 replay: next,

@@ -1,11 +1,13 @@
 -- By whether the replay is over, and then by what stands at the front. Assumes nothing.
 use mathlib.Core.Path.{_≡_, sym, subst, _∙_}
 use mathlib.Core.Bool.{true, false}
-use Prim.Native.Nat.{ℕ, _+_, _-_, _≤_}
+use mathlib.Core.List.{List}
+use Prim.Native.Nat.{ℕ, _+_, _≤_}
 use native.Mathlib.Omega.{arith}
-use lib.ListN.{length, take, drop, length-drop}
+use lib.ListN.{length, drop, length-drop}
 use denote.Ref.{now}
 use borrow.Author.Needs.{needs}
+use Rattle.wire.specs.Bytes.{part}
 use Rattle.reader.specs.declared.Front.the-variants.{Whole}
 use Rattle.reader.specs.Front.{frontOf}
 use Rattle.trace.specs.Trace.{isOver, over, stepped}
@@ -47,20 +49,18 @@ returns c =
 add-end : tie.Need-add-end
 add-end c = omega (arith, room-for (c .before))
 
-part-step-end : tie.Need-part-step-end
-part-step-end c = room-for (c .before .before)
-
 returns-2 : tie.Need-returns-2
+unfolding part
 returns-2 c =
-    let w = c .before .before .before .before .before .before .before .before .before .before in
+    let r = c .before .before .before .before .before .before .before .before in
+    let w = r .before .before in
     let s = w .before .before .before .before .before .before .before .before .before in
     let a = s .args in
     let k = w .size .given .0 .0 in
     let rest = drop (a .p .read) (now (a .input)) in
-    let size : a .p .read + k - a .p .read ≡ k = omega arith in
     let left = c .before .before .before .before .before .step in
-    let leaves = subst (λ (n : ℕ). Leaves (stepped (a .p .replay) (now (a .room)) (take n rest)) (a .p .size)
-    (now (a .text)) (left .result) (left .last .0) (left .last .1 .1 .0)) size (left .ensures) in
+    let leaves = subst (λ (bs : List ℕ). Leaves (stepped (a .p .replay) (now (a .room)) bs) (a .p .size)
+    (now (a .text)) (left .result) (left .last .0) (left .last .1 .1 .0)) (r .bytes-at .ensures) (left .ensures) in
     feeds-read (a .p) (now (a .room)) (now (a .input)) (now (a .text)) (s .pre .0) k (room-for w)
     (fed-whole 0 k (a .p .replay) (now (a .room)) rest (goes-on (w .before .before .before)) (whole w)) leaves
 
@@ -87,7 +87,6 @@ pub turn-spec : {M : Type 1} → statement M
 turn-spec =
     tie.close
     (tie.spec
-    (λ c κs. search needs) returns (λ c κs. search needs) (λ c. search needs) add-end (λ c. search needs)
-    (λ c. search needs) part-step-end (λ c κs. search needs) (λ c. search needs) (λ c. search needs)
-    (λ c κs. search needs) (λ c κs. search needs) (λ c. search needs) (λ c. search needs) (λ c. search needs) returns-2
-    (λ c. search needs) returns-3 returns-4)
+    (λ c κs. search needs) returns (λ c κs. search needs) (λ c. search needs) add-end (λ c κs. search needs)
+    (λ c κs. search needs) (λ c. search needs) (λ c. search needs) (λ c κs. search needs) (λ c κs. search needs)
+    (λ c. search needs) (λ c. search needs) (λ c. search needs) returns-2 (λ c. search needs) returns-3 returns-4)
