@@ -9,9 +9,9 @@ pub mod fault;
 pub mod grow;
 pub mod making;
 pub mod malform;
-pub mod night;
 pub mod rng;
 pub mod shape;
+pub mod trace;
 
 use crate::bytes::get_u16;
 use crate::datagram::*;

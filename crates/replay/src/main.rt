@@ -1,104 +1,47 @@
-// Reads a night from standard input and writes its transcript to standard output, piece by piece. The work is the
-// library's, `transcript`: here bytes are read, fed, and written.
+// Reads a trace from standard input and writes its transcript to standard output. What each read does is the library's,
+// `stream`: here bytes are only read and written.
+use input::end_within;
 use libc::STDIN_FILENO;
 use libc::STDOUT_FILENO;
-use night::Night;
-use night::is_over;
-use night::start;
-use transcript::feed;
-use transcript::finish;
-use transcript::keep;
+use stream::PIECE;
+use stream::ROOM;
+use stream::Reading;
+use stream::TEXT;
+use stream::after_read;
+use stream::begin;
 
-// How the night stands, the bytes that are held of the last piece, and whether to read on.
-struct Reading {
-    night: Night,
-    held: usize,
-    goes_on: bool,
+// Reads once, behind the bytes that are held.
+fn read_once(room: &mut [u8], piece: &mut [u8], text: &mut [u8], t: Reading) -> Reading {
+    let held = end_within(piece, t.held);
+    let got = libc::read(STDIN_FILENO, &mut piece[held..]);
+    after_read(room, piece, text, held, got, t.replay)
 }
 
 fn write_text(text: &[u8], size: usize) -> bool {
-    if text.len() < size {
-        return false;
-    }
-    io::write_all(STDOUT_FILENO, &text[0..size])
-}
-
-// The last line.
-fn end(text: &mut [u8], left: usize, night: Night) -> Reading {
-    let size = finish(text, left, night);
-    write_text(text, size);
-    Reading {
-        night: night,
-        held: 0,
-        goes_on: false,
-    }
-}
-
-// Feeds the bytes that are held, writes their lines, and keeps what is no whole record.
-fn feed_held(
-    room: &mut [u8],
-    piece: &mut [u8],
-    text: &mut [u8],
-    held: usize,
-    night: Night,
-) -> Reading {
-    if piece.len() < held {
-        return end(text, held, night);
-    }
-    let fed = feed(room, &piece[0..held], text, night);
-    let is_written = write_text(text, fed.size);
-    let left = keep(piece, fed.read, held);
-    let after = fed.night;
-    let phase = after.phase;
-    let is_ended = is_over(phase);
-    Reading {
-        night: after,
-        held: left,
-        goes_on: is_written && !is_ended,
-    }
-}
-
-// Reads once. Where the read fails the input has not ended: it counts as torn.
-fn turn(room: &mut [u8], piece: &mut [u8], text: &mut [u8], t: Reading) -> Reading {
-    let night = t.night;
-    let held = t.held;
-    if piece.len() < held {
-        return end(text, held, night);
-    }
-    let got = libc::read(STDIN_FILENO, &mut piece[held..]);
-    if got < 0 {
-        return end(text, 1, night);
-    }
-    if got == 0 {
-        return end(text, held, night);
-    }
-    let more = io::count(got, &piece[held..]);
-    feed_held(room, piece, text, held + more, night)
+    let end = end_within(text, size);
+    io::write_all(STDOUT_FILENO, &text[..end])
 }
 
 // A proved loop has to end, and nothing says that the input does. So the loop counts its turns down, from a number that
 // no run uses up.
 fn replay(room: &mut [u8], piece: &mut [u8], text: &mut [u8]) {
-    let mut t = Reading {
-        night: start(),
-        held: 0,
-        goes_on: true,
-    };
+    let mut t = begin();
     let mut turns = u64::MAX;
     while turns > 0 {
-        if !t.goes_on {
+        if !t.more {
             return;
         }
-        t = turn(room, piece, text, t);
+        t = read_once(room, piece, text, t);
+        if !write_text(text, t.size) {
+            return;
+        }
         turns -= 1;
     }
 }
 
-// Room for the longest store, for a piece of the input, and for the lines of as many records as a piece can have: a
-// record has at least 6 bytes, and its lines have room in 64.
 fn main() {
-    let mut room = [0u8; 33856];
-    let mut piece = [0u8; 4096];
-    let mut text = [0u8; 65536];
+    let mut room = [0u8; ROOM];
+    let mut piece = [0u8; PIECE];
+    let mut text = [0u8; TEXT];
     replay(&mut room, &mut piece, &mut text);
 }

@@ -1,5 +1,4 @@
-mod FedLaws
-mod KeptLaws
+pub mod FedLaws
 mod TurnLaws
 mod ReachedLaws
 pub mod PieceLaws

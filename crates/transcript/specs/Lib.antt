@@ -1,4 +1,3 @@
-pub mod Front
 pub mod Transcript
 pub mod Feeds
 pub mod Pieces

@@ -1,3 +1,0 @@
-pub mod Line
-pub mod Night
-pub mod Stepped

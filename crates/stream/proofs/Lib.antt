@@ -1,0 +1,2 @@
+mod StreamLaws
+pub mod ReadLaws

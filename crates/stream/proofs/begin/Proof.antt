@@ -1,0 +1,10 @@
+-- Assumes nothing.
+use borrow.Author.Needs.{needs}
+use Rattle.stream.proofs.begin.Statement.{statement}
+use Rattle.stream.proofs.begin.Tie as tie
+
+returns : tie.Need-returns
+returns c = rw (c .start .ensures)
+
+pub begin-spec : {M : Type 1} → statement M
+begin-spec = tie.close (tie.spec (λ c κs. search needs) returns)
