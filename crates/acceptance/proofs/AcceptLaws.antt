@@ -1,8 +1,8 @@
 -- What carrying out an accepted datagram may lean on, and why its steps one after another leave the next store.
 -- Assumes nothing.
-use Rattle.wire.proofs.Prelude.{_≡_, refl, sym, ap, subst₂, _∙_, true, List, _⊎_, inl, inr, Option, some}
+use Rattle.wire.proofs.Prelude.{_≡_, refl, sym, ap, subst₂, _∙_, true, List, _⊎_, ⊎-elim, Option, some}
 use Rattle.wire.proofs.Prelude.{ℕ, _≤_, arith, length, ltb-false, not-false}
-use Rattle.wire.specs.Names.{_or_, isSome, Bytes}
+use Rattle.wire.specs.Names.{isSome, Bytes}
 use Rattle.wire.proofs.Laws.{some-if}
 use Rattle.slots.specs.declared.End.{End}
 use Rattle.slots.specs.declared.Channel.{Channel}
@@ -15,10 +15,11 @@ use Rattle.slots.proofs.Laws.{channel-number, fit-fields}
 use Rattle.slots.proofs.ScanLaws.{set-replace}
 use Rattle.slots.proofs.HeldLaws.{Held, fit-exact, held-store}
 use Rattle.datagram.specs.declared.Context.{Context}
-use Rattle.datagram.specs.Names.{datagramIn, kindIn, sizeOfKind, channelFrom, isSound}
+use Rattle.datagram.specs.Names.{Kind, send, receive, write, acknowledge, timeOut, kindOf, sizeOf, datagramIn, kindIn}
+use Rattle.datagram.specs.Names.{channelFrom, packetFrom, datagramOf, isSound}
 use Rattle.datagram.proofs.Laws.{Sound, sound-is}
 use Rattle.rules.specs.Names.{lowest, table, refusals, orNone, endFor, isCommitted}
-use Rattle.rules.specs.Names.{Effect, effectOf, applied, answerTo, effectIn, nextStore}
+use Rattle.rules.specs.Names.{Effect, effectFor, applied, answerTo, effectIn, nextStore}
 use Rattle.rules.proofs.RefusalLaws.{givenAt, silent, not-given}
 use Rattle.rules.proofs.Accepted.{SendOk, ReceiveOk, WriteOk, AcknowledgeOk, TimeoutOk, send-ok, receive-ok}
 use Rattle.rules.proofs.Accepted.{write-ok, acknowledge-ok, timeout-ok}
@@ -29,16 +30,16 @@ use Rattle.records.specs.Edited.{withRecords, withEdit}
 use Rattle.acceptance.specs.Carried.{Accepts}
 
 -- AN ACCEPTED DATAGRAM of a kind
-module _ {s o d : List ℕ} {k : ℕ} {c : Channel} (a : Accepts s o d k c) where
+module _ {s o d : List ℕ} {k : Option Kind} {c : Channel} (a : Accepts s o d k c) where
   -- no line of the table gave a number
-  pub lines : lowest k (table s (length o) d k (storeIn s) (datagramIn d) c) ≡ 0
+  pub lines : lowest k (table s (length o) d (storeIn s) (datagramIn d) c) ≡ 0
   unfolding answerTo
   lines =
-      subst₂ (λ (n : ℕ) (x : Channel). lowest n (table s (length o) d n (storeIn s) (datagramIn d) x) ≡ 0) (a .kind)
+      subst₂ (λ (n : Option Kind) (x : Channel). lowest n (table s (length o) d (storeIn s) (datagramIn d) x) ≡ 0) (a .kind)
       (ap (λ (x : Option Channel). orNone x) (a .found)) (a .answer)
 
   abbrev the-table : List Rattle.rules.specs.Refusals.Line
-  the-table = table s (length o) d k (storeIn s) (datagramIn d) c
+  the-table = table s (length o) d (storeIn s) (datagramIn d) c
 
   pub store-fit : isFit s ≡ true
   unfolding table givenAt
@@ -51,7 +52,10 @@ module _ {s o d : List ℕ} {k : ℕ} {c : Channel} (a : Accepts s o d k c) wher
   unfolding table givenAt
   output-room = ltb-false (length o) outputLimit (not-given _ 1 (silent 2 k the-table lines))
 
-  pub kind-read : kindIn d ≡ k
+  pub datagram-kind : datagramIn d .kind ≡ k
+  datagram-kind = a .kind
+
+  pub kind-read : kindOf (kindIn d) ≡ k
   unfolding datagramIn
   kind-read = a .kind
 
@@ -59,52 +63,61 @@ module _ {s o d : List ℕ} {k : ℕ} {c : Channel} (a : Accepts s o d k c) wher
   unfolding table givenAt
   sound = sound-is d (not-false (isSound d) (not-given _ 2 (silent 3 k the-table lines)))
 
-  pub datagram-size : length d ≡ sizeOfKind k
-  datagram-size = sound .size ∙ ap sizeOfKind kind-read
+  -- the datagram is read by its kind
+  pub datagram-read : datagramIn d ≡ datagramOf k d
+  unfolding datagramIn
+  datagram-read = ap (λ (x : Option Kind). datagramOf x d) kind-read
+
+  pub datagram-size : length d ≡ sizeOf k
+  datagram-size = sound .size ∙ ap sizeOf kind-read
 
   pub own-number : c .own .channel ≡ datagramIn d .channel
   own-number = channel-number (datagramIn d .channel) (storeIn s .channels) c (a .found)
 
-  -- of the kinds 4 and 5, the channel is the packet's source
-  pub own-source : (k ≡ 4) ⊎ (k ≡ 5) → c .own .channel ≡ datagramIn d .packet .source .channel
-  unfolding datagramIn channelFrom _or_
-  own-source h = let n = own-number in let e = kind-read in elim h [ inl q ↦ cc | inr q ↦ cc ]
+  -- of an acknowledgement and a time-out, the channel is the packet's source
+  pub own-source : (k ≡ some acknowledge) ⊎ (k ≡ some timeOut) → c .own .channel ≡ datagramIn d .packet .source .channel
+  unfolding datagramIn channelFrom
+  own-source h = own-number ∙ ⊎-elim (by acknowledge refl) (by timeOut refl) h
+    where
+      by : (j : Kind) → channelFrom (some j) d ≡ packetFrom (some j) d .source .channel → k ≡ some j →
+          datagramIn d .channel ≡ datagramIn d .packet .source .channel
+      by j e q = ap (λ (x : Option Kind). channelFrom x d) (kind-read ∙ q) ∙ e ∙
+          ap (λ (x : Option Kind). packetFrom x d .source .channel) (sym (kind-read ∙ q))
 
-  pub commitment-there : (k ≡ 4) ⊎ (k ≡ 5) → isCommitted (storeIn s .records) (datagramIn d .packet) ≡ true →
+  pub commitment-there : (k ≡ some acknowledge) ⊎ (k ≡ some timeOut) → isCommitted (storeIn s .records) (datagramIn d .packet) ≡ true →
       isSome (lookup (commitmentKey (c .own .channel) (datagramIn d .packet .sequence)) (storeIn s .records)) ≡ true
   commitment-there h e = rw (own-source h) (committed-there (storeIn s .records) (datagramIn d .packet) e)
 
   -- what is done is what the rules say of the call
-  pub effect-is : effectOf k c (datagramIn d) ≡ effectIn (storeIn s) (datagramIn d)
+  pub effect-is : effectFor k c (datagramIn d) ≡ effectIn (storeIn s) (datagramIn d)
   unfolding effectIn
   effect-is =
-      subst₂ (λ (n : ℕ) (x : Channel). effectOf n x (datagramIn d) ≡
-      effectOf (datagramIn d .kind) (orNone (endFor (storeIn s) (datagramIn d))) (datagramIn d)) (a .kind)
+      subst₂ (λ (n : Option Kind) (x : Channel). effectFor n x (datagramIn d) ≡
+      effectFor (datagramIn d .kind) (orNone (endFor (storeIn s) (datagramIn d))) (datagramIn d)) (a .kind)
       (ap (λ (x : Option Channel). orNone x) (a .found)) refl
 
-  -- the kinds are 1 to 5
-  pub last-kind : (k ≡ 1 → ⊥) → (k ≡ 2 → ⊥) → (k ≡ 3 → ⊥) → (k ≡ 4 → ⊥) → k ≡ 5
-  last-kind n1 n2 n3 n4 = omega (arith, sound .low, sound .high, kind-read)
+  pub known : isSome k ≡ true
+  known = ap isSome (sym kind-read) ∙ sound .known
 
 -- what the table tells of each kind
 module _ {s o d : List ℕ} {c : Channel} where
-  pub sending : Accepts s o d 1 c → SendOk (storeIn s) c
+  pub sending : Accepts s o d (some send) c → SendOk (storeIn s) c
   sending a = send-ok s (length o) d (storeIn s) (datagramIn d) c (lines a)
 
-  pub receiving : Accepts s o d 2 c → ReceiveOk (storeIn s) (datagramIn d) c
+  pub receiving : Accepts s o d (some receive) c → ReceiveOk (storeIn s) (datagramIn d) c
   receiving a = receive-ok s (length o) d (storeIn s) (datagramIn d) c (lines a)
 
-  pub writing : Accepts s o d 3 c → WriteOk (storeIn s) (datagramIn d) c
+  pub writing : Accepts s o d (some write) c → WriteOk (storeIn s) (datagramIn d) c
   writing a = write-ok s (length o) d (storeIn s) (datagramIn d) c (lines a)
 
-  pub acknowledging : Accepts s o d 4 c → AcknowledgeOk (storeIn s) (datagramIn d) c
+  pub acknowledging : Accepts s o d (some acknowledge) c → AcknowledgeOk (storeIn s) (datagramIn d) c
   acknowledging a = acknowledge-ok s (length o) d (storeIn s) (datagramIn d) c (lines a)
 
-  pub timing : Accepts s o d 5 c → TimeoutOk (storeIn s) (datagramIn d) c
+  pub timing : Accepts s o d (some timeOut) c → TimeoutOk (storeIn s) (datagramIn d) c
   timing a = timeout-ok s (length o) d (storeIn s) (datagramIn d) c (lines a)
 
 -- THE STEPS one after another leave the next store: the records, the end, the times
-module _ {s o d : List ℕ} {k : ℕ} {c : Channel} (bytes : Bytes s) (heard : Bytes d) (a : Accepts s o d k c) where
+module _ {s o d : List ℕ} {k : Option Kind} {c : Channel} (bytes : Bytes s) (heard : Bytes d) (a : Accepts s o d k c) where
   abbrev next : Store
   next = nextStore (storeIn s) (datagramIn d)
 
@@ -134,7 +147,7 @@ module _ {s o d : List ℕ} {k : ℕ} {c : Channel} (bytes : Bytes s) (heard : B
       ap (λ (x : End). x .channel) (own-grown st .own) ∙ steps.own-number st
 
   pub held-records : {left : List ℕ} →
-      left ≡ bytesOf (withEdit (storeIn s) (effectOf k c (datagramIn d) .edit)) → Held recordsLeft left
+      left ≡ bytesOf (withEdit (storeIn s) (effectFor k c (datagramIn d) .edit)) → Held recordsLeft left
   unfolding nextStore applied
   held-records {left} e =
       let f = fit-fields s bytes (store-fit a) in
@@ -155,7 +168,7 @@ module _ {s o d : List ℕ} {k : ℕ} {c : Channel} (bytes : Bytes s) (heard : B
 
   pub held-tables : {before left : List ℕ} {j : ℕ} {x : Channel} → Held recordsLeft before →
       firstThat (isNumbered (datagramIn d .channel)) (storeIn s .channels) ≡ At j →
-      x ≡ effectOf k c (datagramIn d) .end → left ≡ bytesOf (withChannelSlot (storeIn before) j (some x)) →
+      x ≡ effectFor k c (datagramIn d) .end → left ≡ bytesOf (withChannelSlot (storeIn before) j (some x)) →
       Held tablesLeft left
   unfolding nextStore applied
   held-tables {before} {left} {j} {x} h found q e =

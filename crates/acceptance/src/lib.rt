@@ -29,6 +29,7 @@ use store::Store;
 use tables::scan::find_channel;
 ghost use mathlib.Core.Path.{_≡_};
 ghost use mathlib.Core.Bool.{true};
+ghost use mathlib.Core.Option.{some};
 ghost use Prim.Native.Nat.{_≤_};
 ghost use lib.ListN.{length};
 ghost use Rattle.wire.specs.Choice.{isSome};
@@ -36,10 +37,11 @@ ghost use Rattle.slots.specs.declared.Found.the-variants.{At};
 ghost use Rattle.slots.specs.Table.{isNumbered, channelAt};
 ghost use Rattle.slots.specs.Layout.{recordsFrom, bytesOf, storeIn};
 ghost use Rattle.slots.specs.Scan.{firstThat};
-ghost use Rattle.datagram.specs.Datagram.{kindIn, sizeOfKind, datagramIn};
+ghost use Rattle.datagram.specs.Kind.{send, receive, write, acknowledge, timeOut, kindOf, sizeOf};
+ghost use Rattle.datagram.specs.Datagram.{datagramIn};
 ghost use Rattle.emit.specs.Output.{atFront};
 ghost use Rattle.rules.specs.Acceptance.{sentPacket, commitment, sends, receives, writesAcknowledgement};
-ghost use Rattle.rules.specs.Acceptance.{acknowledges, timesOut, effectOf};
+ghost use Rattle.rules.specs.Acceptance.{acknowledges, timesOut, effectFor};
 ghost use Rattle.rules.specs.Call.{answerTo, effectIn, nextStore};
 ghost use Rattle.acceptance.specs.Carried.{Accepts, CarriedOut};
 
@@ -51,7 +53,7 @@ struct Carried {
 
 // The packet that a send makes: its sequence is next send, and its ends are the channel's.
 fn sent_packet(datagram: &[u8], c: Channel) -> Packet
-    requires { ⌜ (kindIn (now datagram) ≡ 1) × (sizeOfKind 1 ≤ length (now datagram)) ⌝ }
+    requires { ⌜ (datagramIn (now datagram) .kind ≡ some send) × (sizeOf (some send) ≤ length (now datagram)) ⌝ }
     ensures { λ r. ⌜ r ≡ sentPacket c (datagramIn (now (datagram .entry))) ⌝ }
 {
     let timeout = timeout_in(datagram);
@@ -82,7 +84,7 @@ fn commitment_of(p: Packet) -> Record
 }
 
 fn accept_send(store: &mut [u8], output: &mut [u8], datagram: &[u8], c: Channel) -> Carried
-    requires { ⌜ Accepts (now store) (now output) (now datagram) 1 c ⌝ }
+    requires { ⌜ Accepts (now store) (now output) (now datagram) (some send) c ⌝ }
     ensures { λ r. ⌜
         CarriedOut (sends c (datagramIn (now (datagram .entry)))) (now (store .entry)) (now (output .entry))
         (now (store .exit)) (now (output .exit)) r
@@ -100,7 +102,7 @@ fn accept_send(store: &mut [u8], output: &mut [u8], datagram: &[u8], c: Channel)
 }
 
 fn accept_receive(store: &mut [u8], output: &mut [u8], datagram: &[u8], c: Channel) -> Carried
-    requires { ⌜ Accepts (now store) (now output) (now datagram) 2 c ⌝ }
+    requires { ⌜ Accepts (now store) (now output) (now datagram) (some receive) c ⌝ }
     ensures { λ r. ⌜
         CarriedOut (receives c (datagramIn (now (datagram .entry)) .packet)) (now (store .entry))
         (now (output .entry)) (now (store .exit)) (now (output .exit)) r
@@ -117,7 +119,7 @@ fn accept_receive(store: &mut [u8], output: &mut [u8], datagram: &[u8], c: Chann
 }
 
 fn accept_write(store: &mut [u8], output: &mut [u8], datagram: &[u8], c: Channel) -> Carried
-    requires { ⌜ Accepts (now store) (now output) (now datagram) 3 c ⌝ }
+    requires { ⌜ Accepts (now store) (now output) (now datagram) (some write) c ⌝ }
     ensures { λ r. ⌜
         CarriedOut
         (writesAcknowledgement c (datagramIn (now (datagram .entry)) .sequence)
@@ -135,7 +137,7 @@ fn accept_write(store: &mut [u8], output: &mut [u8], datagram: &[u8], c: Channel
 }
 
 fn accept_acknowledge(store: &mut [u8], output: &mut [u8], datagram: &[u8], c: Channel) -> Carried
-    requires { ⌜ Accepts (now store) (now output) (now datagram) 4 c ⌝ }
+    requires { ⌜ Accepts (now store) (now output) (now datagram) (some acknowledge) c ⌝ }
     ensures { λ r. ⌜
         CarriedOut
         (acknowledges c (datagramIn (now (datagram .entry)) .packet) (datagramIn (now (datagram .entry)) .digest))
@@ -154,7 +156,7 @@ fn accept_acknowledge(store: &mut [u8], output: &mut [u8], datagram: &[u8], c: C
 }
 
 fn accept_time_out(store: &mut [u8], output: &mut [u8], datagram: &[u8], c: Channel) -> Carried
-    requires { ⌜ Accepts (now store) (now output) (now datagram) 5 c ⌝ }
+    requires { ⌜ Accepts (now store) (now output) (now datagram) (some timeOut) c ⌝ }
     ensures { λ r. ⌜
         CarriedOut (timesOut c (datagramIn (now (datagram .entry)) .packet)) (now (store .entry))
         (now (output .entry)) (now (store .exit)) (now (output .exit)) r
@@ -172,9 +174,9 @@ fn accept_time_out(store: &mut [u8], output: &mut [u8], datagram: &[u8], c: Chan
 
 // An accepted datagram's kind is 1 to 5.
 fn carry_out(store: &mut [u8], output: &mut [u8], datagram: &[u8], kind: u16, c: Channel) -> Carried
-    requires { ⌜ Accepts (now store) (now output) (now datagram) kind c ⌝ }
+    requires { ⌜ Accepts (now store) (now output) (now datagram) (kindOf kind) c ⌝ }
     ensures { λ r. ⌜
-        CarriedOut (effectOf kind c (datagramIn (now (datagram .entry)))) (now (store .entry))
+        CarriedOut (effectFor (kindOf kind) c (datagramIn (now (datagram .entry)))) (now (store .entry))
         (now (output .entry)) (now (store .exit)) (now (output .exit)) r
         ⌝ }
 {

@@ -19,9 +19,9 @@ use Rattle.slots.specs.Layout.{storeIn}
 use Rattle.slots.specs.Scan.{holds, firstThat}
 use Rattle.slots.proofs.EffectLaws.{exact-room}
 use Rattle.slots.proofs.HeldLaws.{held-exact}
-use Rattle.datagram.specs.Datagram.{kindIn, sizeOfKind, channelFrom, datagramIn}
+use Rattle.datagram.specs.Datagram.{kindIn, channelFrom, datagramIn}
+use Rattle.datagram.specs.Kind.{Kind, kindOf, sizeOf}
 use Rattle.emit.specs.Output.{atFront}
-use Rattle.datagram.proofs.DatagramLaws.{digest-room}
 use Rattle.rules.specs.Acceptance.{Effect}
 use Rattle.acceptance.specs.Carried.{Accepts}
 use Rattle.slots.proofs.ScanLaws.{channel-found}
@@ -44,7 +44,7 @@ output o = now (o .args .output)
 accepted : (o : tie.Start) → (c : Channel) × Accepts (store o) (output o) (heard o) (datagramIn (heard o) .kind) c
 accepted o = accepts (store o) (output o) (heard o) (o .pre)
 
-sized : (o : tie.Start) → length (heard o) ≡ sizeOfKind (kindIn (heard o))
+sized : (o : tie.Start) → length (heard o) ≡ sizeOf (kindOf (kindIn (heard o)))
 sized o = sound (accepted o .1) .size
 
 store-bytes : (f : tie.After-slice-known) → Bytes (store (f .before))
@@ -59,7 +59,7 @@ first i = i .before .before .before .before .before
 
 number : (i : tie.After-channel-in) → i .channel-in .result ≡ datagramIn (heard (first i)) .channel
 unfolding datagramIn
-number i = i .channel-in .ensures ∙ ap (λ (k : ℕ). channelFrom k (heard (first i))) (i .before .kind-in .ensures)
+number i = i .channel-in .ensures ∙ ap (λ (k : ℕ). channelFrom (kindOf k) (heard (first i))) (i .before .kind-in .ensures)
 
 there : (i : tie.After-channel-in) →
     isSome (channelAt (i .channel-in .result) (storeIn (store (first i)) .channels)) ≡ true
@@ -77,7 +77,7 @@ abbrev entry : tie.After-channel-at → tie.Start
 entry x = first (x .before .before .before .before)
 
 here : (x : tie.After-channel-at) → Accepts (store (entry x)) (output (entry x)) (heard (entry x))
-    (x .before .before .before .before .before .kind-in .result) (x .channel-at .result)
+    (kindOf (x .before .before .before .before .before .kind-in .result)) (x .channel-at .result)
 unfolding datagramIn
 here x =
     let j = x .before .before in
@@ -85,7 +85,7 @@ here x =
     let o = first i in
     record {
       answer = o .pre;
-      kind = sym (i .before .kind-in .ensures);
+      kind = ap kindOf (sym (i .before .kind-in .ensures));
       found =
           ap (λ (n : ℕ). channelAt n (storeIn (store o) .channels)) (sym (number i)) ∙
           channel-found (isNumbered (i .channel-in .result)) (j .channel-index .result) (store o)
@@ -104,7 +104,7 @@ found j =
 kind-in-requires : tie.Need-kind-in-requires
 kind-in-requires c κs =
     let o = c .before .before .before in
-    omega (arith, sized o, digest-room (kindIn (heard o)))
+    omega (arith, sized o)
 
 channel-in-requires : tie.Need-channel-in-requires
 channel-in-requires c κs =
@@ -138,7 +138,7 @@ context-in-requires c κs =
     let y = c .before .before .before .before .before .before .before .before .before in
     let x = y .before .before .before in
     let o = entry x in
-    omega (arith, sized o, digest-room (kindIn (heard o)))
+    omega (arith, sized o)
 
 set-times-requires : tie.Need-set-times-requires
 set-times-requires c κs =

@@ -4,15 +4,16 @@ use denote.Ref.{now}
 use borrow.Author.Needs.{needs}
 use Rattle.slots.specs.Table.{hasFree}
 use Rattle.slots.specs.Layout.{storeIn}
-use Rattle.datagram.specs.Datagram.{sizeOfKind, datagramIn}
+use Rattle.datagram.specs.Datagram.{packetFrom, datagramOf}
+use Rattle.datagram.specs.Kind.{body, sizeBefore, partsSize}
 use Rattle.rules.specs.Acceptance.{receives}
 use Rattle.rules.proofs.OrderingLaws.{receive-room}
-use Rattle.acceptance.proofs.AcceptLaws.{store-exact, output-room, datagram-size, receiving}
+use Rattle.acceptance.proofs.AcceptLaws.{store-exact, output-room, datagram-size, datagram-read, receiving}
 use Rattle.acceptance.proofs.accept_receive.Statement.{statement}
 use Rattle.acceptance.proofs.accept_receive.Tie as tie
 
 packet-in-requires : tie.Need-packet-in-requires
-unfolding sizeOfKind
+unfolding body partsSize
 packet-in-requires c κs = omega (arith, datagram-size (c .before .before .before .pre))
 
 write-receipt-requires : tie.Need-write-receipt-requires
@@ -32,16 +33,17 @@ received-end-requires c κs =
     receiving (packet .before .before .before .before .pre) .below
 
 returns : tie.Need-returns
-unfolding receives datagramIn
+unfolding receives packetFrom body sizeBefore
 returns c =
     let emit = c .before .before .before in
     let write = emit .before .before .before .before in
     let packet = write .before .before .packet-in in
+    let a = write .before .before .before .before .before .before .pre in
     record {
       end = c .received-end .ensures;
-      size = rw (← packet .ensures) (emit .emit-packet .ensures .1);
-      store = rw (← packet .ensures) (write .write-receipt .ensures);
-      output = rw (← packet .ensures) (emit .emit-packet .ensures .0);
+      size = rw (datagram-read a, ← packet .ensures) (emit .emit-packet .ensures .1);
+      store = rw (datagram-read a, ← packet .ensures) (write .write-receipt .ensures);
+      output = rw (datagram-read a, ← packet .ensures) (emit .emit-packet .ensures .0);
     }
 
 pub accept-receive-spec : {M : Type 1} → statement M

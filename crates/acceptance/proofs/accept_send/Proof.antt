@@ -1,16 +1,15 @@
 -- What the table tells of a send. Assumes nothing.
 use native.Mathlib.Omega.{arith}
 use borrow.Author.Needs.{needs}
-use Rattle.rules.specs.Ordering.{isAtTop}
 use Rattle.rules.specs.Acceptance.{sends}
-use Rattle.acceptance.proofs.AcceptLaws.{store-exact, output-room, kind-read, datagram-size, sending}
+use Rattle.acceptance.proofs.AcceptLaws.{store-exact, output-room, datagram-kind, datagram-size, sending}
 use Rattle.acceptance.proofs.accept_send.Statement.{statement}
 use Rattle.acceptance.proofs.accept_send.Tie as tie
 
 sent-packet-requires : tie.Need-sent-packet-requires
 sent-packet-requires c κs =
     let a = c .before .before .before .pre in
-    (kind-read a, omega (arith, datagram-size a))
+    (datagram-kind a, omega (arith, datagram-size a))
 
 write-record-requires : tie.Need-write-record-requires
 write-record-requires c κs =
@@ -23,7 +22,6 @@ emit-packet-requires c κs =
     output-room (made .before .before .before .before .before .pre)
 
 sent-end-requires : tie.Need-sent-end-requires
-unfolding isAtTop
 sent-end-requires c κs =
     let made = c .before .before .before .before .before .before .before .before in
     sending (made .before .before .before .before .before .pre) .below
