@@ -2,13 +2,13 @@
 use mathlib.Core.Path.{_≡_, sym, ap, _∙_}
 use mathlib.Core.Bool.{Bool, true, false}
 use mathlib.Core.List.{List, _++_}
-use Prim.Native.Nat.{ℕ, _≤_}
+use Prim.Native.Nat.{ℕ, _≤_, _<_}
 use native.Mathlib.Omega.{arith}
 use lib.Dec.{ltb}
 use lib.ListN.{length}
 use lib.Seq.{take-append-le}
-use borrow.Author.Tests.{le-ltb, ltb-false, leb-true}
-use Rattle.wire.specs.Choice.{pick, isIn}
+use borrow.Author.Tests.{le-ltb, ltb-true, ltb-false, leb-true}
+use Rattle.wire.specs.Choice.{isIn}
 use Rattle.wire.specs.Bytes.{part, field}
 use Rattle.wire.proofs.ChoiceLaws.{and-both, cases}
 use Rattle.reader.specs.declared.Front.{Front}
@@ -28,24 +28,29 @@ pub front-whole : (bs : List ℕ) → 4 ≤ length bs → Good bs ≡ true → f
 unfolding frontOf
 front-whole bs l g r = rw (le-ltb (length bs) 4 l, g, le-ltb (length bs) (field 0 4 bs) r)
 
--- the three cases
+-- what such a length is
+pub good-room : (bs : List ℕ) → Good bs ≡ true → (leastRecord ≤ field 0 4 bs) × (field 0 4 bs ≤ greatestRecord)
+good-room bs g =
+    let n = field 0 4 bs in
+    (leb-true leastRecord n (and-both g .0), leb-true n greatestRecord (and-both g .1))
+
+-- the three cases; what is short has less than the longest record
 pub data View (bs : List ℕ) : Type 0 where
-  short : frontOf bs ≡ Short → View bs
+  short : frontOf bs ≡ Short → length bs < greatestRecord → View bs
   torn : 4 ≤ length bs → Good bs ≡ false → View bs
   whole : 4 ≤ length bs → Good bs ≡ true → field 0 4 bs ≤ length bs → View bs
 
 pub view : (bs : List ℕ) → View bs
 unfolding frontOf
 view bs =
-    cases (ltb (length bs) 4) (λ e. short (rw e))
+    cases (ltb (length bs) 4) (λ e. let few = ltb-true (length bs) 4 e in short (rw e) (omega arith))
     (λ e. let l : 4 ≤ length bs = ltb-false (length bs) 4 e in
     cases (Good bs)
-    (λ g. cases (ltb (length bs) (field 0 4 bs)) (λ f. short (rw (e, g, f)))
+    (λ g. cases (ltb (length bs) (field 0 4 bs))
+    (λ f. let few = ltb-true (length bs) (field 0 4 bs) f in
+    short (rw (e, g, f)) (omega (arith, good-room bs g .1)))
     (λ f. whole l g (ltb-false (length bs) (field 0 4 bs) f)))
     (λ g. torn l g))
-
-pub good-room : (bs : List ℕ) → Good bs ≡ true → leastRecord ≤ field 0 4 bs
-good-room bs g = leb-true leastRecord (field 0 4 bs) (and-both g .0)
 
 -- a whole record is there whole
 pub front-room : (bs : List ℕ) (k : ℕ) → frontOf bs ≡ Whole k → k ≤ length bs
@@ -56,7 +61,7 @@ front-room bs k h = by-view (view bs) where
   sizeOf Short = 0
 
   by-view : View bs → k ≤ length bs
-  by-view (short e) = let z : 0 ≡ k = ap sizeOf (sym e ∙ h) in omega arith
+  by-view (short e few) = let z : 0 ≡ k = ap sizeOf (sym e ∙ h) in omega arith
   by-view (torn l g) = let z : 0 ≡ k = ap sizeOf (sym (front-torn bs l g) ∙ h) in omega arith
   by-view (whole l g r) = let z : field 0 4 bs ≡ k = ap sizeOf (sym (front-whole bs l g r) ∙ h) in omega arith
 

@@ -54,8 +54,8 @@ fn part_at(src: &[u8], at: usize, size: usize) -> &[u8]
     ensures { λ r. ⌜ now r ≡ part at size (now (src .entry)) ⌝ }
 {
     let from = end_within(src, at);
-    let left = src.len() - from;
-    if left < size {
+    let rest = src.len() - from;
+    if rest < size {
         return &src[from..];
     }
     &src[from..from + size]

@@ -1,12 +1,13 @@
 -- The text that is written for the reads of an input is the text for the input. Assumes nothing.
-use mathlib.Core.Path.{_≡_, refl, sym, subst, _∙_}
+use mathlib.Core.Path.{_≡_, refl, sym, ap, subst, _∙_}
 use mathlib.Core.Bool.{true}
 use mathlib.Core.List.{List, [], _∷_, _++_, append-assoc, append-nil}
-use Prim.Native.Nat.{ℕ, _/_}
+use Prim.Native.Nat.{ℕ, _/_, _<_}
 use native.Mathlib.Omega.{arith}
 use lib.Dec.{T as Holds}
 use lib.ListN.{length}
 use lib.Seq.{take-append-seam}
+use borrow.Author.Tests.{not-true}
 use Rattle.wire.proofs.ChoiceLaws.{cases}
 use Rattle.input.specs.declared.Given.{Given}
 use Rattle.input.specs.declared.Given.the-variants.{Read, Ended, Failed}
@@ -16,10 +17,11 @@ use Rattle.trace.specs.declared.Replay.{Replay}
 use Rattle.trace.specs.Trace.{freshReplay, isOver}
 use Rattle.transcript.specs.Transcript.{lineRoom, lastIn, lastLine, freshRoom}
 use Rattle.transcript.specs.Pieces.{Piece, fedPiece, fedPieces, HaveRoom}
-use Rattle.transcript.proofs.FedLaws.{fed-over}
+use Rattle.transcript.proofs.FedLaws.{fed-over, fed-done, done-room}
 use Rattle.transcript.proofs.PieceLaws.{pieces}
 use Rattle.stream.specs.Stream.{Taken, fedOn, takenOf}
-use Rattle.stream.specs.Reads.{textRoom, Gave, takenAt, written, InPiece, piecesOf, ReadsHold, FailsHold}
+use Rattle.stream.specs.Reads.{pieceRoom, textRoom, Gave, takenAt, written, InPiece, piecesOf}
+use Rattle.stream.specs.Reads.{RoomHolds, ReadsHold, FailsHold}
 use Rattle.stream.proofs.StreamLaws.{last-within}
 
 abbrev pieceOf : Gave → Piece
@@ -77,6 +79,15 @@ room-for (g ∷ gs) replay room held h =
     let next : InPiece (f .replay) (f .room) (f .rest) gs =
     subst (λ (t : Taken). InPiece (t .replay) (t .room) (t .kept) gs) (taken-fed replay room held g) (h .1) in
     (omega (arith, h .0), room-for gs (f .replay) (f .room) (f .rest) next)
+
+pub reads-room : RoomHolds
+reads-room replay room held g h more =
+    let f = fedPiece replay room held (pieceOf g) in
+    let e = taken-fed replay room held g in
+    let on = not-true (isOver (f .replay .phase)) (ap (λ (t : Taken). t .more) (sym e) ∙ more) in
+    let done = fed-done (textRoom / lineRoom) replay room (held ++ g .bytes) (omega arith) in
+    let few = done-room f done on in
+    subst (λ (t : Taken). length (t .kept) < pieceRoom) (sym e) (omega arith)
 
 pub reads : ReadsHold
 reads gs h =

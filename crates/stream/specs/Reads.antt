@@ -1,7 +1,8 @@
 -- The reads of a whole input, one behind the other, and the text that is written for them.
 use mathlib.Core.Path.{_≡_}
+use mathlib.Core.Bool.{true}
 use mathlib.Core.List.{List, [], _∷_, _++_}
-use Prim.Native.Nat.{ℕ, _/_, _≤_}
+use Prim.Native.Nat.{ℕ, _/_, _≤_, _<_}
 use lib.ListN.{length}
 use Rattle.wire.specs.Choice.{pick}
 use Rattle.input.specs.declared.Given.{Given}
@@ -49,6 +50,12 @@ InPiece replay room held (g ∷ gs) =
 abbrev pub piecesOf : List Gave → List Piece
 piecesOf [] = []
 piecesOf (g ∷ gs) = record { bytes = g .bytes; records = textRoom / lineRoom } ∷ piecesOf gs
+
+-- a read that follows has room behind what is held, so that one that gives no byte is the end of the input
+abbrev pub RoomHolds : Type 0
+RoomHolds =
+    (replay : Replay) (room held : List ℕ) (g : Gave) → let t = takenAt replay room held g in
+    length (held ++ g .bytes) ≤ pieceRoom → t .more ≡ true → length (t .kept) < pieceRoom
 
 -- THE PROMISE: up to the end of the input, the text that is written is the text for all bytes that were read
 abbrev pub ReadsHold : Type 0

@@ -1,10 +1,9 @@
 -- What the replay program does with each read of its input, and the text of all its reads.
 use mathlib.Core.Path.{_≡_}
 use mathlib.Core.Bool.{Bool, true, false, not}
-use mathlib.Core.List.{List, [], _∷_, _++_}
-use Prim.Native.Nat.{ℕ, _*_, _/_, _≤_}
+use mathlib.Core.List.{List, [], _++_}
+use Prim.Native.Nat.{ℕ, _/_}
 use lib.ListN.{length, take}
-use Rattle.wire.specs.Choice.{pick}
 use Rattle.wire.specs.Bytes.{patch}
 use Rattle.input.specs.declared.Given.{Given}
 use Rattle.input.specs.declared.Given.the-variants.{Read, Ended, Failed}

@@ -23,7 +23,7 @@ ghost use Rattle.transcript.specs.Transcript.{fed, lineRoom, lastWithin};
 ghost use Rattle.stream.specs.Stream.{fedOn, takenOf, freshReading, Takes};
 
 // Room for the longest store, for a piece of the input, and for the lines of as many records as a piece can have: a
-// record has at least 6 bytes.
+// record has at least 6 bytes. specs/Reads.antt states the last two.
 pub const ROOM: usize = Store::RECORDS_FROM + Store::SLOT * Store::RECORDS;
 
 pub const PIECE: usize = 4096;

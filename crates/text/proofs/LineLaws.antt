@@ -1,6 +1,6 @@
 -- Laws of lines: how long they are, and what the digits of a number are. Assumes nothing.
 use mathlib.Core.Path.{_≡_, refl, ap, subst}
-use mathlib.Core.Bool.{Bool, true, false, cond}
+use mathlib.Core.Bool.{Bool, true, false}
 use mathlib.Core.List.{List, [], _∷_, _++_}
 use Prim.Native.Nat.{ℕ, zero, suc, _+_, _*_, _-_, _/_, _%_, _^_, _≤_, _<_}
 use native.Mathlib.Nat.{pow-succ'}
@@ -8,8 +8,7 @@ use native.Mathlib.Omega.{arith}
 use lib.Dec.{ltb, leb, lit≤}
 use lib.ListN.{length, length-append}
 use borrow.Author.Tests.{lt-ltb, le-ltb, leb-true, leb-false}
-use Rattle.io.specs.Digits.{glyph, digits, Fewest}
-use Rattle.wire.specs.Choice.{pick}
+use Rattle.io.specs.Digits.{digits, Fewest}
 use Rattle.wire.specs.Bytes.{patch}
 use Rattle.wire.proofs.ChoiceLaws.{of-pick}
 use Rattle.wire.proofs.PatchLaws.{patch-then}

@@ -10,9 +10,8 @@ use Rattle.wire.proofs.ChoiceLaws.{and-both}
 use Rattle.store.specs.Maker.{makeTold, makeStore}
 use Rattle.emit.specs.Output.{atFront}
 use Rattle.trace.specs.declared.Phase.the-variants.{Running}
-use Rattle.trace.specs.declared.Replay.{Replay}
 use Rattle.text.specs.Line.{lineOf, openWord, endWord, tornWord}
-use Rattle.trace.specs.Trace.{After, over, isOpening, openingsOf, lengthOf, openedText, openedReplay, opens}
+use Rattle.trace.specs.Trace.{over, isOpening, openingsOf, lengthOf, openedText, openedReplay, opens}
 
 -- what a call left in the first e bytes, before the bytes behind them
 pub front-back : (e : ℕ) (room : List ℕ) {new left : List ℕ} → e ≤ length room → length left ≡ length (take e room)

@@ -1,20 +1,20 @@
 -- Laws of feeding: by turns, and by pieces. Assumes nothing.
 use mathlib.Core.Path.{_≡_, refl, sym, ap, _∙_}
 use mathlib.Core.Bool.{true, false}
-use mathlib.Core.List.{List, [], _∷_, _++_, append-nil}
-use Prim.Native.Nat.{ℕ, zero, suc, _+_, _*_, _-_, _≤_}
+use mathlib.Core.List.{List, _++_, append-nil}
+use Prim.Native.Nat.{ℕ, zero, suc, _+_, _*_, _-_, _≤_, _<_}
 use native.Mathlib.Omega.{arith}
 use lib.ListN.{length, take, drop, length-append, length-drop}
 use lib.Seq.{drop-drop}
 use Rattle.wire.specs.Bytes.{field}
 use Rattle.wire.proofs.ChoiceLaws.{cases}
 use Rattle.reader.specs.declared.Front.the-variants.{Whole, Torn, Short}
-use Rattle.reader.specs.Front.{leastRecord, frontOf}
+use Rattle.reader.specs.Front.{leastRecord, greatestRecord, frontOf}
 use Rattle.reader.proofs.FrontLaws.{View, short, torn, whole, view, front-torn, front-whole, good-room, field-append}
 use Rattle.text.specs.Line.{lineOf, tornWord}
 use Rattle.trace.specs.declared.Replay.{Replay}
 use Rattle.trace.specs.Trace.{isOver, over, stepped}
-use Rattle.transcript.specs.Transcript.{Fed, stays, behind, turned, fed}
+use Rattle.transcript.specs.Transcript.{Fed, stays, behind, fed}
 
 -- FEEDING
 abbrev pub tornAt : Replay → (room bytes : List ℕ) → Fed
@@ -72,7 +72,7 @@ turn-of replay room bs =
       longer {k} cs l = omega (arith, length-append bs cs)
 
       by-view : isOver (replay .phase) ≡ false → View bs → Turn replay room bs
-      by-view e (short h) = idle (λ n. fed-short n replay room bs h)
+      by-view e (short h few) = idle (λ n. fed-short n replay room bs h)
       by-view e (torn l g) =
           let more : (cs : List ℕ) → frontOf (bs ++ cs) ≡ Torn =
           λ cs. front-torn (bs ++ cs) (longer cs l) (rw (field-append bs cs l) g) in
@@ -83,7 +83,7 @@ turn-of replay room bs =
           let more : (cs : List ℕ) → frontOf (bs ++ cs) ≡ Whole (field 0 4 bs) =
           λ cs. let q = field-append bs cs l in
           rw (← q) (front-whole (bs ++ cs) (longer cs l) (rw q g) (rw q (longer cs r))) in
-          reads k (good-room bs g) r (λ n. fed-whole n k replay room bs e (front-whole bs l g r))
+          reads k (good-room bs g .0) r (λ n. fed-whole n k replay room bs e (front-whole bs l g r))
           (λ n cs. fed-whole n k replay room (bs ++ cs) e (more cs))
 
 -- lines before nothing more
@@ -201,3 +201,19 @@ fed-done (suc n) replay room bs p =
       by-turn (reads k l r h more) rest =
           let s = stepped replay room (take k bs) in
           rw (h n) (rest k l (s .replay) (s .room))
+
+-- and what is left is then less than the longest record, or the replay is over
+pub done-room : (f : Fed) → Done f → isOver (f .replay .phase) ≡ false → length (f .rest) < greatestRecord
+unfolding fed
+done-room f h e = by-view (view (f .rest)) where
+  by-view : View (f .rest) → length (f .rest) < greatestRecord
+  by-view (short s few) = few
+  by-view (torn l g) =
+      let read = fed-torn 0 (f .replay) (f .room) (f .rest) e (front-torn (f .rest) l g) in
+      let z : length (lineOf tornWord (f .replay .count)) ≡ 0 = ap (λ (g : Fed). length (g .text)) (sym read ∙ h) in
+      absurd (omega arith)
+  by-view (whole l g r) =
+      let k = field 0 4 (f .rest) in
+      let read = fed-whole 0 k (f .replay) (f .room) (f .rest) e (front-whole (f .rest) l g r) in
+      let z : length (drop k (f .rest)) ≡ length (f .rest) = ap (λ (g : Fed). length (g .rest)) (sym read ∙ h) in
+      absurd (omega (arith, length-drop k (f .rest), good-room (f .rest) g .0))

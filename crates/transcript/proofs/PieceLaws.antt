@@ -10,7 +10,7 @@ use Rattle.text.specs.Line.{lineOf, tornWord}
 use Rattle.trace.specs.Trace.{freshReplay, over, stepped}
 use Rattle.transcript.specs.Transcript.{Fed, stays, fed, finished, freshRoom, lastLine, textFrom}
 use Rattle.transcript.specs.Pieces.{Piece, fedPiece, fedPieces, joined, HaveRoom, PiecesHold}
-use Rattle.transcript.proofs.FedLaws.{Turn, idle, tears, reads, tornAt, readAt, fed-over, turn-of, fed-enough}
+use Rattle.transcript.proofs.FedLaws.{Turn, idle, tears, reads, readAt, fed-over, turn-of, fed-enough}
 use Rattle.transcript.proofs.FedLaws.{Done, fed-done}
 
 -- by one record more than there are bytes

@@ -1,8 +1,7 @@
 -- What the code of a turn leaves, by the cases, and how long its lines are. Assumes nothing.
-use mathlib.Core.Path.{_≡_, refl, sym, ap, _∙_}
-use mathlib.Core.Bool.{true, false}
-use mathlib.Core.List.{List, [], _∷_, _++_, append-nil}
-use Prim.Native.Nat.{ℕ, zero, suc, _+_, _-_, _≤_}
+use mathlib.Core.Path.{_≡_, refl}
+use mathlib.Core.List.{List, _++_, append-nil}
+use Prim.Native.Nat.{ℕ, _+_, _-_, _≤_}
 use native.Mathlib.Omega.{arith}
 use lib.Dec.{eqb}
 use lib.ListN.{length, take, drop, length-append, length-drop}
@@ -17,9 +16,9 @@ use Rattle.trace.specs.declared.Replay.{Replay}
 use Rattle.transcript.specs.declared.Progress.{Progress}
 use Rattle.trace.specs.declared.Stepped.{Stepped}
 use Rattle.text.specs.Line.{decimalOf, lineOf, openWord, endWord, tornWord}
-use Rattle.trace.specs.Trace.{After, over, isOpening, openingsOf, lengthOf, openedText, opens, next}
+use Rattle.trace.specs.Trace.{over, isOpening, openingsOf, lengthOf, openedText, opens, next}
 use Rattle.trace.specs.Trace.{freshOutput, answers, steppedIn, stepped}
-use Rattle.transcript.specs.Transcript.{Fed, stays, behind, fed, lineRoom}
+use Rattle.transcript.specs.Transcript.{Fed, stays, fed, lineRoom}
 use Rattle.trace.specs.Stepped.{Leaves}
 use Rattle.transcript.specs.Feeds.{Feeds}
 use Rattle.text.proofs.LineLaws.{length-decimal, length-line}

@@ -8,7 +8,6 @@ use trace::Replay;
 use trace::is_over;
 use trace::over;
 use trace::step;
-ghost use mathlib.Core.Path.{_≡_};
 ghost use Prim.Native.Nat.{_+_, _/_, _≤_};
 ghost use lib.ListN.{length, drop};
 ghost use Rattle.transcript.specs.Transcript.{fed, lineRoom};

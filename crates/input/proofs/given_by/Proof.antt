@@ -10,7 +10,7 @@ use mir.Syntax.{w64}
 use mir.Val.{Fits, SFits, toZ, ofZ}
 use mir.ValLaws.{toZ-ofZ}
 use borrow.Author.Tests.{ltb-true}
-use Rattle.input.specs.declared.Given.the-variants.{Read, Ended, Failed}
+use Rattle.input.specs.declared.Given.the-variants.{Read, Failed}
 use Rattle.input.specs.Given.{givenOf}
 use Rattle.input.proofs.given_by.Statement.{statement}
 use Rattle.input.proofs.given_by.Tie as tie

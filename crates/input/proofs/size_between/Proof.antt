@@ -1,8 +1,6 @@
 -- By the tests that led to each answer. Assumes nothing.
-use mathlib.Core.Path.{_≡_, sym}
 use Prim.Native.Nat.{_-_}
 use native.Mathlib.Omega.{arith}
-use lib.ListN.{length}
 use denote.Ref.{now}
 use borrow.Author.Needs.{needs}
 use Rattle.input.proofs.KeptLaws.{length-part-most}

@@ -1,5 +1,5 @@
 -- What is left of the front stands behind what was read, and is moved to the front. Assumes nothing.
-use mathlib.Core.Path.{_≡_, sym}
+use mathlib.Core.Path.{sym}
 use Prim.Native.Nat.{_/_}
 use lib.ListN.{length}
 use lib.Seq.{length-take-le}

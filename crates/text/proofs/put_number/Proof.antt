@@ -1,12 +1,9 @@
 -- The digits are made apart, and stored. Assumes nothing.
 use mathlib.Core.Path.{_≡_, sym, ap, _∙_}
-use mathlib.Core.List.{List}
-use Prim.Native.Nat.{ℕ, _+_, _≤_}
+use Prim.Native.Nat.{_≤_}
 use native.Mathlib.Omega.{arith}
 use lib.ListN.{length, take}
-use denote.Ref.{now}
 use borrow.Author.Needs.{needs}
-use Rattle.wire.specs.Bytes.{patch}
 use Rattle.text.specs.Line.{decimalOf}
 use Rattle.text.proofs.LineLaws.{fewest-room, fewest-decimal}
 use Rattle.text.proofs.put_number.Statement.{statement}

@@ -1,14 +1,14 @@
 -- Three stores, each right behind the one before. Assumes nothing.
 use mathlib.Core.Path.{_≡_, refl}
 use mathlib.Core.List.{List, [], _∷_, _++_}
-use Prim.Native.Nat.{ℕ, _+_, _≤_}
+use Prim.Native.Nat.{ℕ, _+_}
 use native.Mathlib.Omega.{arith}
 use lib.ListN.{length, length-append}
 use denote.Ref.{now}
 use borrow.Author.Needs.{needs}
-use Rattle.wire.specs.Bytes.{little, patch}
+use Rattle.wire.specs.Bytes.{little}
 use Rattle.wire.proofs.PatchLaws.{patch-then}
-use Rattle.text.specs.Line.{decimalOf, tailOf}
+use Rattle.text.specs.Line.{decimalOf}
 use Rattle.text.proofs.LineLaws.{length-decimal}
 use Rattle.text.proofs.put_tail.Statement.{statement}
 use Rattle.text.proofs.put_tail.Tie as tie

@@ -1,10 +1,9 @@
 -- Turns, as long as a record is read and a line has room. Assumes nothing.
 use mathlib.Core.Path.{_≡_, refl, _∙_}
-use Prim.Native.Nat.{_+_, _*_, _-_, _/_, _≤_}
+use Prim.Native.Nat.{_+_, _-_, _/_}
 use native.Mathlib.Omega.{arith}
 use lib.ListN.{length}
 use denote.Ref.{now}
-use borrow.Author.Needs.{needs}
 use Rattle.transcript.specs.Transcript.{fed, lineRoom}
 use Rattle.transcript.proofs.ReachedLaws.{Reached, reached-start, reached-next, reached-still, reached-done}
 use Rattle.transcript.proofs.feed.Statement.{statement}

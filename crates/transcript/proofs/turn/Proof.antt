@@ -1,6 +1,6 @@
 -- By whether the replay is over, and then by what stands at the front. Assumes nothing.
 use mathlib.Core.Path.{_≡_, sym, subst, _∙_}
-use mathlib.Core.Bool.{true, false}
+use mathlib.Core.Bool.{false}
 use mathlib.Core.List.{List}
 use Prim.Native.Nat.{ℕ, _+_, _≤_}
 use native.Mathlib.Omega.{arith}
@@ -12,7 +12,6 @@ use Rattle.reader.specs.declared.Front.the-variants.{Whole}
 use Rattle.reader.specs.Front.{frontOf}
 use Rattle.trace.specs.Trace.{isOver, over, stepped}
 use Rattle.trace.specs.Stepped.{Leaves}
-use Rattle.transcript.specs.Feeds.{Feeds}
 use Rattle.reader.proofs.FrontLaws.{front-room}
 use Rattle.transcript.proofs.FedLaws.{fed-over, fed-short, fed-torn, fed-whole}
 use Rattle.transcript.proofs.TurnLaws.{feeds-stays, feeds-torn, feeds-read}

@@ -1,5 +1,4 @@
 -- The count, the answer and the line. Assumes nothing.
-use denote.Ref.{now}
 use borrow.Author.Needs.{needs}
 use Rattle.trace.specs.Trace.{answers}
 use Rattle.trace.proofs.records.answer_line.Statement.{statement}

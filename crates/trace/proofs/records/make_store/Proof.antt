@@ -1,10 +1,6 @@
 -- The part that was lent comes back at the front. Assumes nothing.
-use mathlib.Core.Path.{_≡_, sym, ap, _∙_}
-use native.Mathlib.Omega.{arith}
-use lib.ListN.{length, take}
 use denote.Ref.{now}
 use borrow.Author.Needs.{needs}
-use Rattle.store.specs.Maker.{makeTold, makeStore}
 use Rattle.trace.proofs.TraceLaws.{front-back}
 use Rattle.trace.proofs.records.make_store.Statement.{statement}
 use Rattle.trace.proofs.records.make_store.Tie as tie
