@@ -3,7 +3,6 @@ use datagram::Packet;
 use datagram::read::DIGEST;
 use datagram::read::FRAME;
 use datagram::read::PACKET;
-use store::End;
 use store::part::put_end;
 use wire::put_digest;
 use wire::put_frame;
@@ -32,7 +31,7 @@ pub enum Form {
     Acknowledged,
 }
 
-// A record that is emitted. A written acknowledgement is told by the sequence and the destination of its packet.
+// A record that is emitted. Of a written acknowledgement's packet the destination and the sequence matter alone.
 pub struct Emission {
     pub form: Form,
     pub packet: Packet,
@@ -60,14 +59,17 @@ fn emit_packet(out: &mut [u8], kind: u16, p: Packet) -> u32
     WITH_PACKET
 }
 
-fn emit_written(out: &mut [u8], end: End, sequence: u64, digest: [u8; 32]) -> u32
+// The acknowledgement of a packet, by its destination and its sequence.
+fn emit_written(out: &mut [u8], p: Packet, digest: [u8; 32]) -> u32
     requires { ⌜ outputLimit ≤ length (now out) ⌝ }
-    ensures output { λ _. ⌜ now (out .exit) ≡ atFront (writtenRecord end sequence digest) (now (out .entry)) ⌝ }
-    ensures size { λ r. ⌜ r ≡ length (writtenRecord end sequence digest) ⌝ }
+    ensures output { λ _. ⌜
+        now (out .exit) ≡ atFront (writtenRecord (p .destination) (p .sequence) digest) (now (out .entry))
+        ⌝ }
+    ensures size { λ r. ⌜ r ≡ length (writtenRecord (p .destination) (p .sequence) digest) ⌝ }
 {
     put_frame(out, WRITTEN, 0x0103);
-    put_end(out, FRAME, end.port, end.channel);
-    put_u64(out, FRAME + 6, sequence);
+    put_end(out, FRAME, p.destination.port, p.destination.channel);
+    put_u64(out, FRAME + 6, p.sequence);
     put_digest(out, FRAME + 14, digest);
     WRITTEN
 }
@@ -91,10 +93,9 @@ pub fn emit_record(out: &mut [u8], e: Emission) -> u32
     let form = e.form;
     let packet = e.packet;
     let digest = e.digest;
-    let end = packet.destination;
     match form {
         Form::PacketOnly(kind) => emit_packet(out, kind, packet),
-        Form::Written => emit_written(out, end, packet.sequence, digest),
+        Form::Written => emit_written(out, packet, digest),
         Form::Acknowledged => emit_acknowledged(out, packet, digest),
     }
 }

@@ -70,7 +70,8 @@ second e = e .before .before .before .before .before
 ended-held : (e : tie.After-set-channel) → Held (ended (first (second e) .before)) (e .set-channel .last .0)
 ended-held e =
     let o = first (second e) .before in
-    held-channel (timed-held (second e)) (e .set-channel .last .0) (o .args .p .index) (some (o .args .p .decision .end))
+    let p = o .args .p in
+    held-channel (timed-held (second e)) (e .set-channel .last .0) (p .index) (some (p .decision .end))
     (end-fields o, tt) (e .set-channel .ensures)
 
 set-channel-requires : tie.Need-set-channel-requires

@@ -72,7 +72,8 @@ decide-spec =
     decide-send-requires decide-receive-requires
     (λ c κs. ready (c .before .before) write (by-number _ write (c .match .keys3)) .1) decide-acknowledge-requires
     (λ c κs. ready (c .before .before) timeOut (last c) .1)
-    (λ c. decided (c .before .before .before) send (by-number _ send (c .before .match .keys1)) (c .decide-send .ensures))
+    (λ c. decided (c .before .before .before) send (by-number _ send (c .before .match .keys1))
+    (c .decide-send .ensures))
     (λ c. decided (c .before .before .before) receive (by-number _ receive (c .before .match .keys2))
     (c .decide-receive .ensures))
     (λ c. decided (c .before .before .before) write (by-number _ write (c .before .match .keys3))

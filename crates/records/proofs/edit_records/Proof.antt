@@ -48,15 +48,15 @@ found f x q =
 insert-record-requires : tie.Need-insert-record-requires
 insert-record-requires c κs =
     let f = c .before .before .before .before in
-    (start f .pre .0, found-below isFree (index f) (held (start f) .records) (found f _ (c .before .enum-told3 .given .1)))
+    let told = c .before .enum-told3 .given .1 in
+    (start f .pre .0, found-below isFree (index f) (held (start f) .records) (found f _ told))
 
 remove-record-requires : tie.Need-remove-record-requires
 remove-record-requires c κs =
     let f = c .before .before .before .before in
-    let key = keyOf (start f .args .e .about) in (
-      start f .pre .0,
-      found-below (holds (hasKey key)) (index f) (held (start f) .records) (found f _ (c .before .enum-told4 .given .1)),
-    )
+    let told = c .before .enum-told4 .given .1 in
+    let key = keyOf (start f .args .e .about) in
+    (start f .pre .0, found-below (holds (hasKey key)) (index f) (held (start f) .records) (found f _ told))
 
 returns-2 : tie.Need-returns-2
 unfolding edited
