@@ -1,35 +1,21 @@
-// What an accepted datagram does, by its kind: to the packet records, to the output, and to the channel end that it is
-// about. Every kind ends alike: the end and the times are stored.
+// Carries out an accepted datagram: reads alone plan it; then the store is changed, and then the record is emitted.
 use changes::set_channel;
 use changes::set_times;
-use datagram::Packet;
+use datagram::Context;
 use datagram::read::channel_in;
 use datagram::read::context_in;
-use datagram::read::digest_in;
 use datagram::read::kind_in;
-use datagram::read::packet_in;
-use datagram::read::sequence_in;
-use datagram::read::timeout_in;
-use emit::emit_acknowledged;
-use emit::emit_packet;
-use emit::emit_written;
-use ends::acknowledged_end;
-use ends::received_end;
-use ends::sent_end;
-use ends::timed_out_end;
-use records::free_commitment;
-use records::plain_record;
-use records::write_receipt;
-use records::write_record;
-use slots::Channel;
+use effects::Decision;
+use effects::decide;
+use emit::emit_record;
+use records::edit_records;
+use records::slot_of;
 use slots::Found;
-use slots::Record;
 use slots::slot::channel_at;
 use store::Store;
 use tables::scan::find_channel;
 ghost use mathlib.Core.Path.{_≡_};
 ghost use mathlib.Core.Bool.{true};
-ghost use mathlib.Core.Option.{some};
 ghost use Prim.Native.Nat.{_≤_};
 ghost use lib.ListN.{length};
 ghost use Rattle.wire.specs.Choice.{isSome};
@@ -37,156 +23,20 @@ ghost use Rattle.slots.specs.declared.Found.the-variants.{At};
 ghost use Rattle.slots.specs.Table.{isNumbered, channelAt};
 ghost use Rattle.slots.specs.Layout.{recordsFrom, bytesOf, storeIn};
 ghost use Rattle.slots.specs.Scan.{firstThat};
-ghost use Rattle.datagram.specs.Kind.{send, receive, write, acknowledge, timeOut, kindOf, sizeOf};
+ghost use Rattle.slots.specs.Fit.{isFit};
 ghost use Rattle.datagram.specs.Datagram.{datagramIn};
 ghost use Rattle.emit.specs.Output.{atFront};
-ghost use Rattle.rules.specs.Acceptance.{sentPacket, commitment, sends, receives, writesAcknowledgement};
-ghost use Rattle.rules.specs.Acceptance.{acknowledges, timesOut, effectFor};
+ghost use Rattle.rules.specs.Acceptance.{applied};
 ghost use Rattle.rules.specs.Call.{answerTo, effectIn, nextStore};
-ghost use Rattle.acceptance.specs.Carried.{Accepts, CarriedOut};
+ghost use Rattle.effects.specs.Decided.{effectBy};
+ghost use Rattle.acceptance.specs.Planned.{Ready, Placed};
 
-// What is handed back of an effect: the channel end to be stored, and the length of the record that was emitted.
-struct Carried {
-    end: Channel,
-    size: u32,
-}
-
-// The packet that a send makes: its sequence is next send, and its ends are the channel's.
-fn sent_packet(datagram: &[u8], c: Channel) -> Packet
-    requires { ⌜ (datagramIn (now datagram) .kind ≡ some send) × (sizeOf (some send) ≤ length (now datagram)) ⌝ }
-    ensures { λ r. ⌜ r ≡ sentPacket c (datagramIn (now (datagram .entry))) ⌝ }
-{
-    let timeout = timeout_in(datagram);
-    let digest = digest_in(datagram, 1);
-    let source = c.own;
-    let destination = c.counterparty;
-    Packet {
-        sequence: c.next.send,
-        timeout: timeout,
-        source: source,
-        destination: destination,
-        digest: digest,
-    }
-}
-
-fn commitment_of(p: Packet) -> Record
-    ensures { λ r. ⌜ r ≡ commitment p ⌝ }
-{
-    let timeout = p.timeout;
-    let digest = p.digest;
-    Record {
-        kind: 1,
-        channel: p.source.channel,
-        sequence: p.sequence,
-        timeout: timeout,
-        digest: digest,
-    }
-}
-
-fn accept_send(store: &mut [u8], output: &mut [u8], datagram: &[u8], c: Channel) -> Carried
-    requires { ⌜ Accepts (now store) (now output) (now datagram) (some send) c ⌝ }
-    ensures { λ r. ⌜
-        CarriedOut (sends c (datagramIn (now (datagram .entry)))) (now (store .entry)) (now (output .entry))
-        (now (store .exit)) (now (output .exit)) r
-        ⌝ }
-{
-    let packet = sent_packet(datagram, c);
-    let committed = commitment_of(packet);
-    write_record(store, committed);
-    let size = emit_packet(output, 0x0101, packet);
-    let end = sent_end(c);
-    Carried {
-        end: end,
-        size: size,
-    }
-}
-
-fn accept_receive(store: &mut [u8], output: &mut [u8], datagram: &[u8], c: Channel) -> Carried
-    requires { ⌜ Accepts (now store) (now output) (now datagram) (some receive) c ⌝ }
-    ensures { λ r. ⌜
-        CarriedOut (receives c (datagramIn (now (datagram .entry)) .packet)) (now (store .entry))
-        (now (output .entry)) (now (store .exit)) (now (output .exit)) r
-        ⌝ }
-{
-    let packet = packet_in(datagram);
-    write_receipt(store, c, packet.sequence);
-    let size = emit_packet(output, 0x0102, packet);
-    let end = received_end(c);
-    Carried {
-        end: end,
-        size: size,
-    }
-}
-
-fn accept_write(store: &mut [u8], output: &mut [u8], datagram: &[u8], c: Channel) -> Carried
-    requires { ⌜ Accepts (now store) (now output) (now datagram) (some write) c ⌝ }
-    ensures { λ r. ⌜
-        CarriedOut
-        (writesAcknowledgement c (datagramIn (now (datagram .entry)) .sequence)
-        (datagramIn (now (datagram .entry)) .digest))
-        (now (store .entry)) (now (output .entry)) (now (store .exit)) (now (output .exit)) r
-        ⌝ }
-{
-    let sequence = sequence_in(datagram);
-    let digest = digest_in(datagram, 3);
-    let written = plain_record(3, c.own.channel, sequence, digest);
-    write_record(store, written);
-    let own = c.own;
-    let size = emit_written(output, own, sequence, digest);
-    Carried { end: c, size: size }
-}
-
-fn accept_acknowledge(store: &mut [u8], output: &mut [u8], datagram: &[u8], c: Channel) -> Carried
-    requires { ⌜ Accepts (now store) (now output) (now datagram) (some acknowledge) c ⌝ }
-    ensures { λ r. ⌜
-        CarriedOut
-        (acknowledges c (datagramIn (now (datagram .entry)) .packet) (datagramIn (now (datagram .entry)) .digest))
-        (now (store .entry)) (now (output .entry)) (now (store .exit)) (now (output .exit)) r
-        ⌝ }
-{
-    let packet = packet_in(datagram);
-    let digest = digest_in(datagram, 4);
-    free_commitment(store, c.own.channel, packet.sequence);
-    let size = emit_acknowledged(output, packet, digest);
-    let end = acknowledged_end(c);
-    Carried {
-        end: end,
-        size: size,
-    }
-}
-
-fn accept_time_out(store: &mut [u8], output: &mut [u8], datagram: &[u8], c: Channel) -> Carried
-    requires { ⌜ Accepts (now store) (now output) (now datagram) (some timeOut) c ⌝ }
-    ensures { λ r. ⌜
-        CarriedOut (timesOut c (datagramIn (now (datagram .entry)) .packet)) (now (store .entry))
-        (now (output .entry)) (now (store .exit)) (now (output .exit)) r
-        ⌝ }
-{
-    let packet = packet_in(datagram);
-    free_commitment(store, c.own.channel, packet.sequence);
-    let size = emit_packet(output, 0x0105, packet);
-    let end = timed_out_end(c);
-    Carried {
-        end: end,
-        size: size,
-    }
-}
-
-// An accepted datagram's kind is 1 to 5.
-fn carry_out(store: &mut [u8], output: &mut [u8], datagram: &[u8], kind: u16, c: Channel) -> Carried
-    requires { ⌜ Accepts (now store) (now output) (now datagram) (kindOf kind) c ⌝ }
-    ensures { λ r. ⌜
-        CarriedOut (effectFor (kindOf kind) c (datagramIn (now (datagram .entry)))) (now (store .entry))
-        (now (output .entry)) (now (store .exit)) (now (output .exit)) r
-        ⌝ }
-{
-    match kind {
-        1 => accept_send(store, output, datagram, c),
-        2 => accept_receive(store, output, datagram, c),
-        3 => accept_write(store, output, datagram, c),
-        4 => accept_acknowledge(store, output, datagram, c),
-        _ => accept_time_out(store, output, datagram, c),
-    }
+// What is carried out: the times, what the datagram does, and the slots of the end and of the packet record.
+struct Plan {
+    decision: Decision,
+    context: Context,
+    index: usize,
+    slot: Found,
 }
 
 // The index of the channel end of this number, which is there.
@@ -200,6 +50,46 @@ fn channel_index(store: &[u8], number: u32) -> usize
         return 0;
     };
     j
+}
+
+// All that is read of the store.
+fn plan_for(store: &[u8], datagram: &[u8]) -> Plan
+    requires { ⌜ Ready (now store) (now datagram) ⌝ }
+    ensures context { λ r. ⌜ r .context ≡ datagramIn (now (datagram .entry)) .context ⌝ }
+    ensures effect { λ r. ⌜
+        effectBy (r .decision) ≡ effectIn (storeIn (now (store .entry))) (datagramIn (now (datagram .entry)))
+        ⌝ }
+    ensures slots { λ r. ⌜ Placed (storeIn (now (store .entry))) r ⌝ }
+{
+    let kind = kind_in(datagram);
+    let index = channel_index(store, channel_in(datagram, kind));
+    let c = channel_at(store, Store::HEADER + Store::SLOT * index);
+    let decision = decide(datagram, kind, c);
+    let edit = decision.edit;
+    let slot = slot_of(store, edit);
+    let context = context_in(datagram);
+    Plan {
+        decision: decision,
+        context: context,
+        index: index,
+        slot: slot,
+    }
+}
+
+// All that is written to the store.
+fn carry_out(store: &mut [u8], p: Plan)
+    requires { ⌜ (isFit (now store) ≡ true) × Placed (storeIn (now store)) p ⌝ }
+    ensures { λ _. ⌜
+        now (store .exit) ≡ bytesOf (applied (storeIn (now (store .entry))) (p .context) (effectBy (p .decision)))
+        ⌝ }
+{
+    let height = p.context.height;
+    set_times(store, height, p.context.time);
+    let end = p.decision.end;
+    set_channel(store, p.index, end);
+    let slot = p.slot;
+    let edit = p.decision.edit;
+    edit_records(store, slot, edit);
 }
 
 // Carries out a datagram that the table of answers accepts. Returns the length of the record that it emits.
@@ -217,15 +107,8 @@ pub fn accept(store: &mut [u8], output: &mut [u8], datagram: &[u8]) -> u32
         (now (output .entry))
         ⌝ }
 {
-    let kind = kind_in(datagram);
-    let number = channel_in(datagram, kind);
-    let j = channel_index(store, number);
-    let c = channel_at(store, Store::HEADER + Store::SLOT * j);
-    let carried = carry_out(store, output, datagram, kind, c);
-    let end = carried.end;
-    set_channel(store, j, end);
-    let context = context_in(datagram);
-    let height = context.height;
-    set_times(store, height, context.time);
-    carried.size
+    let p = plan_for(store, datagram);
+    carry_out(store, p);
+    let emission = p.decision.emission;
+    emit_record(output, emission)
 }

@@ -5,6 +5,9 @@ use lib.ListN.{length, drop}
 use Rattle.wire.specs.Bytes.{little}
 use Rattle.slots.specs.declared.End.{End}
 use Rattle.datagram.specs.declared.Packet.{Packet}
+use Rattle.emit.specs.declared.Form.{Form}
+use Rattle.emit.specs.declared.Form.the-variants.{PacketOnly, Written, Acknowledged}
+use Rattle.emit.specs.declared.Emission.{Emission}
 use Rattle.datagram.specs.Emitted.{writtenKind, acknowledgedKind, framed, packetBytes}
 
 abbrev pub atFront : (emitted output : List ℕ) → List ℕ
@@ -22,3 +25,12 @@ writtenRecord e n a = framed writtenKind (endBytes e ++ little 8 n ++ a)
 
 abbrev pub acknowledgedRecord : Packet → (digest : List ℕ) → List ℕ
 acknowledgedRecord p a = framed acknowledgedKind (packetBytes p ++ a)
+
+-- the record that a struct by value tells
+abbrev pub emittedAs : Form → Packet → (digest : List ℕ) → List ℕ
+emittedAs (PacketOnly k) p a = packetRecord k p
+emittedAs Written p a = writtenRecord (p .destination) (p .sequence) a
+emittedAs Acknowledged p a = acknowledgedRecord p a
+
+abbrev pub emittedBy : Emission → List ℕ
+emittedBy e = emittedAs (e .form) (e .packet) (e .digest)

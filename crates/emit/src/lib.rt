@@ -1,7 +1,6 @@
 // The records that are handed out, written at the front of the lent output. Each writer returns the record's length.
 use datagram::Packet;
 use datagram::read::PACKET;
-use slots::End;
 use slots::part::put_end;
 use wire::DIGEST;
 use wire::FRAME;
@@ -16,7 +15,7 @@ ghost use Rattle.wire.specs.Bytes.{patch};
 ghost use Rattle.slots.specs.Limits.{outputLimit};
 ghost use Rattle.datagram.specs.Kind.{packetSize};
 ghost use Rattle.datagram.specs.Emitted.{packetBytes};
-ghost use Rattle.emit.specs.Output.{atFront, packetRecord, writtenRecord, acknowledgedRecord};
+ghost use Rattle.emit.specs.Output.{atFront, packetRecord, writtenRecord, acknowledgedRecord, emittedBy};
 
 // The records by their whole lengths: a packet; an end, a sequence and a digest; a packet and a digest.
 const WITH_PACKET: u32 = (FRAME + PACKET) as u32;
@@ -24,6 +23,20 @@ const WITH_PACKET: u32 = (FRAME + PACKET) as u32;
 const WRITTEN: u32 = (FRAME + 14 + DIGEST) as u32;
 
 const ACKNOWLEDGED: u32 = (FRAME + PACKET + DIGEST) as u32;
+
+// What is emitted: a packet alone under one of its kinds, a written acknowledgement, an acknowledged packet.
+pub enum Form {
+    PacketOnly(u16),
+    Written,
+    Acknowledged,
+}
+
+// A record that is emitted. Of a written acknowledgement's packet the destination and the sequence matter alone.
+pub struct Emission {
+    pub form: Form,
+    pub packet: Packet,
+    pub digest: [u8; 32],
+}
 
 fn put_packet(out: &mut [u8], at: usize, p: Packet)
     requires { ⌜ at + packetSize ≤ length (now out) ⌝ }
@@ -36,7 +49,7 @@ fn put_packet(out: &mut [u8], at: usize, p: Packet)
     put_digest(out, at + 36, digest);
 }
 
-pub fn emit_packet(out: &mut [u8], kind: u16, p: Packet) -> u32
+fn emit_packet(out: &mut [u8], kind: u16, p: Packet) -> u32
     requires { ⌜ outputLimit ≤ length (now out) ⌝ }
     ensures output { λ _. ⌜ now (out .exit) ≡ atFront (packetRecord kind p) (now (out .entry)) ⌝ }
     ensures size { λ r. ⌜ r ≡ length (packetRecord kind p) ⌝ }
@@ -46,19 +59,22 @@ pub fn emit_packet(out: &mut [u8], kind: u16, p: Packet) -> u32
     WITH_PACKET
 }
 
-pub fn emit_written(out: &mut [u8], end: End, sequence: u64, digest: [u8; 32]) -> u32
+// The acknowledgement of a packet, by its destination and its sequence.
+fn emit_written(out: &mut [u8], p: Packet, digest: [u8; 32]) -> u32
     requires { ⌜ outputLimit ≤ length (now out) ⌝ }
-    ensures output { λ _. ⌜ now (out .exit) ≡ atFront (writtenRecord end sequence digest) (now (out .entry)) ⌝ }
-    ensures size { λ r. ⌜ r ≡ length (writtenRecord end sequence digest) ⌝ }
+    ensures output { λ _. ⌜
+        now (out .exit) ≡ atFront (writtenRecord (p .destination) (p .sequence) digest) (now (out .entry))
+        ⌝ }
+    ensures size { λ r. ⌜ r ≡ length (writtenRecord (p .destination) (p .sequence) digest) ⌝ }
 {
     put_frame(out, WRITTEN, 0x0103);
-    put_end(out, FRAME, end.port, end.channel);
-    put_u64(out, FRAME + 6, sequence);
+    put_end(out, FRAME, p.destination.port, p.destination.channel);
+    put_u64(out, FRAME + 6, p.sequence);
     put_digest(out, FRAME + 14, digest);
     WRITTEN
 }
 
-pub fn emit_acknowledged(out: &mut [u8], p: Packet, digest: [u8; 32]) -> u32
+fn emit_acknowledged(out: &mut [u8], p: Packet, digest: [u8; 32]) -> u32
     requires { ⌜ outputLimit ≤ length (now out) ⌝ }
     ensures output { λ _. ⌜ now (out .exit) ≡ atFront (acknowledgedRecord p digest) (now (out .entry)) ⌝ }
     ensures size { λ r. ⌜ r ≡ length (acknowledgedRecord p digest) ⌝ }
@@ -67,4 +83,19 @@ pub fn emit_acknowledged(out: &mut [u8], p: Packet, digest: [u8; 32]) -> u32
     put_packet(out, FRAME, p);
     put_digest(out, FRAME + PACKET, digest);
     ACKNOWLEDGED
+}
+
+pub fn emit_record(out: &mut [u8], e: Emission) -> u32
+    requires { ⌜ outputLimit ≤ length (now out) ⌝ }
+    ensures output { λ _. ⌜ now (out .exit) ≡ atFront (emittedBy e) (now (out .entry)) ⌝ }
+    ensures size { λ r. ⌜ r ≡ length (emittedBy e) ⌝ }
+{
+    let form = e.form;
+    let packet = e.packet;
+    let digest = e.digest;
+    match form {
+        Form::PacketOnly(kind) => emit_packet(out, kind, packet),
+        Form::Written => emit_written(out, packet, digest),
+        Form::Acknowledged => emit_acknowledged(out, packet, digest),
+    }
 }

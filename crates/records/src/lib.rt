@@ -1,4 +1,4 @@
-// What acceptance does to the packet records: a new one takes the free slot of lowest index, a commitment becomes free.
+// What acceptance does to the packet records. Which edit it is, is decided by value; one function carries it out.
 use changes::insert_record;
 use changes::remove_record;
 use ordering::raises_counter;
@@ -10,54 +10,22 @@ use store::Store;
 use tables::scan::find_free;
 use tables::scan::find_record;
 ghost use mathlib.Core.Path.{_≡_};
-ghost use mathlib.Core.Bool.{true, false};
-ghost use Rattle.wire.specs.Choice.{isSome};
-ghost use Rattle.slots.specs.Table.{commitmentKey, lookup, hasFree};
+ghost use Rattle.slots.specs.Table.{commitmentKey};
 ghost use Rattle.slots.specs.Layout.{bytesOf, storeIn};
 ghost use Rattle.slots.specs.Effect.{Exact};
-ghost use Rattle.rules.specs.Ordering.{writes, frees, plainRecord, raisesReceive, receivedEdit};
-ghost use Rattle.records.specs.Edited.{withEdit};
+ghost use Rattle.rules.specs.Ordering.{frees, plainRecord, receivedEdit};
+ghost use Rattle.records.specs.Edited.{withEdit, editBy, slotOf};
 
-pub fn write_record(store: &mut [u8], r: Record)
-    requires { ⌜ Exact (now store) × (hasFree (storeIn (now store) .records) ≡ true) ⌝ }
-    ensures { λ _. ⌜ now (store .exit) ≡ bytesOf (withEdit (storeIn (now (store .entry))) (writes r)) ⌝ }
-{
-    let count = (store.len() - Store::RECORDS_FROM) / Store::SLOT;
-    let Found::At(i) = find_free(store, count) else {
-        return;
-    };
-    insert_record(store, i, r);
+pub enum Deed {
+    Keeps,
+    Writes,
+    Frees,
 }
 
-pub fn free_commitment(store: &mut [u8], channel: u32, sequence: u64)
-    requires { ⌜
-        Exact (now store) × (isSome (lookup (commitmentKey channel sequence) (storeIn (now store) .records)) ≡ true)
-        ⌝ }
-    ensures { λ _. ⌜
-        now (store .exit) ≡ bytesOf (withEdit (storeIn (now (store .entry))) (frees (commitmentKey channel sequence)))
-        ⌝ }
-{
-    let count = (store.len() - Store::RECORDS_FROM) / Store::SLOT;
-    let Found::At(i) = find_record(store, count, 1, channel, sequence) else {
-        return;
-    };
-    remove_record(store, i);
-}
-
-// A receipt is needed only where no counter tells what was received.
-pub fn write_receipt(store: &mut [u8], c: Channel, sequence: u64)
-    requires { ⌜
-        Exact (now store) × (raisesReceive c ≡ false → hasFree (storeIn (now store) .records) ≡ true)
-        ⌝ }
-    ensures { λ _. ⌜
-        now (store .exit) ≡ bytesOf (withEdit (storeIn (now (store .entry))) (receivedEdit c sequence))
-        ⌝ }
-{
-    if raises_counter(c) {
-        return;
-    }
-    let receipt = plain_record(2, c.own.channel, sequence, [0; 32]);
-    write_record(store, receipt);
+// Nothing, a record that is written, or the record of its kind, channel and sequence that becomes free.
+pub struct RecordEdit {
+    pub deed: Deed,
+    pub about: Record,
 }
 
 // A record with no timeouts.
@@ -70,5 +38,69 @@ pub fn plain_record(kind: u16, channel: u32, sequence: u64, digest: [u8; 32]) ->
         sequence: sequence,
         timeout: Timeout { height: 0, time: 0 },
         digest: digest,
+    }
+}
+
+// A receipt is needed only where no counter tells what was received.
+pub fn received_edit(c: Channel, sequence: u64) -> RecordEdit
+    ensures { λ r. ⌜ editBy r ≡ receivedEdit c sequence ⌝ }
+{
+    let receipt = plain_record(2, c.own.channel, sequence, [0; 32]);
+    if raises_counter(c) {
+        return RecordEdit {
+            deed: Deed::Keeps,
+            about: receipt,
+        };
+    }
+    RecordEdit {
+        deed: Deed::Writes,
+        about: receipt,
+    }
+}
+
+// The commitment of this sequence becomes free.
+pub fn freed_commitment(c: Channel, sequence: u64) -> RecordEdit
+    ensures { λ r. ⌜ editBy r ≡ frees (commitmentKey (c .own .channel) sequence) ⌝ }
+{
+    let commitment = plain_record(1, c.own.channel, sequence, [0; 32]);
+    RecordEdit {
+        deed: Deed::Frees,
+        about: commitment,
+    }
+}
+
+// The slot that an edit is on: the free one of lowest index, or that of the record.
+pub fn slot_of(store: &[u8], e: RecordEdit) -> Found
+    requires { ⌜ Exact (now store) ⌝ }
+    ensures { λ r. ⌜ r ≡ slotOf (editBy e) (storeIn (now (store .entry)) .records) ⌝ }
+{
+    let count = (store.len() - Store::RECORDS_FROM) / Store::SLOT;
+    let deed = e.deed;
+    match deed {
+        Deed::Keeps => Found::Nothing,
+        Deed::Writes => find_free(store, count),
+        Deed::Frees => find_record(
+            store,
+            count,
+            e.about.kind,
+            e.about.channel,
+            e.about.sequence,
+        ),
+    }
+}
+
+pub fn edit_records(store: &mut [u8], at: Found, e: RecordEdit)
+    requires { ⌜ Exact (now store) × (at ≡ slotOf (editBy e) (storeIn (now store) .records)) ⌝ }
+    ensures { λ _. ⌜ now (store .exit) ≡ bytesOf (withEdit (storeIn (now (store .entry))) (editBy e)) ⌝ }
+{
+    let Found::At(i) = at else {
+        return;
+    };
+    let deed = e.deed;
+    let about = e.about;
+    match deed {
+        Deed::Keeps => {}
+        Deed::Writes => insert_record(store, i, about),
+        Deed::Frees => remove_record(store, i),
     }
 }

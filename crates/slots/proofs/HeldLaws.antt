@@ -10,12 +10,11 @@ use Rattle.wire.proofs.ChoiceLaws.{and-both}
 use Rattle.wire.proofs.BytesLaws.{same-eq}
 use Rattle.slots.specs.declared.OwnHeight.{OwnHeight}
 use Rattle.slots.specs.declared.Channel.{Channel}
-use Rattle.slots.specs.declared.Record.{Record}
 use Rattle.slots.specs.Layout.{Store, bytesOf, storeIn}
 use Rattle.slots.specs.Fit.{sizeFits, isFit}
-use Rattle.slots.specs.Effect.{Exact, withTimes, withChannelSlot, withRecordSlot}
+use Rattle.slots.specs.Effect.{Exact, withTimes, withChannelSlot}
 use Rattle.slots.proofs.TableLaws.{Each}
-use Rattle.slots.proofs.LayoutLaws.{ChannelFields, RecordFields, StoreFields, read-back, size-of}
+use Rattle.slots.proofs.LayoutLaws.{ChannelFields, StoreFields, read-back, size-of}
 use Rattle.slots.proofs.FitLaws.{size-fits}
 
 pub record Held (s : Store) (bs : List ℕ) : Type 0 where
@@ -87,24 +86,5 @@ module _ {s : Store} {bs : List ℕ} (h : Held s bs) (next : List ℕ) where
               high = f .high;
               channels = each-set ChannelFields x j (s .channels) p (f .channels);
               records = f .records;
-            };
-      }
-
-  pub held-record : (i : ℕ) (x : Option Record) → Each RecordFields (x ∷ []) →
-      next ≡ bytesOf (withRecordSlot (storeIn bs) i x) → Held (withRecordSlot s i x) next
-  held-record i x p e =
-      let f = h .fields in
-      let n = length-set (s .records) i x in
-      record {
-        bytes = e ∙ ap (λ (u : Store). bytesOf (withRecordSlot u i x)) (held-store h);
-        fields =
-            record {
-              height = f .height;
-              time = f .time;
-              slots = f .slots;
-              low = rw n (f .low);
-              high = rw n (f .high);
-              channels = f .channels;
-              records = each-set RecordFields x i (s .records) p (f .records);
             };
       }

@@ -15,7 +15,7 @@ use Rattle.wire.proofs.ChoiceLaws.{cases, clash}
 use Rattle.slots.specs.declared.Channel.{Channel}
 use Rattle.slots.specs.declared.Record.{Record}
 use Rattle.slots.specs.declared.Found.the-variants.{At, Nothing}
-use Rattle.slots.specs.Table.{find, replace, insert, hasFree}
+use Rattle.slots.specs.Table.{find, replace, insert}
 use Rattle.slots.specs.Limits.{channelLimit}
 use Rattle.slots.specs.Layout.{headerSize, slotSize, recordsFrom, roomIn}
 use Rattle.slots.specs.Layout.{channelIn, recordIn, slotIn, tableIn, storeIn}
@@ -68,16 +68,6 @@ module _ {A : Type 0} where
   pub set-insert : (y : A) (i : ℕ) (xs : List (Option A)) → firstFree xs ≡ At i → set xs i (some y) ≡ insert y xs
   set-insert y i xs h = set-first y i xs (first-of isFree i xs h)
 
-  free-first : (i : ℕ) (xs : List (Option A)) → First isFree i xs → hasFree xs ≡ true
-  unfolding hasFree
-  free-first i [] h = absurd h
-  free-first i (none ∷ xs) h = refl
-  free-first zero (some x ∷ xs) h = clash {b = false} h refl
-  free-first (suc i) (some x ∷ xs) h = free-first i xs (h .1)
-
-  pub free-found : (i : ℕ) (xs : List (Option A)) → firstFree xs ≡ At i → hasFree xs ≡ true
-  free-found i xs h = free-first i xs (first-of isFree i xs h)
-
   -- THE FIRST ENTRY THAT PASSES A TEST makes way for another slot
   module _ (t : A → Bool) where
     replace-first : (y : Option A) (i : ℕ) (xs : List (Option A)) → First (holds t) i xs → set xs i y ≡ replace t y xs
@@ -113,12 +103,25 @@ module _ {A : Type 0} where
   pub found-below : (t : Option A → Bool) (i : ℕ) (xs : List (Option A)) → indexWhere t 0 xs ≡ At i → i < length xs
   found-below t i xs h = first-below t i xs (first-of t i xs h)
 
-  -- NOTHING FOUND
-  pub free-nothing : (n : ℕ) (xs : List (Option A)) → indexWhere isFree n xs ≡ Nothing → hasFree xs ≡ false
-  unfolding indexWhere hasFree
-  free-nothing n [] h = refl
-  free-nothing n (none ∷ xs) h = let z : _≡_ {A = ℕ} 0 1 = cc in absurd (omega arith)
-  free-nothing n (some x ∷ xs) h = free-nothing (suc n) xs h
+  -- NOTHING FOUND: the table stays, and is asked in vain
+  pub insert-nothing : (y : A) (n : ℕ) (xs : List (Option A)) → indexWhere isFree n xs ≡ Nothing → insert y xs ≡ xs
+  unfolding indexWhere insert
+  insert-nothing y n [] h = refl
+  insert-nothing y n (none ∷ xs) h = let z : _≡_ {A = ℕ} 0 1 = cc in absurd (omega arith)
+  insert-nothing y n (some x ∷ xs) h =
+      ap (λ (l : List (Option A)). some x ∷ l) (insert-nothing y (suc n) xs h)
+
+  pub replace-nothing : (t : A → Bool) (y : Option A) (n : ℕ) (xs : List (Option A)) →
+      indexWhere (holds t) n xs ≡ Nothing →
+      replace t y xs ≡ xs
+  unfolding indexWhere replace
+  replace-nothing t y n [] h = refl
+  replace-nothing t y n (none ∷ xs) h =
+      ap (λ (l : List (Option A)). none ∷ l) (replace-nothing t y (suc n) xs h)
+  replace-nothing t y n (some x ∷ xs) h =
+      let ih = replace-nothing t y (suc n) xs in
+      cases (t x) (λ e. let z : _≡_ {A = ℕ} 0 1 = cc in absurd (omega arith))
+      (λ e. rw (replace, e) (ap (λ (l : List (Option A)). some x ∷ l) (ih (cc))))
 
   pub find-nothing : (t : A → Bool) (n : ℕ) (xs : List (Option A)) → indexWhere (holds t) n xs ≡ Nothing →
       find t xs ≡ none

@@ -1,97 +1,116 @@
--- By the kind. Assumes nothing.
-use mathlib.Core.Path.{_≡_, refl, sym, ap, _∙_}
-use mathlib.Core.Option.{Option, some}
+-- The times, the end and the packet record, one after another: the bytes hold the store that each leaves.
+-- Assumes nothing.
+use mathlib.Core.Path.{_≡_, sym, ap, _∙_}
 use mathlib.Core.List.{List}
-use Prim.Native.Nat.{ℕ}
+use mathlib.Core.Option.{Option, some}
+use Prim.Native.Nat.{ℕ, _^_, _<_}
+use native.Mathlib.Omega.{arith}
+use denote.Ref.{now}
 use borrow.Author.Needs.{needs}
+use Rattle.wire.proofs.PartLaws.{bytes-getD}
 use Rattle.slots.specs.declared.Channel.{Channel}
-use Rattle.datagram.specs.Kind.{Kind, send, receive, write, acknowledge, timeOut, kindNumber, kindOf}
-use Rattle.datagram.proofs.DatagramLaws.{kind-of, by-kind}
-use Rattle.rules.specs.Acceptance.{effectOf, effectFor}
-use Rattle.acceptance.specs.Carried.{Accepts}
-use Rattle.acceptance.proofs.AcceptLaws.{known}
+use Rattle.slots.specs.Table.{isNumbered}
+use Rattle.slots.specs.Layout.{Store, bytesOf, storeIn}
+use Rattle.slots.specs.Effect.{withTimes, withChannelSlot}
+use Rattle.slots.proofs.Laws.{ChannelFields, fit-fields}
+use Rattle.slots.proofs.ScanLaws.{set-replace}
+use Rattle.slots.proofs.SlotTestLaws.{channel-index}
+use Rattle.slots.proofs.HeldLaws.{Held, fit-exact, held-store, held-exact, held-times, held-channel}
+use Rattle.rules.specs.Acceptance.{applied}
+use Rattle.records.specs.Edited.{editBy, slotOf, withEdit}
 use Rattle.acceptance.proofs.carry_out.Statement.{statement}
 use Rattle.acceptance.proofs.carry_out.Tie as tie
 
--- the kind of a number that is known
-of-kind : {s o d : List ℕ} {c : Channel} {x y : Option Kind} → x ≡ y → Accepts s o d x c → Accepts s o d y c
-of-kind e a = record { answer = a .answer; kind = a .kind ∙ e; found = a .found }
+-- what is planned fits its fields
+end-fields : (o : tie.Start) → ChannelFields (o .args .p .decision .end)
+end-fields o =
+    let g = o .good .1 .0 .1 .1 .0 .1 .1 .0 in
+    record {
+      state = omega (arith, g);
+      order = omega (arith, g);
+      own = record { port = omega (arith, g); channel = omega (arith, g) };
+      counterparty = record { port = omega (arith, g); channel = omega (arith, g) };
+      next = record { send = omega (arith, g); receive = omega (arith, g); acknowledge = omega (arith, g) };
+    }
 
-last : (m : tie.At-match-rest) → kindOf (m .before .before .before .before .args .kind) ≡ some timeOut
-last m =
-    let rest = m .match .rest in
-    let o = m .before .before .before .before in
-    by-kind (λ n. (n ≡ 1 → ⊥) → (n ≡ 2 → ⊥) → (n ≡ 3 → ⊥) → (n ≡ 4 → ⊥) → kindOf n ≡ some timeOut) each (o .args .kind)
-    (known (o .pre)) (rest .0 .0 .0 .1) (rest .0 .0 .1) (rest .0 .1) (rest .1)
-  where
-    each : (k : Kind) → (kindNumber k ≡ 1 → ⊥) → (kindNumber k ≡ 2 → ⊥) → (kindNumber k ≡ 3 → ⊥) →
-        (kindNumber k ≡ 4 → ⊥) → kindOf (kindNumber k) ≡ some timeOut
-    each send p q r s = absurd (p refl)
-    each receive p q r s = absurd (q refl)
-    each write p q r s = absurd (r refl)
-    each acknowledge p q r s = absurd (s refl)
-    each timeOut p q r s = kind-of timeOut
+times : (o : tie.Start) → (o .args .p .context .height .0 < 256 ^ 8) × (o .args .p .context .time < 256 ^ 8)
+times o = (omega arith, omega arith)
 
-accept-send-requires : tie.Need-accept-send-requires
-accept-send-requires c κs =
-    let m = c .before .before in
-    of-kind (ap kindOf (m .match .keys1) ∙ kind-of send) (m .before .before .before .before .pre)
+-- THE STORE at the entry, and after each call
+abbrev store : tie.Start → Store
+store o = storeIn (now (o .args .store))
 
-accept-receive-requires : tie.Need-accept-receive-requires
-accept-receive-requires c κs =
-    let m = c .before .before in
-    of-kind (ap kindOf (m .match .keys2) ∙ kind-of receive) (m .before .before .before .before .pre)
+abbrev timed : tie.Start → Store
+timed o = withTimes (store o) (o .args .p .context .height) (o .args .p .context .time)
 
-accept-write-requires : tie.Need-accept-write-requires
-accept-write-requires c κs =
-    let m = c .before .before in
-    of-kind (ap kindOf (m .match .keys3) ∙ kind-of write) (m .before .before .before .before .pre)
+abbrev ended : tie.Start → Store
+ended o = withChannelSlot (timed o) (o .args .p .index) (some (o .args .p .decision .end))
 
-accept-acknowledge-requires : tie.Need-accept-acknowledge-requires
-accept-acknowledge-requires c κs =
-    let m = c .before .before in
-    of-kind (ap kindOf (m .match .keys4) ∙ kind-of acknowledge) (m .before .before .before .before .pre)
+held : (f : tie.After-slice-known) → Held (store (f .before)) (now (f .before .args .store))
+held f =
+    let bs = now (f .before .args .store) in
+    let fit = f .before .pre .0 in
+    record {
+      bytes = sym (fit-exact bs fit .laid);
+      fields = fit-fields bs (bytes-getD bs (λ k. omega (arith, f .slice-known .given k))) fit;
+    }
 
-accept-time-out-requires : tie.Need-accept-time-out-requires
-accept-time-out-requires c κs =
-    let m = c .before .before in
-    of-kind (last m) (m .before .before .before .before .pre)
+abbrev first : tie.After-set-times → tie.After-slice-known
+first t = t .before .before .before
+
+timed-held : (t : tie.After-set-times) → Held (timed (first t .before)) (t .set-times .last .0)
+timed-held t =
+    let o = first t .before in
+    held-times (held (first t)) (t .set-times .last .0) (o .args .p .context .height) (o .args .p .context .time)
+    (times o .0) (times o .1) (t .set-times .ensures)
+
+abbrev second : tie.After-set-channel → tie.After-set-times
+second e = e .before .before .before .before .before
+
+ended-held : (e : tie.After-set-channel) → Held (ended (first (second e) .before)) (e .set-channel .last .0)
+ended-held e =
+    let o = first (second e) .before in
+    let p = o .args .p in
+    held-channel (timed-held (second e)) (e .set-channel .last .0) (p .index) (some (p .decision .end))
+    (end-fields o, tt) (e .set-channel .ensures)
+
+set-channel-requires : tie.Need-set-channel-requires
+set-channel-requires c κs =
+    let t = c .before .before .before .before in
+    let o = first t .before in
+    (held-exact (timed-held t), channel-index (o .args .p .index) (now (o .args .store)) _ (o .pre .1 .end))
+
+edit-records-requires : tie.Need-edit-records-requires
+edit-records-requires c κs =
+    let e = c .before .before .before .before in
+    let p = first (second e) .before .args .p in
+    let h = ended-held e in (
+      held-exact h,
+      first (second e) .before .pre .1 .edit ∙
+          ap (λ (s : Store). slotOf (editBy (p .decision .edit)) (s .records)) (sym (held-store h)),
+    )
 
 returns : tie.Need-returns
-unfolding effectFor effectOf
+unfolding applied
 returns c =
-    let call = c .before .before .before .before in
-    rw (call .before .before .before .match .keys1, kind-of send) (call .accept-send .ensures)
-
-returns-2 : tie.Need-returns-2
-unfolding effectFor effectOf
-returns-2 c =
-    let call = c .before .before .before .before in
-    rw (call .before .before .before .match .keys2, kind-of receive) (call .accept-receive .ensures)
-
-returns-3 : tie.Need-returns-3
-unfolding effectFor effectOf
-returns-3 c =
-    let call = c .before .before .before .before in
-    rw (call .before .before .before .match .keys3, kind-of write) (call .accept-write .ensures)
-
-returns-4 : tie.Need-returns-4
-unfolding effectFor effectOf
-returns-4 c =
-    let call = c .before .before .before .before in
-    rw (call .before .before .before .match .keys4, kind-of acknowledge) (call .accept-acknowledge .ensures)
-
-returns-5 : tie.Need-returns-5
-unfolding effectFor effectOf
-returns-5 c =
-    let call = c .before .before .before .before in
-    rw (last (call .before .before .before)) (call .accept-time-out .ensures)
+    let w = c .before .before in
+    let e = w .before .before .before .before .before in
+    let o = first (second e) .before in
+    let p = o .args .p in
+    let end = p .decision .end in
+    let set = set-replace (isNumbered (end .own .channel)) (some end) (p .index) (store o .channels) (o .pre .1 .end) in
+    w .edit-records .ensures ∙
+    ap (λ (s : Store). bytesOf (withEdit s (editBy (p .decision .edit)))) (held-store (ended-held e)) ∙
+    ap (λ (cs : List (Option Channel)). bytesOf (withEdit (record {
+      height = p .context .height;
+      time = p .context .time;
+      channels = cs;
+      records = store o .records;
+    }) (editBy (p .decision .edit)))) set
 
 pub carry-out-spec : {M : Type 1} → statement M
 carry-out-spec =
     tie.close
     (tie.spec
-    accept-send-requires accept-receive-requires accept-write-requires accept-acknowledge-requires
-    accept-time-out-requires (λ c. search needs) (λ c. search needs) returns (λ c. search needs) (λ c. search needs)
-    returns-2 (λ c. search needs) (λ c. search needs) returns-3 (λ c. search needs) (λ c. search needs) returns-4
-    (λ c. search needs) (λ c. search needs) returns-5)
+    (λ c κs. fit-exact (now (c .before .before .before .args .store)) (c .before .before .before .pre .0))
+    set-channel-requires edit-records-requires (λ c. search needs) returns)

@@ -1,8 +1,8 @@
 -- Field by field. Assumes nothing.
 use borrow.Author.Needs.{needs}
 use Rattle.rules.specs.Acceptance.{commitment}
-use Rattle.acceptance.proofs.commitment_of.Statement.{statement}
-use Rattle.acceptance.proofs.commitment_of.Tie as tie
+use Rattle.effects.proofs.commitment_of.Statement.{statement}
+use Rattle.effects.proofs.commitment_of.Tie as tie
 
 returns : tie.Need-returns
 unfolding commitment

@@ -1,0 +1,21 @@
+-- The packet, its receipt, and the end that counts it. Assumes nothing.
+use native.Mathlib.Omega.{arith}
+use borrow.Author.Needs.{needs}
+use Rattle.datagram.specs.Kind.{body, partsSize, sizeBefore}
+use Rattle.datagram.specs.Datagram.{packetFrom}
+use Rattle.rules.specs.Acceptance.{receives, effectOf}
+use Rattle.effects.proofs.decide_receive.Statement.{statement}
+use Rattle.effects.proofs.decide_receive.Tie as tie
+
+packet-in-requires : tie.Need-packet-in-requires
+unfolding body partsSize
+packet-in-requires c κs = omega (arith, c .before .pre .0)
+
+returns : tie.Need-returns
+unfolding effectOf receives packetFrom body sizeBefore
+returns c =
+    rw (c .received-end .ensures, c .before .received-edit .ensures, c .before .before .packet-in .ensures)
+
+pub decide-receive-spec : {M : Type 1} → statement M
+decide-receive-spec =
+    tie.close (tie.spec packet-in-requires (λ c κs. search needs) (λ c κs. search needs) returns)

@@ -1,0 +1,193 @@
+// What acceptance does, decided by reads alone: for each kind of datagram the end that is left, the edit of the packet
+// records, and the record that is emitted. A new kind is one more such function, and a line of `decide`.
+use datagram::Packet;
+use datagram::read::digest_in;
+use datagram::read::packet_in;
+use datagram::read::sequence_in;
+use datagram::read::timeout_in;
+use emit::Emission;
+use emit::Form;
+use ends::acknowledged_end;
+use ends::received_end;
+use ends::sent_end;
+use ends::timed_out_end;
+use records::Deed;
+use records::RecordEdit;
+use records::freed_commitment;
+use records::plain_record;
+use records::received_edit;
+use slots::Channel;
+use slots::Record;
+use slots::Timeout;
+ghost use mathlib.Core.Path.{_≡_};
+ghost use mathlib.Core.Bool.{true, false};
+ghost use mathlib.Core.Option.{some};
+ghost use Prim.Native.Nat.{_≤_};
+ghost use lib.ListN.{length};
+ghost use Rattle.wire.specs.Choice.{isSome};
+ghost use Rattle.datagram.specs.Kind.{send, receive, write, acknowledge, timeOut, kindOf, sizeOf};
+ghost use Rattle.datagram.specs.Datagram.{datagramOf};
+ghost use Rattle.rules.specs.Ordering.{isSendAtTop, isReceiveAtTop, isAcknowledgeAtTop};
+ghost use Rattle.rules.specs.Acceptance.{sentPacket, commitment, effectOf, effectFor};
+ghost use Rattle.effects.specs.Decided.{effectBy, isCounterAtTop};
+
+pub struct Decision {
+    pub end: Channel,
+    pub edit: RecordEdit,
+    pub emission: Emission,
+}
+
+// The packet that a send makes: its sequence is next send, and its ends are the channel's.
+fn sent_packet(d: &[u8], c: Channel) -> Packet
+    requires { ⌜ sizeOf (some send) ≤ length (now d) ⌝ }
+    ensures { λ r. ⌜ r ≡ sentPacket c (datagramOf (some send) (now (d .entry))) ⌝ }
+{
+    let timeout = timeout_in(d);
+    let digest = digest_in(d, 1);
+    let source = c.own;
+    let destination = c.counterparty;
+    Packet {
+        sequence: c.next.send,
+        timeout: timeout,
+        source: source,
+        destination: destination,
+        digest: digest,
+    }
+}
+
+fn commitment_of(p: Packet) -> Record
+    ensures { λ r. ⌜ r ≡ commitment p ⌝ }
+{
+    let timeout = p.timeout;
+    let digest = p.digest;
+    Record {
+        kind: 1,
+        channel: p.source.channel,
+        sequence: p.sequence,
+        timeout: timeout,
+        digest: digest,
+    }
+}
+
+fn decide_send(d: &[u8], c: Channel) -> Decision
+    requires { ⌜ (sizeOf (some send) ≤ length (now d)) × (isSendAtTop c ≡ false) ⌝ }
+    ensures { λ r. ⌜ effectBy r ≡ effectOf send c (datagramOf (some send) (now (d .entry))) ⌝ }
+{
+    let packet = sent_packet(d, c);
+    let committed = commitment_of(packet);
+    let end = sent_end(c);
+    Decision {
+        end: end,
+        edit: RecordEdit {
+            deed: Deed::Writes,
+            about: committed,
+        },
+        emission: Emission {
+            form: Form::PacketOnly(0x0101),
+            packet: packet,
+            digest: [0; 32],
+        },
+    }
+}
+
+fn decide_receive(d: &[u8], c: Channel) -> Decision
+    requires { ⌜ (sizeOf (some receive) ≤ length (now d)) × (isReceiveAtTop c ≡ false) ⌝ }
+    ensures { λ r. ⌜ effectBy r ≡ effectOf receive c (datagramOf (some receive) (now (d .entry))) ⌝ }
+{
+    let packet = packet_in(d);
+    let edit = received_edit(c, packet.sequence);
+    let end = received_end(c);
+    Decision {
+        end: end,
+        edit: edit,
+        emission: Emission {
+            form: Form::PacketOnly(0x0102),
+            packet: packet,
+            digest: [0; 32],
+        },
+    }
+}
+
+// Of the packet that is acknowledged the channel end tells the ends, and the datagram the sequence.
+fn decide_write(d: &[u8], c: Channel) -> Decision
+    requires { ⌜ sizeOf (some write) ≤ length (now d) ⌝ }
+    ensures { λ r. ⌜ effectBy r ≡ effectOf write c (datagramOf (some write) (now (d .entry))) ⌝ }
+{
+    let sequence = sequence_in(d);
+    let digest = digest_in(d, 3);
+    let written = plain_record(3, c.own.channel, sequence, digest);
+    let source = c.counterparty;
+    let destination = c.own;
+    Decision {
+        end: c,
+        edit: RecordEdit {
+            deed: Deed::Writes,
+            about: written,
+        },
+        emission: Emission {
+            form: Form::Written,
+            packet: Packet {
+                sequence: sequence,
+                timeout: Timeout { height: 0, time: 0 },
+                source: source,
+                destination: destination,
+                digest: [0; 32],
+            },
+            digest: digest,
+        },
+    }
+}
+
+fn decide_acknowledge(d: &[u8], c: Channel) -> Decision
+    requires { ⌜ (sizeOf (some acknowledge) ≤ length (now d)) × (isAcknowledgeAtTop c ≡ false) ⌝ }
+    ensures { λ r. ⌜ effectBy r ≡ effectOf acknowledge c (datagramOf (some acknowledge) (now (d .entry))) ⌝ }
+{
+    let packet = packet_in(d);
+    let digest = digest_in(d, 4);
+    let edit = freed_commitment(c, packet.sequence);
+    let end = acknowledged_end(c);
+    Decision {
+        end: end,
+        edit: edit,
+        emission: Emission {
+            form: Form::Acknowledged,
+            packet: packet,
+            digest: digest,
+        },
+    }
+}
+
+fn decide_time_out(d: &[u8], c: Channel) -> Decision
+    requires { ⌜ sizeOf (some timeOut) ≤ length (now d) ⌝ }
+    ensures { λ r. ⌜ effectBy r ≡ effectOf timeOut c (datagramOf (some timeOut) (now (d .entry))) ⌝ }
+{
+    let packet = packet_in(d);
+    let edit = freed_commitment(c, packet.sequence);
+    let end = timed_out_end(c);
+    Decision {
+        end: end,
+        edit: edit,
+        emission: Emission {
+            form: Form::PacketOnly(0x0105),
+            packet: packet,
+            digest: [0; 32],
+        },
+    }
+}
+
+// An accepted datagram's kind is known, and the counter that it raises is below its top.
+pub fn decide(d: &[u8], kind: u16, c: Channel) -> Decision
+    requires { ⌜
+        (isSome (kindOf kind) ≡ true) × (sizeOf (kindOf kind) ≤ length (now d)) ×
+        (isCounterAtTop (kindOf kind) c ≡ false)
+        ⌝ }
+    ensures { λ r. ⌜ effectBy r ≡ effectFor (kindOf kind) c (datagramOf (kindOf kind) (now (d .entry))) ⌝ }
+{
+    match kind {
+        1 => decide_send(d, c),
+        2 => decide_receive(d, c),
+        3 => decide_write(d, c),
+        4 => decide_acknowledge(d, c),
+        _ => decide_time_out(d, c),
+    }
+}

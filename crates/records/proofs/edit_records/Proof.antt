@@ -1,0 +1,90 @@
+-- The slot that the edit is on is written or becomes free; where it is on none, all stay. Assumes nothing.
+use mathlib.Core.Path.{_≡_, sym, ap, _∙_}
+use mathlib.Core.List.{List}
+use mathlib.Core.Option.{Option}
+use Prim.Native.Nat.{ℕ}
+use denote.Ref.{now}
+use borrow.Author.Needs.{needs}
+use Rattle.slots.specs.declared.Record.{Record}
+use Rattle.slots.specs.declared.Found.the-variants.{At}
+use Rattle.slots.specs.Table.{hasKey, keyOf}
+use Rattle.slots.specs.Layout.{Store, bytesOf, storeIn}
+use Rattle.slots.specs.Scan.{isFree, holds}
+use Rattle.slots.proofs.ScanLaws.{found-below}
+use Rattle.rules.specs.Acceptance.{edited}
+use Rattle.records.specs.declared.Deed.{Deed}
+use Rattle.records.specs.Edited.{editOf, editBy, slotOf, withRecords, withEdit}
+use Rattle.records.proofs.EditLaws.{written, freed, unedited}
+use Rattle.records.proofs.edit_records.Statement.{statement}
+use Rattle.records.proofs.edit_records.Tie as tie
+
+abbrev held : tie.Start → Store
+held o = storeIn (now (o .args .store))
+
+-- what is left by an edit of another deed
+abbrev leftBy : tie.Start → Deed → List ℕ
+leftBy o x = bytesOf (withEdit (held o) (editOf x (o .args .e .about)))
+
+returns : tie.Need-returns
+returns c =
+    let o = c .before .before .before in
+    let none = unedited (editBy (o .args .e)) (held o .records) (sym (o .pre .1) ∙ c .enum-told .given .1) in
+    sym (ap (λ (rs : List (Option Record)). bytesOf (withRecords (held o) rs)) none ∙ o .pre .0 .laid)
+
+-- the index that the scan found, for the edit of a deed
+abbrev start : tie.After-known-told → tie.Start
+start f = f .before .before .before .before
+
+abbrev index : tie.After-known-told → ℕ
+index f = f .before .at .given .0 .0
+
+found : (f : tie.After-known-told) (x : Deed) → start f .args .e .deed ≡ x →
+    slotOf (editOf x (start f .args .e .about)) (held (start f) .records) ≡ At (index f)
+found f x q =
+    let o = start f in
+    ap (λ (y : Deed). slotOf (editOf y (o .args .e .about)) (held o .records)) (sym q) ∙ sym (o .pre .1) ∙
+    f .before .at .given .1
+
+insert-record-requires : tie.Need-insert-record-requires
+insert-record-requires c κs =
+    let f = c .before .before .before .before in
+    let told = c .before .enum-told3 .given .1 in
+    (start f .pre .0, found-below isFree (index f) (held (start f) .records) (found f _ told))
+
+remove-record-requires : tie.Need-remove-record-requires
+remove-record-requires c κs =
+    let f = c .before .before .before .before in
+    let told = c .before .enum-told4 .given .1 in
+    let key = keyOf (start f .args .e .about) in
+    (start f .pre .0, found-below (holds (hasKey key)) (index f) (held (start f) .records) (found f _ told))
+
+returns-2 : tie.Need-returns-2
+unfolding edited
+returns-2 c =
+    let o = start (c .before .before .before) in
+    sym (ap (leftBy o) (c .enum-told2 .given .1) ∙ o .pre .0 .laid)
+
+returns-3 : tie.Need-returns-3
+returns-3 c =
+    let call = c .before .before in
+    let told = call .before .before .enum-told3 .given .1 in
+    let f = call .before .before .before .before .before in
+    let o = start f in
+    call .insert-record .ensures ∙ written (held o) (index f) (o .args .e .about) (found f _ told) ∙
+    ap (leftBy o) (sym told)
+
+returns-4 : tie.Need-returns-4
+returns-4 c =
+    let call = c .before .before in
+    let told = call .before .before .enum-told4 .given .1 in
+    let f = call .before .before .before .before .before in
+    let o = start f in
+    call .remove-record .ensures ∙ freed (held o) (index f) (keyOf (o .args .e .about)) (found f _ told) ∙
+    ap (leftBy o) (sym told)
+
+pub edit-records-spec : {M : Type 1} → statement M
+edit-records-spec =
+    tie.close
+    (tie.spec
+    (λ c. search needs) (λ c. search needs) returns (λ c. search needs) (λ c. search needs) insert-record-requires
+    (λ c. search needs) remove-record-requires returns-2 (λ c. search needs) returns-3 (λ c. search needs) returns-4)
