@@ -4,7 +4,7 @@ use Rattle.wire.proofs.Prelude.{none, _+_, _^_, _≤_, _<_, arith, eqb, length,
 use Rattle.wire.specs.Names.{_or_, isSome, withNumber, Bytes, digestSize}
 use Rattle.wire.proofs.Laws.{and-both, or-either, clash, cases, none-if, some-if, some-is, with-number, same-number, field-below}
 use Rattle.wire.proofs.Laws.{length-part, bytes-part}
-use Rattle.slots.proofs.Laws.{EndFields, TimeoutFields}
+use Rattle.slots.proofs.Laws.{PortChannelFields, TimeoutFields}
 use Rattle.datagram.specs.declared.Packet.{Packet}
 use Rattle.datagram.specs.Names.{Kind, send, receive, write, acknowledge, timeOut, kinds, kindNumber, kindOf}
 use Rattle.datagram.specs.Names.{isKind, isOf, packetSize, sizeOf, isSound, kindIn, contextIn}
@@ -145,8 +145,8 @@ sound-is d h =
 pub record PacketFields (p : Packet) : Type 0 where
   pub sequence : p .sequence < 256 ^ 8
   pub timeout : TimeoutFields (p .timeout)
-  pub source : EndFields (p .source)
-  pub destination : EndFields (p .destination)
+  pub source : PortChannelFields (p .source)
+  pub destination : PortChannelFields (p .destination)
   pub size : length (p .digest) ≡ digestSize
   pub bytes : Bytes (p .digest)
 

@@ -9,7 +9,7 @@ use Rattle.wire.specs.Choice.{_and_, isSome, isIn}
 use Rattle.wire.specs.Bytes.{areZero, part, field, digestSize}
 use Rattle.slots.specs.declared.Timeout.{Timeout}
 use Rattle.slots.specs.Height.{ownHeight, otherHeight}
-use Rattle.slots.specs.Part.{endIn, timeoutIn}
+use Rattle.slots.specs.Part.{portChannelIn, timeoutIn}
 use Rattle.datagram.specs.declared.Context.{Context}
 use Rattle.datagram.specs.declared.Packet.{Packet}
 use Rattle.datagram.specs.declared.Verdict.{Verdict}
@@ -38,8 +38,8 @@ packetIn i d =
     record {
       sequence = field i 8 d;
       timeout = timeoutIn (i + 8) d;
-      source = endIn (i + 24) d;
-      destination = endIn (i + 30) d;
+      source = portChannelIn (i + 24) d;
+      destination = portChannelIn (i + 30) d;
       digest = part (i + 36) digestSize d;
     }
 
@@ -49,7 +49,7 @@ verdictIn i d =
       claim = field i 2 d;
       height = otherHeight (field (i + 2) 8 d);
       time = field (i + 10) 8 d;
-      end = endIn (i + 18) d;
+      about = portChannelIn (i + 18) d;
       sequence = field (i + 24) 8 d;
       timeout = timeoutIn (i + 32) d;
       digest = part (i + 48) digestSize d;

@@ -1,9 +1,9 @@
 // Datagrams and the records that are handed out, in lent bytes. Their types; specs/ says what they mean.
 pub mod read;
 
-use slots::End;
 use slots::OtherHeight;
 use slots::OwnHeight;
+use slots::PortChannel;
 use slots::Timeout;
 
 // What the host says of the call: this ledger's height and time, the client's latest height of the other ledger,
@@ -19,8 +19,8 @@ pub struct Context {
 pub struct Packet {
     pub sequence: u64,
     pub timeout: Timeout,
-    pub source: End,
-    pub destination: End,
+    pub source: PortChannel,
+    pub destination: PortChannel,
     pub digest: [u8; 32],
 }
 
@@ -30,7 +30,7 @@ pub struct Verdict {
     pub claim: u16,
     pub height: OtherHeight,
     pub time: u64,
-    pub end: End,
+    pub about: PortChannel,
     pub sequence: u64,
     pub timeout: Timeout,
     pub digest: [u8; 32],

@@ -6,7 +6,7 @@ use super::Verdict;
 use slots::OtherHeight;
 use slots::OwnHeight;
 use slots::Timeout;
-use slots::part::end_at;
+use slots::part::port_channel_at;
 use slots::part::timeout_at;
 use wire::DIGEST;
 use wire::FRAME;
@@ -54,8 +54,8 @@ fn packet_at(d: &[u8], at: usize) -> Packet
     Packet {
         sequence: u64_at(d, at),
         timeout: timeout_at(d, at + 8),
-        source: end_at(d, at + 24),
-        destination: end_at(d, at + 30),
+        source: port_channel_at(d, at + 24),
+        destination: port_channel_at(d, at + 30),
         digest: digest_at(d, at + 36),
     }
 }
@@ -68,7 +68,7 @@ fn verdict_at(d: &[u8], at: usize) -> Verdict
         claim: u16_at(d, at),
         height: OtherHeight(u64_at(d, at + 2)),
         time: u64_at(d, at + 10),
-        end: end_at(d, at + 18),
+        about: port_channel_at(d, at + 18),
         sequence: u64_at(d, at + 24),
         timeout: timeout_at(d, at + 32),
         digest: digest_at(d, at + 48),

@@ -5,8 +5,11 @@ use datagram::read::digest_in;
 use datagram::read::packet_in;
 use datagram::read::sequence_in;
 use datagram::read::timeout_in;
+use emit::DELIVERED;
 use emit::Emission;
 use emit::Form;
+use emit::SENT;
+use emit::TIMED_OUT;
 use ends::acknowledged_end;
 use ends::received_end;
 use ends::sent_end;
@@ -61,7 +64,7 @@ fn commitment_of(p: Packet) -> Record
     let timeout = p.timeout;
     let digest = p.digest;
     Record {
-        kind: 1,
+        kind: Record::COMMITMENT,
         channel: p.source.channel,
         sequence: p.sequence,
         timeout: timeout,
@@ -83,7 +86,7 @@ fn decide_send(d: &[u8], c: Channel) -> Decision
             about: committed,
         },
         emission: Emission {
-            form: Form::PacketOnly(0x0101),
+            form: Form::PacketOnly(SENT),
             packet: packet,
             digest: [0; 32],
         },
@@ -101,7 +104,7 @@ fn decide_receive(d: &[u8], c: Channel) -> Decision
         end: end,
         edit: edit,
         emission: Emission {
-            form: Form::PacketOnly(0x0102),
+            form: Form::PacketOnly(DELIVERED),
             packet: packet,
             digest: [0; 32],
         },
@@ -115,7 +118,7 @@ fn decide_write(d: &[u8], c: Channel) -> Decision
 {
     let sequence = sequence_in(d);
     let digest = digest_in(d, 3);
-    let written = plain_record(3, c.own.channel, sequence, digest);
+    let written = plain_record(Record::ACKNOWLEDGEMENT, c.own.channel, sequence, digest);
     let source = c.counterparty;
     let destination = c.own;
     Decision {
@@ -168,7 +171,7 @@ fn decide_time_out(d: &[u8], c: Channel) -> Decision
         end: end,
         edit: edit,
         emission: Emission {
-            form: Form::PacketOnly(0x0105),
+            form: Form::PacketOnly(TIMED_OUT),
             packet: packet,
             digest: [0; 32],
         },

@@ -12,7 +12,7 @@ use Rattle.wire.proofs.PatchLaws.{patch-append, patch-then, patch-front}
 use Rattle.datagram.specs.declared.Packet.{Packet}
 use Rattle.wire.specs.Frame.{frameSize}
 use Rattle.datagram.specs.Emitted.{framed, packetBytes}
-use Rattle.emit.specs.Output.{atFront, endBytes}
+use Rattle.emit.specs.Output.{atFront, portChannelBytes}
 
 -- what is stored from the first place on stands at the front, and the bytes behind it stay
 pub patch-start : (xs bs : List ℕ) → length xs ≤ length bs → patch 0 xs bs ≡ atFront xs bs
@@ -42,8 +42,8 @@ emitted k n xs bs {mid} {all} l h head body =
 pub patch-packet : (at : ℕ) (p : Packet) (bs : List ℕ) →
     patch at (packetBytes p) bs
     ≡ patch (at + 36) (p .digest)
-    (patch (at + 30) (endBytes (p .destination))
-    (patch (at + 24) (endBytes (p .source))
+    (patch (at + 30) (portChannelBytes (p .destination))
+    (patch (at + 24) (portChannelBytes (p .source))
     (patch at (little 8 (p .sequence) ++ little 8 (p .timeout .height) ++ little 8 (p .timeout .time)) bs)))
 unfolding packetBytes
 patch-packet at p bs = simp (patch-append, length-append, length-little, add-assoc)

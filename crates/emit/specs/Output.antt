@@ -3,7 +3,7 @@ use mathlib.Core.List.{List, _++_}
 use Prim.Native.Nat.{ℕ}
 use lib.ListN.{length, drop}
 use Rattle.wire.specs.Bytes.{little}
-use Rattle.slots.specs.declared.End.{End}
+use Rattle.slots.specs.declared.PortChannel.{PortChannel}
 use Rattle.datagram.specs.declared.Packet.{Packet}
 use Rattle.emit.specs.declared.Form.{Form}
 use Rattle.emit.specs.declared.Form.the-variants.{PacketOnly, Written, Acknowledged}
@@ -13,15 +13,15 @@ use Rattle.datagram.specs.Emitted.{writtenKind, acknowledgedKind, framed, packe
 abbrev pub atFront : (emitted output : List ℕ) → List ℕ
 atFront e o = e ++ drop (length e) o
 
-abbrev pub endBytes : End → List ℕ
-endBytes e = little 2 (e .port) ++ little 4 (e .channel)
+abbrev pub portChannelBytes : PortChannel → List ℕ
+portChannelBytes e = little 2 (e .port) ++ little 4 (e .channel)
 
 -- THE RECORDS: a packet (0x0101, 0x0102 and 0x0105), a written acknowledgement, and an acknowledged packet
 abbrev pub packetRecord : (kind : ℕ) → Packet → List ℕ
 packetRecord k p = framed k (packetBytes p)
 
-abbrev pub writtenRecord : End → (sequence : ℕ) → (digest : List ℕ) → List ℕ
-writtenRecord e n a = framed writtenKind (endBytes e ++ little 8 n ++ a)
+abbrev pub writtenRecord : PortChannel → (sequence : ℕ) → (digest : List ℕ) → List ℕ
+writtenRecord e n a = framed writtenKind (portChannelBytes e ++ little 8 n ++ a)
 
 abbrev pub acknowledgedRecord : Packet → (digest : List ℕ) → List ℕ
 acknowledgedRecord p a = framed acknowledgedKind (packetBytes p ++ a)

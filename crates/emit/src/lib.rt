@@ -1,7 +1,7 @@
 // The records that are handed out, written at the front of the lent output. Each writer returns the record's length.
 use datagram::Packet;
 use datagram::read::PACKET;
-use slots::part::put_end;
+use slots::part::put_port_channel;
 use wire::DIGEST;
 use wire::FRAME;
 use wire::put_digest;
@@ -17,12 +17,23 @@ ghost use Rattle.datagram.specs.Kind.{packetSize};
 ghost use Rattle.datagram.specs.Emitted.{packetBytes};
 ghost use Rattle.emit.specs.Output.{atFront, packetRecord, writtenRecord, acknowledgedRecord, emittedBy};
 
-// The records by their whole lengths: a packet; an end, a sequence and a digest; a packet and a digest.
-const WITH_PACKET: u32 = (FRAME + PACKET) as u32;
+// The records by their whole lengths: a packet; a port, a channel, a sequence and a digest; a packet and a digest.
+const PACKET_SIZE: u32 = (FRAME + PACKET) as u32;
 
-const WRITTEN: u32 = (FRAME + 14 + DIGEST) as u32;
+const WRITTEN_SIZE: u32 = (FRAME + 14 + DIGEST) as u32;
 
-const ACKNOWLEDGED: u32 = (FRAME + PACKET + DIGEST) as u32;
+const ACKNOWLEDGED_SIZE: u32 = (FRAME + PACKET + DIGEST) as u32;
+
+// The kinds of the records.
+pub const SENT: u16 = 0x0101;
+
+pub const DELIVERED: u16 = 0x0102;
+
+const WRITTEN: u16 = 0x0103;
+
+const ACKNOWLEDGED: u16 = 0x0104;
+
+pub const TIMED_OUT: u16 = 0x0105;
 
 // What is emitted: a packet alone under one of its kinds, a written acknowledgement, an acknowledged packet.
 pub enum Form {
@@ -43,8 +54,8 @@ fn put_packet(out: &mut [u8], at: usize, p: Packet)
     ensures { λ _. ⌜ now (out .exit) ≡ patch at (packetBytes p) (now (out .entry)) ⌝ }
 {
     put_three(out, at, p.sequence, p.timeout.height, p.timeout.time);
-    put_end(out, at + 24, p.source.port, p.source.channel);
-    put_end(out, at + 30, p.destination.port, p.destination.channel);
+    put_port_channel(out, at + 24, p.source.port, p.source.channel);
+    put_port_channel(out, at + 30, p.destination.port, p.destination.channel);
     let digest = p.digest;
     put_digest(out, at + 36, digest);
 }
@@ -54,9 +65,9 @@ fn emit_packet(out: &mut [u8], kind: u16, p: Packet) -> u32
     ensures output { λ _. ⌜ now (out .exit) ≡ atFront (packetRecord kind p) (now (out .entry)) ⌝ }
     ensures size { λ r. ⌜ r ≡ length (packetRecord kind p) ⌝ }
 {
-    put_frame(out, WITH_PACKET, kind);
+    put_frame(out, PACKET_SIZE, kind);
     put_packet(out, FRAME, p);
-    WITH_PACKET
+    PACKET_SIZE
 }
 
 // The acknowledgement of a packet, by its destination and its sequence.
@@ -67,11 +78,11 @@ fn emit_written(out: &mut [u8], p: Packet, digest: [u8; 32]) -> u32
         ⌝ }
     ensures size { λ r. ⌜ r ≡ length (writtenRecord (p .destination) (p .sequence) digest) ⌝ }
 {
-    put_frame(out, WRITTEN, 0x0103);
-    put_end(out, FRAME, p.destination.port, p.destination.channel);
+    put_frame(out, WRITTEN_SIZE, WRITTEN);
+    put_port_channel(out, FRAME, p.destination.port, p.destination.channel);
     put_u64(out, FRAME + 6, p.sequence);
     put_digest(out, FRAME + 14, digest);
-    WRITTEN
+    WRITTEN_SIZE
 }
 
 fn emit_acknowledged(out: &mut [u8], p: Packet, digest: [u8; 32]) -> u32
@@ -79,10 +90,10 @@ fn emit_acknowledged(out: &mut [u8], p: Packet, digest: [u8; 32]) -> u32
     ensures output { λ _. ⌜ now (out .exit) ≡ atFront (acknowledgedRecord p digest) (now (out .entry)) ⌝ }
     ensures size { λ r. ⌜ r ≡ length (acknowledgedRecord p digest) ⌝ }
 {
-    put_frame(out, ACKNOWLEDGED, 0x0104);
+    put_frame(out, ACKNOWLEDGED_SIZE, ACKNOWLEDGED);
     put_packet(out, FRAME, p);
     put_digest(out, FRAME + PACKET, digest);
-    ACKNOWLEDGED
+    ACKNOWLEDGED_SIZE
 }
 
 pub fn emit_record(out: &mut [u8], e: Emission) -> u32

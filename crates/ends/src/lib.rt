@@ -86,7 +86,7 @@ pub fn timed_out_end(c: Channel) -> Channel
     let counterparty = c.counterparty;
     let next = c.next;
     Channel {
-        state: 4,
+        state: Channel::CLOSED,
         order: c.order,
         own: own,
         counterparty: counterparty,

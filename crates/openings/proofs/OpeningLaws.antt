@@ -14,10 +14,10 @@ use Rattle.wire.specs.Bytes.{part, field, patch}
 use Rattle.wire.proofs.BytesLaws.{length-pieces, pieces-turn, pieces-end}
 use Rattle.wire.proofs.PartLaws.{field-one, field-part}
 use Rattle.wire.proofs.PatchLaws.{patch-then}
-use Rattle.slots.specs.declared.End.{End}
+use Rattle.slots.specs.declared.PortChannel.{PortChannel}
 use Rattle.slots.specs.Codes.{stateOpen, isOrder}
 use Rattle.slots.specs.Table.{find, distinct, isNumbered, sameNumber, channelAt}
-use Rattle.slots.specs.Part.{endIn}
+use Rattle.slots.specs.Part.{portChannelIn}
 use Rattle.slots.specs.Layout.{slotSize, channelBytes, slotBytes, tableBytes}
 use Rattle.openings.specs.Opening.{openingSize, openingKind, openingsIn, openingFits, allOpeningsFit}
 use Rattle.openings.specs.Opening.{openingOf, endsOf}
@@ -50,7 +50,7 @@ module _ (at : ℕ) (bs : List ℕ) (room : at + openingSize ≤ length bs) wher
         byte-part 19 at openingSize 1 bs (omega arith) room,
       )
 
-  pub opening-read : {x : ℕ} {e f : End} → x ≡ field (at + 18) 1 bs → e ≡ endIn (at + 6) bs → f ≡ endIn (at + 12) bs →
+  pub opening-read : {x : ℕ} {e f : PortChannel} → x ≡ field (at + 18) 1 bs → e ≡ portChannelIn (at + 6) bs → f ≡ portChannelIn (at + 12) bs →
       record {
         state = stateOpen;
         order = x;

@@ -9,7 +9,7 @@ use Rattle.wire.specs.Choice.{_and_}
 use Rattle.wire.specs.Bytes.{field, pieces}
 use Rattle.slots.specs.declared.Channel.{Channel}
 use Rattle.slots.specs.Codes.{stateOpen, isOrder}
-use Rattle.slots.specs.Part.{endIn}
+use Rattle.slots.specs.Part.{portChannelIn}
 
 abbrev pub openingSize : ℕ
 openingSize = 20
@@ -35,8 +35,8 @@ openingOf o =
     record {
       state = stateOpen;
       order = getD o 18 0;
-      own = endIn 6 o;
-      counterparty = endIn 12 o;
+      own = portChannelIn 6 o;
+      counterparty = portChannelIn 12 o;
       next = record { send = 1; receive = 1; acknowledge = 1 };
     }
 

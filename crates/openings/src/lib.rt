@@ -2,7 +2,7 @@
 // open.
 use slots::Channel;
 use slots::Counters;
-use slots::part::end_at;
+use slots::part::port_channel_at;
 use wire::u8_at;
 use wire::u16_at;
 use wire::u32_at;
@@ -89,8 +89,8 @@ pub fn opening_at(openings: &[u8], at: usize) -> Channel
     Channel {
         state: Channel::OPEN,
         order: u8_at(openings, at + 18),
-        own: end_at(openings, at + 6),
-        counterparty: end_at(openings, at + 12),
+        own: port_channel_at(openings, at + 6),
+        counterparty: port_channel_at(openings, at + 12),
         next: Counters {
             send: 1,
             receive: 1,

@@ -4,8 +4,8 @@ use datagram::Context;
 use datagram::Packet;
 use heights::same_timeout;
 use slots::Channel;
-use slots::End;
 use slots::Found;
+use slots::PortChannel;
 use slots::Record;
 use slots::Timeout;
 use slots::slot::record_at;
@@ -18,13 +18,13 @@ ghost use mathlib.Core.Path.{_≡_};
 ghost use mathlib.Core.Bool.{not};
 ghost use mathlib.Core.Option.{some};
 ghost use lib.ListN.{length};
-ghost use Rattle.slots.specs.Table.{sameEnd, hasFree};
+ghost use Rattle.slots.specs.Table.{samePortChannel, hasFree};
 ghost use Rattle.slots.specs.Layout.{sizeFor, storeIn};
 ghost use Rattle.rules.specs.Verdict.{hasValues};
 ghost use Rattle.rules.specs.Refusals.{fitsDestination, fitsSource, isCommitted};
 
-fn same_end(a: End, b: End) -> bool
-    ensures { λ r. ⌜ r ≡ sameEnd a b ⌝ }
+fn same_port_channel(a: PortChannel, b: PortChannel) -> bool
+    ensures { λ r. ⌜ r ≡ samePortChannel a b ⌝ }
 {
     if a.port != b.port {
         return false;
@@ -48,7 +48,7 @@ pub fn fits_destination(c: Channel, p: Packet) -> bool
     }
     let source = p.source;
     let counterparty = c.counterparty;
-    same_end(source, counterparty)
+    same_port_channel(source, counterparty)
 }
 
 // 9, for 4 and 5: the end is the packet's source.
@@ -60,7 +60,7 @@ pub fn fits_source(c: Channel, p: Packet) -> bool
     }
     let destination = p.destination;
     let counterparty = c.counterparty;
-    same_end(destination, counterparty)
+    same_port_channel(destination, counterparty)
 }
 
 // 20: a packet record is free.

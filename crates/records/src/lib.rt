@@ -45,7 +45,7 @@ pub fn plain_record(kind: u16, channel: u32, sequence: u64, digest: [u8; 32]) ->
 pub fn received_edit(c: Channel, sequence: u64) -> RecordEdit
     ensures { λ r. ⌜ editBy r ≡ receivedEdit c sequence ⌝ }
 {
-    let receipt = plain_record(2, c.own.channel, sequence, [0; 32]);
+    let receipt = plain_record(Record::RECEIPT, c.own.channel, sequence, [0; 32]);
     if raises_counter(c) {
         return RecordEdit {
             deed: Deed::Keeps,
@@ -62,7 +62,7 @@ pub fn received_edit(c: Channel, sequence: u64) -> RecordEdit
 pub fn freed_commitment(c: Channel, sequence: u64) -> RecordEdit
     ensures { λ r. ⌜ editBy r ≡ frees (commitmentKey (c .own .channel) sequence) ⌝ }
 {
-    let commitment = plain_record(1, c.own.channel, sequence, [0; 32]);
+    let commitment = plain_record(Record::COMMITMENT, c.own.channel, sequence, [0; 32]);
     RecordEdit {
         deed: Deed::Frees,
         about: commitment,

@@ -4,9 +4,9 @@ use Rattle.wire.proofs.Prelude.{_≡_, refl, sym, ap, subst, _∙_, true, _⊎_
 use Rattle.wire.proofs.Prelude.{eqb-true}
 use Rattle.wire.specs.Names.{_or_}
 use Rattle.wire.proofs.Laws.{and-both}
-use Rattle.slots.specs.declared.End.{End}
+use Rattle.slots.specs.declared.PortChannel.{PortChannel}
 use Rattle.slots.specs.declared.Channel.{Channel}
-use Rattle.slots.specs.Names.{channelAt, sameEnd, Store, storeIn}
+use Rattle.slots.specs.Names.{channelAt, samePortChannel, Store, storeIn}
 use Rattle.slots.specs.Names.{stateClosed}
 use Rattle.datagram.specs.declared.Packet.{Packet}
 use Rattle.datagram.specs.Names.{receive, body, hasPart}
@@ -70,7 +70,7 @@ module _ (w : World) where
       let q = pairs z n (b .0) (b .1) in
       let r = q .2 in (
         q .0,
-        ap (λ (e : End). channelAt (e .channel) (storeIn (w .start (across z)) .channels)) (g .counterparty) ∙ q .1,
+        ap (λ (e : PortChannel). channelAt (e .channel) (storeIn (w .start (across z)) .channels)) (g .counterparty) ∙ q .1,
         record {
           own = r .own ∙ sym (g .counterparty);
           counterparty = r .counterparty ∙ sym (g .own);
@@ -88,9 +88,9 @@ module _ (w : World) where
     pub source : packetOf c .source ≡ end .counterparty
     pub destination : packetOf c .destination ≡ end .own
 
-  pub same-end : (a b : End) → sameEnd a b ≡ true → a ≡ b
-  unfolding sameEnd
-  same-end a b h =
+  pub same-port-channel : (a b : PortChannel) → samePortChannel a b ≡ true → a ≡ b
+  unfolding samePortChannel
+  same-port-channel a b h =
       let p = eqb-true (a .port) (b .port) (and-both h .0) in
       let q = eqb-true (a .channel) (b .channel) (and-both h .1) in
       λ i. record { port = p i; channel = q i }
@@ -111,7 +111,7 @@ module _ (w : World) where
         packet = q;
         end = st .channel;
         found = rw q (receive-found st (d .kind));
-        source = ap (λ (p : Packet). p .source) q ∙ same-end _ _ (f .1);
+        source = ap (λ (p : Packet). p .source) q ∙ same-port-channel _ _ (f .1);
         destination = ap (λ (p : Packet). p .destination) q ∙ own;
       }
 
@@ -122,7 +122,7 @@ module _ (w : World) where
   sender-end pairs i c d =
       let q = peer pairs (c .side) i (packetOf c .destination .channel) (d .end) (d .found) in (
         q .0,
-        ap (λ (e : End). channelAt (e .channel) (storeIn (w .start (across (c .side))) .channels)) (d .source) ∙
+        ap (λ (e : PortChannel). channelAt (e .channel) (storeIn (w .start (across (c .side))) .channels)) (d .source) ∙
             q .1,
         q .2,
       )

@@ -3,7 +3,7 @@ use Rattle.wire.proofs.Prelude.{_≡_, refl, sym, ap, _∙_, Bool, true, false,
 use Rattle.wire.proofs.Prelude.{arith, eqb, eqb-true, not-true}
 use Rattle.wire.specs.Names.{pick, isSome, withNumber, same}
 use Rattle.wire.proofs.Laws.{and-both, clash, same-eq}
-use Rattle.slots.specs.declared.End.{End}
+use Rattle.slots.specs.declared.PortChannel.{PortChannel}
 use Rattle.slots.specs.declared.Timeout.{Timeout}
 use Rattle.slots.specs.declared.Channel.{Channel}
 use Rattle.slots.specs.declared.Record.{Record}
@@ -13,9 +13,9 @@ use Rattle.datagram.specs.Names.{Claim, commitmentPresent, acknowledgementPrese
 use Rattle.datagram.specs.Names.{nextReceiveIs, claimNumber, claimOf}
 use Rattle.rules.specs.Names.{firstDifference, hasValues, isAsStated, holdsOn, claimHolds}
 
-pub record About (v : Verdict) (k : ℕ) (e : End) (n : ℕ) (t : Timeout) (d : List ℕ) : Type 0 where
+pub record About (v : Verdict) (k : ℕ) (e : PortChannel) (n : ℕ) (t : Timeout) (d : List ℕ) : Type 0 where
   pub claim : v .claim ≡ k
-  pub end : v .end ≡ e
+  pub about : v .about ≡ e
   pub sequence : v .sequence ≡ n
   pub timeout : v .timeout ≡ t
   pub digest : v .digest ≡ d
@@ -32,22 +32,22 @@ passed : (b : Bool) (n m : ℕ) → pick (not b) (suc n) m ≡ 0 → (b ≡ true
 passed true n m h = (refl, h)
 passed false n m h = let z : suc n ≡ 0 = h in absurd (omega arith)
 
-pub about : (v : Verdict) (k : ℕ) (e : End) (n : ℕ) (t : Timeout) (d : List ℕ) → firstDifference v k e n t d ≡ 0 →
+pub about : (v : Verdict) (k : ℕ) (e : PortChannel) (n : ℕ) (t : Timeout) (d : List ℕ) → firstDifference v k e n t d ≡ 0 →
     About v k e n t d
 unfolding firstDifference
 about v k e n t d h =
     let a = passed (eqb (v .claim) k) 0 _ h in
-    let b = passed (eqb (v .end .port) (e .port)) 1 _ (a .1) in
-    let c = passed (eqb (v .end .channel) (e .channel)) 2 _ (b .1) in
+    let b = passed (eqb (v .about .port) (e .port)) 1 _ (a .1) in
+    let c = passed (eqb (v .about .channel) (e .channel)) 2 _ (b .1) in
     let f = passed (eqb (v .sequence) n) 3 _ (c .1) in
     let g = passed (sameTimeout (v .timeout) t) 4 _ (f .1) in
     let i = passed (same (v .digest) d) 5 _ (g .1) in
-    let p = eqb-true (v .end .port) (e .port) (b .0) in
-    let q = eqb-true (v .end .channel) (e .channel) (c .0) in
-    let w : v .end ≡ e = λ j. record { port = p j; channel = q j } in
+    let p = eqb-true (v .about .port) (e .port) (b .0) in
+    let q = eqb-true (v .about .channel) (e .channel) (c .0) in
+    let w : v .about ≡ e = λ j. record { port = p j; channel = q j } in
     record {
       claim = eqb-true (v .claim) k (a .0);
-      end = w;
+      about = w;
       sequence = eqb-true (v .sequence) n (f .0);
       timeout = same-timeout (v .timeout) t (g .0);
       digest = same-eq (v .digest) d (i .0);
@@ -81,7 +81,7 @@ claim-of nextReceiveIs = refl
 
 module _ (v : Verdict) (s : Store) (h : claimHolds v s ≡ true) where
   stated : (k : Claim) → v .claim ≡ claimNumber k → (x : Option Channel) →
-      channelAt (v .end .channel) (s .channels) ≡ x → (c : Channel) × (x ≡ some c) × (isAsStated (some k) v s c ≡ true)
+      channelAt (v .about .channel) (s .channels) ≡ x → (c : Channel) × (x ≡ some c) × (isAsStated (some k) v s c ≡ true)
   unfolding claimHolds holdsOn
   stated k e none f = clash {b = false} (ap (λ (y : Option Channel). holdsOn v s y) (sym f) ∙ h) refl
   stated k e (some c) f =
@@ -90,11 +90,11 @@ module _ (v : Verdict) (s : Store) (h : claimHolds v s ≡ true) where
       (c, refl, ap (λ (y : Option Claim). isAsStated y v s c) (sym q) ∙ b)
 
   pub claim-committed : v .claim ≡ claimNumber commitmentPresent →
-      Has (lookup (commitmentKey (v .end .channel) (v .sequence)) (s .records)) (v .timeout) (v .digest)
+      Has (lookup (commitmentKey (v .about .channel) (v .sequence)) (s .records)) (v .timeout) (v .digest)
   unfolding isAsStated
   claim-committed k = has-values (v .timeout) (v .digest) _ (stated commitmentPresent k _ refl .2)
 
-  module _ (c : Channel) (found : channelAt (v .end .channel) (s .channels) ≡ some c) where
+  module _ (c : Channel) (found : channelAt (v .about .channel) (s .channels) ≡ some c) where
     stated-on : (k : Claim) → v .claim ≡ claimNumber k → isAsStated (some k) v s c ≡ true
     stated-on k e =
         let a = stated k e (some c) found in
@@ -105,7 +105,7 @@ module _ (v : Verdict) (s : Store) (h : claimHolds v s ≡ true) where
         some-is h = cc
 
     pub claim-absent : v .claim ≡ claimNumber receiptAbsent →
-        isSome (lookup (receiptKey (v .end .channel) (v .sequence)) (s .records)) ≡ false
+        isSome (lookup (receiptKey (v .about .channel) (v .sequence)) (s .records)) ≡ false
     unfolding isAsStated
     claim-absent k = not-true _ (stated-on receiptAbsent k)
 

@@ -4,7 +4,7 @@ use Rattle.wire.proofs.Prelude.{some, ℕ, _*_, _%_, _^_, _≤_, _<_, arith, eq
 use Rattle.wire.proofs.Prelude.{take-at, drop-at, take-all, ne-eqb}
 use Rattle.wire.specs.Names.{_and_, Bytes, areZero, little, numberOf, part, field, pieces, digestSize}
 use Rattle.wire.proofs.Laws.{every-append, Byte, read-little, bytes-little, bytes-zeros}
-use Rattle.slots.specs.declared.End.{End}
+use Rattle.slots.specs.declared.PortChannel.{PortChannel}
 use Rattle.slots.specs.declared.Timeout.{Timeout}
 use Rattle.slots.specs.declared.Counters.{Counters}
 use Rattle.slots.specs.declared.Channel.{Channel}
@@ -16,7 +16,7 @@ use Rattle.slots.specs.Names.{acknowledgementKind}
 use Rattle.slots.proofs.TableLaws.{Each, each-of, each-map}
 
 -- BOUNDS: each number fits its field
-pub record EndFields (e : End) : Type 0 where
+pub record PortChannelFields (e : PortChannel) : Type 0 where
   pub port : e .port < 256 ^ 2
   pub channel : e .channel < 256 ^ 4
 
@@ -32,8 +32,8 @@ pub record CounterFields (n : Counters) : Type 0 where
 pub record ChannelFields (c : Channel) : Type 0 where
   pub state : c .state < 256
   pub order : c .order < 256
-  pub own : EndFields (c .own)
-  pub counterparty : EndFields (c .counterparty)
+  pub own : PortChannelFields (c .own)
+  pub counterparty : PortChannelFields (c .counterparty)
   pub next : CounterFields (c .next)
 
 pub record RecordFields (r : Record) : Type 0 where
@@ -55,9 +55,9 @@ pub record StoreFields (s : Store) : Type 0 where
   pub records : Each RecordFields (s .records)
 
 -- the parts that several records have, written and read
-pub read-end : (e : End) → EndFields e →
+pub read-port-channel : (e : PortChannel) → PortChannelFields e →
     record { port = numberOf (little 2 (e .port)); channel = numberOf (little 4 (e .channel)) } ≡ e
-read-end e h = λ i.
+read-port-channel e h = λ i.
     record { port = read-little 2 (e .port) (h .port) i; channel = read-little 4 (e .channel) (h .channel) i }
 
 pub read-timeout : (t : Timeout) → TimeoutFields t →
@@ -143,8 +143,8 @@ channel-kept c h = record { size = length-channel c; bytes = bytes-channel c h; 
         record {
           state = c .state;
           order = c .order;
-          own = read-end (c .own) (h .own) i;
-          counterparty = read-end (c .counterparty) (h .counterparty) i;
+          own = read-port-channel (c .own) (h .own) i;
+          counterparty = read-port-channel (c .counterparty) (h .counterparty) i;
           next =
               record {
                 send = read-little 8 (next .send) (h .next .send) i;

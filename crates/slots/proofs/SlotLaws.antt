@@ -9,17 +9,17 @@ use Rattle.wire.specs.Bytes.{little, part, field, patch, digestSize}
 use Rattle.wire.proofs.BytesLaws.{length-little}
 use Rattle.wire.proofs.PartLaws.{part-part, field-part, byte-part}
 use Rattle.wire.proofs.PatchLaws.{patch-append}
-use Rattle.slots.specs.declared.End.{End}
+use Rattle.slots.specs.declared.PortChannel.{PortChannel}
 use Rattle.slots.specs.declared.Timeout.{Timeout}
 use Rattle.slots.specs.declared.Channel.{Channel}
 use Rattle.slots.specs.declared.Record.{Record}
 use Rattle.slots.specs.Codes.{channelKind}
 use Rattle.slots.specs.Layout.{slotSize, channelIn, channelBytes, recordIn, recordBytes}
-use Rattle.slots.specs.Part.{endIn, timeoutIn}
+use Rattle.slots.specs.Part.{portChannelIn, timeoutIn}
 
 -- A PART OF A RECORD is read where it stands in the bytes
 module _ (i at m : ℕ) (bs : List ℕ) where
-  pub end-part : i + 6 ≤ m → endIn i (part at m bs) ≡ endIn (at + i) bs
+  pub end-part : i + 6 ≤ m → portChannelIn i (part at m bs) ≡ portChannelIn (at + i) bs
   end-part h =
       rw (add-assoc at i 2, field-part i 2 at m bs (omega arith), field-part (i + 2) 4 at m bs (omega arith))
 
@@ -32,8 +32,8 @@ module _ (at : ℕ) (bs : List ℕ) where
   number : (i n : ℕ) → i + n ≤ slotSize → {x : ℕ} → x ≡ field (at + i) n bs → x ≡ field i n (part at slotSize bs)
   number i n h p = p ∙ sym (field-part i n at slotSize bs h)
 
-  pub channel-read : {p c s r a : ℕ} {e : End} → p ≡ field (at + 8) 2 bs → c ≡ field (at + 4) 4 bs →
-      e ≡ endIn (at + 10) bs → s ≡ field (at + 16) 8 bs → r ≡ field (at + 24) 8 bs → a ≡ field (at + 32) 8 bs →
+  pub channel-read : {p c s r a : ℕ} {e : PortChannel} → p ≡ field (at + 8) 2 bs → c ≡ field (at + 4) 4 bs →
+      e ≡ portChannelIn (at + 10) bs → s ≡ field (at + 16) 8 bs → r ≡ field (at + 24) 8 bs → a ≡ field (at + 32) 8 bs →
       record {
         state = getD bs (at + 2) 0;
         order = getD bs (at + 3) 0;

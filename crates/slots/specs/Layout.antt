@@ -11,7 +11,7 @@ use Rattle.slots.specs.declared.Record.{Record}
 use Rattle.slots.specs.Limits.{channelLimit}
 use Rattle.slots.specs.Codes.{storeKind, channelKind}
 use Rattle.slots.specs.Height.{ownHeight}
-use Rattle.slots.specs.Part.{endIn, timeoutIn}
+use Rattle.slots.specs.Part.{portChannelIn, timeoutIn}
 
 -- what a store says: last height and time, and the slots of its two tables
 pub record Store : Type 0 where
@@ -74,7 +74,7 @@ channelIn bs =
       state = getD bs 2 0;
       order = getD bs 3 0;
       own = record { port = field 8 2 bs; channel = field 4 4 bs };
-      counterparty = endIn 10 bs;
+      counterparty = portChannelIn 10 bs;
       next = record { send = field 16 8 bs; receive = field 24 8 bs; acknowledge = field 32 8 bs };
     }
 

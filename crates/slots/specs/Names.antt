@@ -7,7 +7,7 @@ pub use Rattle.slots.specs.Height.{ownHeight, otherHeight, heightAtSende
 pub use Rattle.slots.specs.Height.{isBelowOwn, isSameOwn, isUpToOther, UpToOther, BelowOther, isPastOwn}
 pub use Rattle.slots.specs.Height.{isPastOther, noTimeout}
 unfoldable pub use Rattle.slots.specs.Table.{find, replace, insert, hasFree, count, all, distinct, isNumbered}
-unfoldable pub use Rattle.slots.specs.Table.{sameEnd, hasKey, isCommitmentOn}
+unfoldable pub use Rattle.slots.specs.Table.{samePortChannel, hasKey, isCommitmentOn}
 pub use Rattle.slots.specs.Table.{sameNumber, channelAt, withChannel, Key, commitmentKey, receiptKey}
 pub use Rattle.slots.specs.Table.{acknowledgementKey, keyOf, sameKey, lookup, remove, commitments}
 unfoldable pub use Rattle.slots.specs.Layout.{roomIn, channelBytes, recordBytes, slotBytes, tableBytes}

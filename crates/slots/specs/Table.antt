@@ -5,7 +5,7 @@ use mathlib.Core.Option.{Option, none, some}
 use Prim.Native.Nat.{ℕ, suc}
 use lib.Dec.{eqb}
 use Rattle.wire.specs.Choice.{_and_, pick, isSome}
-use Rattle.slots.specs.declared.End.{End}
+use Rattle.slots.specs.declared.PortChannel.{PortChannel}
 use Rattle.slots.specs.declared.Channel.{Channel}
 use Rattle.slots.specs.declared.Record.{Record}
 use Rattle.slots.specs.Codes.{commitmentKind, receiptKind, acknowledgementKind}
@@ -65,8 +65,8 @@ channelAt n cs = find (isNumbered n) cs
 abbrev pub withChannel : Channel → List (Option Channel) → List (Option Channel)
 withChannel c cs = replace (isNumbered (c .own .channel)) (some c) cs
 
-unfoldable pub sameEnd : End → End → Bool
-sameEnd a b = eqb (a .port) (b .port) and eqb (a .channel) (b .channel)
+unfoldable pub samePortChannel : PortChannel → PortChannel → Bool
+samePortChannel a b = eqb (a .port) (b .port) and eqb (a .channel) (b .channel)
 
 -- PACKET RECORDS, by kind, channel and sequence
 pub record Key : Type 0 where

@@ -11,7 +11,7 @@ pub struct OwnHeight(pub u64);
 pub struct OtherHeight(pub u64);
 
 // A port and a channel of it.
-pub struct End {
+pub struct PortChannel {
     pub port: u16,
     pub channel: u32,
 }
@@ -33,8 +33,8 @@ pub struct Counters {
 pub struct Channel {
     pub state: u8,
     pub order: u8,
-    pub own: End,
-    pub counterparty: End,
+    pub own: PortChannel,
+    pub counterparty: PortChannel,
     pub next: Counters,
 }
 

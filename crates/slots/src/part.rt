@@ -1,5 +1,5 @@
 // Parts that several records have: an end, its port before its channel, and a packet's timeouts.
-use super::End;
+use super::PortChannel;
 use super::Timeout;
 use wire::put_u16;
 use wire::put_u32;
@@ -11,13 +11,13 @@ ghost use mathlib.Core.List.{_++_};
 ghost use Prim.Native.Nat.{_+_, _≤_};
 ghost use lib.ListN.{length};
 ghost use Rattle.wire.specs.Bytes.{little, patch};
-ghost use Rattle.slots.specs.Part.{endIn, timeoutIn};
+ghost use Rattle.slots.specs.Part.{portChannelIn, timeoutIn};
 
-pub fn end_at(s: &[u8], at: usize) -> End
+pub fn port_channel_at(s: &[u8], at: usize) -> PortChannel
     requires { ⌜ at + 6 ≤ length (now s) ⌝ }
-    ensures { λ r. ⌜ r ≡ endIn at (now (s .entry)) ⌝ }
+    ensures { λ r. ⌜ r ≡ portChannelIn at (now (s .entry)) ⌝ }
 {
-    End {
+    PortChannel {
         port: u16_at(s, at),
         channel: u32_at(s, at + 2),
     }
@@ -33,7 +33,7 @@ pub fn timeout_at(s: &[u8], at: usize) -> Timeout
     }
 }
 
-pub fn put_end(s: &mut [u8], at: usize, port: u16, channel: u32)
+pub fn put_port_channel(s: &mut [u8], at: usize, port: u16, channel: u32)
     requires { ⌜ at + 6 ≤ length (now s) ⌝ }
     ensures { λ _. ⌜ now (s .exit) ≡ patch at (little 2 port ++ little 4 channel) (now (s .entry)) ⌝ }
 {

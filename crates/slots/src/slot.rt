@@ -1,10 +1,10 @@
 // The 64 bytes of a slot: a channel end, a packet record, or all zero where the slot is free.
 use super::Channel;
 use super::Counters;
-use super::End;
+use super::PortChannel;
 use super::Record;
-use super::part::end_at;
-use super::part::put_end;
+use super::part::port_channel_at;
+use super::part::put_port_channel;
 use super::part::timeout_at;
 use wire::digest_at;
 use wire::put_digest;
@@ -30,11 +30,11 @@ pub fn channel_at(s: &[u8], at: usize) -> Channel
     Channel {
         state: s[at + 2],
         order: s[at + 3],
-        own: End {
+        own: PortChannel {
             port: u16_at(s, at + 8),
             channel: u32_at(s, at + 4),
         },
-        counterparty: end_at(s, at + 10),
+        counterparty: port_channel_at(s, at + 10),
         next: Counters {
             send: u64_at(s, at + 16),
             receive: u64_at(s, at + 24),
@@ -75,7 +75,7 @@ pub fn put_channel(s: &mut [u8], at: usize, c: Channel)
 {
     put_head(s, at, Channel::KIND, c.state, c.order, c.own.channel);
     put_u16(s, at + 8, c.own.port);
-    put_end(s, at + 10, c.counterparty.port, c.counterparty.channel);
+    put_port_channel(s, at + 10, c.counterparty.port, c.counterparty.channel);
     put_three(s, at + 16, c.next.send, c.next.receive, c.next.acknowledge);
     put_zeros(s, at + 40, 24);
 }

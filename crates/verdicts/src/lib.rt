@@ -6,7 +6,7 @@ use heights::same_timeout;
 use ordering::absence_claim;
 use ordering::absence_sequence;
 use slots::Channel;
-use slots::End;
+use slots::PortChannel;
 use slots::Timeout;
 use wire::same_digest;
 ghost use mathlib.Core.Path.{_≡_};
@@ -18,20 +18,20 @@ ghost use Rattle.rules.specs.Refusals.{commitmentDifference, acknowledgementDif
 fn first_difference(
     v: Verdict,
     claim: u16,
-    end: End,
+    about: PortChannel,
     sequence: u64,
     timeout: Timeout,
     digest: [u8; 32],
 ) -> u8
-    ensures { λ r. ⌜ r ≡ firstDifference v claim end sequence timeout digest ⌝ }
+    ensures { λ r. ⌜ r ≡ firstDifference v claim about sequence timeout digest ⌝ }
 {
     if v.claim != claim {
         return 1;
     }
-    if v.end.port != end.port {
+    if v.about.port != about.port {
         return 2;
     }
-    if v.end.channel != end.channel {
+    if v.about.channel != about.channel {
         return 3;
     }
     if v.sequence != sequence {

@@ -6,7 +6,7 @@ use Prim.Native.Nat.{ℕ, _<_}
 use native.Mathlib.Omega.{arith}
 use denote.Ref.{now}
 use Rattle.wire.specs.Choice.{isSome}
-use Rattle.slots.specs.declared.End.{End}
+use Rattle.slots.specs.declared.PortChannel.{PortChannel}
 use Rattle.slots.specs.declared.Channel.{Channel}
 use Rattle.slots.specs.declared.Found.the-variants.{At}
 use Rattle.slots.specs.Limits.{channelLimit}
@@ -112,7 +112,7 @@ returns c =
     let own : decision .decide .result .end .own ≡ end .own =
     ap (λ (e : Effect). e .end .own) decided ∙ end-own k end (datagramOf k (heard o)) in
     let same : decision .decide .result .end .own .channel ≡ i .channel-in .result =
-    ap (λ (e : End). e .channel) own ∙
+    ap (λ (e : PortChannel). e .channel) own ∙
     channel-number (datagramIn (heard o) .channel) (storeIn (store o) .channels) end (found x) ∙ sym (number i) in (
       c .context-in .ensures,
       (

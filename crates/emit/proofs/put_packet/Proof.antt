@@ -12,8 +12,8 @@ returns c =
     let times = source .before .before .before .before in
     rw (
       digest .put-digest .ensures,
-      destination .put-end2 .ensures,
-      source .put-end .ensures,
+      destination .put-port-channel2 .ensures,
+      source .put-port-channel .ensures,
       times .put-three .ensures,
       patch-packet,
     )

@@ -9,7 +9,7 @@ returns : tie.Need-returns
 returns c =
     let o = c .before .before .before .before in
     opening-read (o .args .at) (now (o .args .openings)) (o .pre)
-    (c .before .before .u8-at .ensures) (c .before .end-at .ensures) (c .end-at2 .ensures)
+    (c .before .before .u8-at .ensures) (c .before .port-channel-at .ensures) (c .port-channel-at2 .ensures)
 
 pub opening-at-spec : {M : Type 1} → statement M
 opening-at-spec =

@@ -12,7 +12,7 @@ returns c = rw (ne-eqb _ _ (c .if1 .taken))
 
 returns-2 : tie.Need-returns-2
 unfolding fitsSource _and_
-returns-2 c = rw (eq-eqb _ _ (c .before .before .before .if1 .left)) (c .same-end .ensures)
+returns-2 c = rw (eq-eqb _ _ (c .before .before .before .if1 .left)) (c .same-port-channel .ensures)
 
 pub fits-source-spec : {M : Type 1} → statement M
 fits-source-spec =

@@ -15,7 +15,7 @@ use Rattle.verdicts.proofs.first_difference.Tie as tie
 
 -- the answer, and what is left of it behind the third part and behind the fifth
 abbrev whole : tie.Start → ℕ
-whole o = let a = o .args in firstDifference (a .v) (a .claim) (a .end) (a .sequence) (a .timeout) (a .digest)
+whole o = let a = o .args in firstDifference (a .v) (a .claim) (a .about) (a .sequence) (a .timeout) (a .digest)
 
 abbrev last : tie.Start → ℕ
 last o = pick (not (same (o .args .v .digest) (o .args .digest))) 6 0

@@ -11,8 +11,8 @@ returns c =
     λ i. record {
       sequence = timeout .before .u64-at .ensures i;
       timeout = timeout .timeout-at .ensures i;
-      source = c .before .before .end-at .ensures i;
-      destination = c .before .end-at2 .ensures i;
+      source = c .before .before .port-channel-at .ensures i;
+      destination = c .before .port-channel-at2 .ensures i;
       digest = c .digest-at .ensures i;
     }
 

@@ -7,13 +7,13 @@ use Rattle.datagram.proofs.read.verdict_at.Tie as tie
 returns : tie.Need-returns
 unfolding verdictIn
 returns c =
-    let end = c .before .before .before in
-    let time = end .before in
+    let about = c .before .before .before in
+    let time = about .before in
     λ i. record {
       claim = time .before .before .u16-at .ensures i;
       height = record { 0 = time .before .u64-at .ensures i };
       time = time .u64-at2 .ensures i;
-      end = end .end-at .ensures i;
+      about = about .port-channel-at .ensures i;
       sequence = c .before .before .u64-at3 .ensures i;
       timeout = c .before .timeout-at .ensures i;
       digest = c .digest-at .ensures i;

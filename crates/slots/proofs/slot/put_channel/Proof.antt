@@ -14,7 +14,7 @@ returns c =
     rw (
       zeros .put-zeros .ensures,
       counters .put-three .ensures,
-      counterparty .put-end .ensures,
+      counterparty .put-port-channel .ensures,
       port .put-u16 .ensures,
       head .put-head .ensures,
       channel-stored,
