@@ -4,7 +4,6 @@ use Rattle.wire.proofs.Prelude.{_≡_, refl, sym, ap, _∙_, false, List, Optio
 use Rattle.wire.proofs.Prelude.{not-false}
 use Rattle.wire.specs.Names.{isSome}
 use Rattle.wire.proofs.Laws.{of-pick}
-use Rattle.slots.specs.declared.PortChannel.{PortChannel}
 use Rattle.slots.specs.declared.Channel.{Channel}
 use Rattle.slots.specs.Names.{outputLimit, storeIn, isFit, isOrdered}
 use Rattle.datagram.specs.Names.{Kind, send, receive, write, acknowledge, timeOut, kindOf, Datagram, datagramOf}

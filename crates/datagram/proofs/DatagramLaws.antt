@@ -1,8 +1,10 @@
 -- What a sound datagram tells, and bounds of its parts. Assumes nothing.
-use Rattle.wire.proofs.Prelude.{_≡_, refl, sym, ap, _∙_, true, false, List, [], _∷_, Option, some, _⊎_, inl, inr, ⊎-elim, ℕ}
+use Rattle.wire.proofs.Prelude.{_≡_, refl, sym, ap, _∙_, true, false, List, [], _∷_, Option, some, _⊎_, inl, inr}
+use Rattle.wire.proofs.Prelude.{⊎-elim, ℕ}
 use Rattle.wire.proofs.Prelude.{none, _+_, _^_, _≤_, _<_, arith, eqb, length, ltb-true, eqb-true, eqb-false, eq-eqb}
 use Rattle.wire.specs.Names.{_or_, isSome, withNumber, Bytes, digestSize}
-use Rattle.wire.proofs.Laws.{and-both, or-either, clash, cases, none-if, some-if, some-is, with-number, same-number, field-below}
+use Rattle.wire.proofs.Laws.{and-both, or-either, clash, cases, none-if, some-if, some-is, with-number, same-number}
+use Rattle.wire.proofs.Laws.{field-below}
 use Rattle.wire.proofs.Laws.{length-part, bytes-part}
 use Rattle.slots.proofs.Laws.{PortChannelFields, TimeoutFields}
 use Rattle.datagram.specs.declared.Packet.{Packet}
@@ -10,7 +12,7 @@ use Rattle.datagram.specs.Names.{Kind, send, receive, write, acknowledge
 use Rattle.datagram.specs.Names.{isKind, isOf, packetSize, sizeOf, isSound, kindIn, contextIn}
 use Rattle.datagram.specs.Names.{Part, channelPart, sequencePart, timeoutPart, digestPart, packetPart}
 use Rattle.datagram.specs.Names.{verdictPart, partNumber, isPart, partSize, bodyOf, hasPart, partsSize}
-use Rattle.datagram.specs.Names.{sizeBefore, placeOf, packetIn, packetFrom, timeoutFrom, sequenceFrom}
+use Rattle.datagram.specs.Names.{sizeBefore, packetIn, packetFrom, timeoutFrom, sequenceFrom}
 use Rattle.datagram.specs.Names.{digestFrom, Datagram, datagramIn, isPartSound, arePartsSound, isContextSound}
 
 -- KINDS are known by their numbers

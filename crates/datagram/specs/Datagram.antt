@@ -5,7 +5,7 @@ use mathlib.Core.Option.{Option, none, some}
 use Prim.Native.Nat.{ℕ, _+_}
 use lib.Dec.{ltb, leb, eqb}
 use lib.ListN.{length, getD}
-use Rattle.wire.specs.Choice.{_and_, isSome, isIn}
+use Rattle.wire.specs.Choice.{_and_, isSome}
 use Rattle.wire.specs.Bytes.{areZero, part, field, digestSize}
 use Rattle.slots.specs.declared.Timeout.{Timeout}
 use Rattle.slots.specs.Height.{ownHeight, otherHeight}
@@ -111,7 +111,8 @@ unfoldable pub datagramIn : List ℕ → Datagram
 datagramIn d = datagramOf (kindOf (kindIn d)) d
 
 -- WELL FORMED: at least 6 bytes, the length field is the slice's length, a known kind of the right length, zero bytes
--- zero, connection 0 or 1, own height not 0, and each part sound: sequence not 0 in a packet or by itself, a known claim
+-- zero, connection 0 or 1, own height not 0, and each part sound: a sequence, in a packet or by itself, is not 0, and a
+-- claim is known
 unfoldable pub isPartSound : Datagram → Part → Bool
 isPartSound d channelPart = true
 isPartSound d sequencePart = ltb 0 (d .sequence)

@@ -1,5 +1,5 @@
 -- The kinds of datagrams: their numbers, and the parts of their bodies. A new kind is a constructor and a line of each.
-use mathlib.Core.Bool.{Bool, true, false}
+use mathlib.Core.Bool.{Bool, false}
 use mathlib.Core.List.{List, [], _∷_}
 use mathlib.Core.Option.{Option, none, some}
 use Prim.Native.Nat.{ℕ, _+_}

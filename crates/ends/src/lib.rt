@@ -4,7 +4,7 @@ use slots::Channel;
 use slots::Counters;
 use tables::ordering::is_ordered;
 ghost use mathlib.Core.Path.{_≡_};
-ghost use mathlib.Core.Bool.{true, false};
+ghost use mathlib.Core.Bool.{false};
 ghost use Prim.Native.Nat.{_+_};
 ghost use lib.Dec.{eqb};
 ghost use Rattle.wire.specs.Choice.{_and_, pick};

@@ -50,7 +50,8 @@ module _ (at : ℕ) (bs : List ℕ) (room : at + openingSize ≤ length bs) wher
         byte-part 19 at openingSize 1 bs (omega arith) room,
       )
 
-  pub opening-read : {x : ℕ} {e f : PortChannel} → x ≡ field (at + 18) 1 bs → e ≡ portChannelIn (at + 6) bs → f ≡ portChannelIn (at + 12) bs →
+  pub opening-read : {x : ℕ} {e f : PortChannel} → x ≡ field (at + 18) 1 bs → e ≡ portChannelIn (at + 6) bs →
+      f ≡ portChannelIn (at + 12) bs →
       record {
         state = stateOpen;
         order = x;

@@ -1,4 +1,4 @@
-// What depends on a channel's ordering: the tests 14 for 5, 15, 16 for 2, 19, and 20 for 2, and whether a counter rises.
+// What depends on a channel's ordering: the tests 14 for 5, 15, 16 for 2, 19, and 20 for 2; whether a counter rises.
 // The store has the test 17, and no other test does.
 use slots::Channel;
 use slots::Record;

@@ -102,7 +102,10 @@ fn lacks_record(store: &[u8], count: usize, c: Channel) -> bool
 // Lines 15, 16, 19 and 20 of a receive: behind the verdict, what the channel end and the packet records say.
 fn delivery_row(store: &[u8], count: usize, p: Packet, c: Channel) -> u8
     requires { ⌜ length (now store) ≡ sizeFor count ⌝ }
-    ensures { λ r. ⌜ ((d : Datagram) → d .packet ≡ p → r ≡ numberBehind 14 (some receive) (storeIn (now (store .entry))) d c) ⌝ }
+    ensures { λ r. ⌜
+        ((d : Datagram) → d .packet ≡ p →
+        r ≡ numberBehind 14 (some receive) (storeIn (now (store .entry))) d c)
+        ⌝ }
 {
     if !receives_in_order(c, p.sequence) {
         return 15;

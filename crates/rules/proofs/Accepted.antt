@@ -1,5 +1,5 @@
 -- What an accepted datagram of each kind tells: the one place that opens the table of answers. Assumes nothing.
-use Rattle.wire.proofs.Prelude.{_≡_, true, false, not, List, Option, some, ℕ, eqb-true, not-false}
+use Rattle.wire.proofs.Prelude.{_≡_, true, false, not, List, some, ℕ, eqb-true, not-false}
 use Rattle.wire.specs.Names.{_and_, _or_}
 use Rattle.slots.specs.declared.Channel.{Channel}
 use Rattle.slots.specs.Names.{hasFree, Store, isReceived}

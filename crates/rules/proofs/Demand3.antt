@@ -8,7 +8,8 @@ use Rattle.rules.specs.declared.Told.{Told}
 use Rattle.rules.specs.Names.{orNone, refusals, sentPacket, effectOf, effectFor, answerTo, effectIn, called, Call}
 use Rattle.rules.specs.Names.{heard, Met, endOf, Recorded, Answered, Demand3Holds}
 use Rattle.rules.proofs.RefusalLaws.{lowest-zero}
-use Rattle.rules.proofs.Acted.{acted, acted-sent, acted-carried, accepted-store, accepted-record, accepted-size, accepted-rest, refused-call}
+use Rattle.rules.proofs.Acted.{acted, acted-sent, acted-carried, accepted-store, accepted-record, accepted-size}
+use Rattle.rules.proofs.Acted.{accepted-rest, refused-call}
 use Rattle.rules.proofs.History.{World, got-bytes}
 use Rattle.rules.proofs.Sums.{sums}
 use Rattle.rules.proofs.Once.{finished-once}

@@ -1,7 +1,7 @@
 -- A list of calls is honest where a test says so that computes: of each call that carries a verdict, what the premises
 -- look at is compared with what they look at of the others. Assumes nothing.
-use Rattle.wire.proofs.Prelude.{_≡_, refl, sym, ap, subst, _∙_, Bool, true, false, not, List, [], _∷_, map, ℕ, zero, suc}
-use Rattle.wire.proofs.Prelude.{_≤_, _<_, Option, none, some, getElem?, drop, arith, leb, ltb, leb-true, ltb-true}
+use Rattle.wire.proofs.Prelude.{_≡_, ap, subst, Bool, true, false, not, List, [], _∷_, map, ℕ, zero, suc}
+use Rattle.wire.proofs.Prelude.{_<_, Option, none, some, getElem?, drop, arith, leb, ltb, leb-true, ltb-true}
 use Rattle.wire.proofs.Prelude.{le-leb, eq-eqb, not-true, ⊎-elim}
 use borrow.Author.Tests.{lt-leb}
 use Rattle.wire.specs.Names.{_and_, _or_, pick, Every}
@@ -9,7 +9,7 @@ use Rattle.wire.proofs.Laws.{and-both, both-and, or-either, clash}
 use Rattle.slots.specs.Names.{storeIn}
 use Rattle.datagram.specs.declared.Verdict.{Verdict}
 use Rattle.datagram.specs.Names.{verdictPart, bodyOf, hasPart}
-use Rattle.rules.specs.Names.{claimHolds, Side, across, isSide, Call, heard, At, storeAfter, isAccepted}
+use Rattle.rules.specs.Names.{claimHolds, Side, across, isSide, Call, heard, storeAfter, isAccepted}
 use Rattle.rules.specs.Names.{verdictOf, heightOf, timeOf, AcceptedOn, isUpTo, Honest}
 use Rattle.rules.proofs.History.{side-refl}
 
@@ -106,7 +106,8 @@ module _ (start : Side → List ℕ) (cs : List Call) where
         accepted = isAccepted c;
         height = heightOf c .0;
         time = timeOf c;
-        block = blockOf (isAccepted c and hasPart verdictPart (bodyOf (heard c .kind))) (across (c .side)) (verdictOf c);
+        block = blockOf (isAccepted c and hasPart verdictPart (bodyOf (heard c .kind))) (across (c .side))
+            (verdictOf c);
       }
 
   -- what the test says of an accepted call

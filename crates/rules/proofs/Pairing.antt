@@ -10,7 +10,8 @@ use Rattle.slots.specs.Names.{channelAt, samePortChannel, Store, storeIn}
 use Rattle.slots.specs.Names.{stateClosed}
 use Rattle.datagram.specs.declared.Packet.{Packet}
 use Rattle.datagram.specs.Names.{receive, body, hasPart}
-use Rattle.rules.specs.Names.{fitsDestination, Side, across, Call, heard, At, fold, Paired, Peers, packetOf, isDelivery}
+use Rattle.rules.specs.Names.{fitsDestination, Side, across, Call, heard, At, fold, Paired, Peers, packetOf}
+use Rattle.rules.specs.Names.{isDelivery}
 use Rattle.rules.proofs.Step.{Grown, Later, later, later-refl}
 use Rattle.rules.proofs.Receipt.{receive-of, receive-destination, receive-found}
 use Rattle.rules.proofs.History.{World, ledger, kept}
@@ -70,7 +71,8 @@ module _ (w : World) where
       let q = pairs z n (b .0) (b .1) in
       let r = q .2 in (
         q .0,
-        ap (λ (e : PortChannel). channelAt (e .channel) (storeIn (w .start (across z)) .channels)) (g .counterparty) ∙ q .1,
+        ap (λ (e : PortChannel). channelAt (e .channel) (storeIn (w .start (across z)) .channels))
+            (g .counterparty) ∙ q .1,
         record {
           own = r .own ∙ sym (g .counterparty);
           counterparty = r .counterparty ∙ sym (g .own);

@@ -114,7 +114,8 @@ module _ {s t : Store} {d : Datagram} {n m : ℕ} (st : Step s d t) (w : Waits s
   own-order : st .channel .own .channel ≡ n → isOrdered (st .effect .end) ≡ true
   unfolding isOrdered
   own-order q =
-      ap (λ (k : ℕ). eqb k orderOrdered) (own-grown st .order) ∙ ap (λ (c : Channel). eqb (c .order) orderOrdered) (own-waits q) ∙ w .ordered
+      ap (λ (k : ℕ). eqb k orderOrdered) (own-grown st .order) ∙
+      ap (λ (c : Channel). eqb (c .order) orderOrdered) (own-waits q) ∙ w .ordered
 
   waits-own : st .channel .own .channel ≡ n → (j : ℕ) → st .effect .end .next .receive ≡ j → Waits t n j
   waits-own q j h =
@@ -140,7 +141,8 @@ module _ {s t : Store} {d : Datagram} {n m : ℕ} (st : Step s d t) (w : Waits s
       })
 
   -- a delivery there is the one that it waits for
-  pub waits-next : d .kind ≡ some receive → d .packet .destination .channel ≡ n → (d .packet .sequence ≡ m) × Waits t n (suc m)
+  pub waits-next : d .kind ≡ some receive → d .packet .destination .channel ≡ n →
+      (d .packet .sequence ≡ m) × Waits t n (suc m)
   waits-next k q =
       let e : st .channel .own .channel ≡ n = receive-destination st k ∙ q in
       let o : isOrdered (st .channel) ≡ true = ap isOrdered (own-waits e) ∙ w .ordered in

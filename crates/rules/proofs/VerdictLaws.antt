@@ -32,7 +32,8 @@ passed : (b : Bool) (n m : ℕ) → pick (not b) (suc n) m ≡ 0 → (b ≡ true
 passed true n m h = (refl, h)
 passed false n m h = let z : suc n ≡ 0 = h in absurd (omega arith)
 
-pub about : (v : Verdict) (k : ℕ) (e : PortChannel) (n : ℕ) (t : Timeout) (d : List ℕ) → firstDifference v k e n t d ≡ 0 →
+pub about : (v : Verdict) (k : ℕ) (e : PortChannel) (n : ℕ) (t : Timeout) (d : List ℕ) →
+    firstDifference v k e n t d ≡ 0 →
     About v k e n t d
 unfolding firstDifference
 about v k e n t d h =
@@ -81,7 +82,8 @@ claim-of nextReceiveIs = refl
 
 module _ (v : Verdict) (s : Store) (h : claimHolds v s ≡ true) where
   stated : (k : Claim) → v .claim ≡ claimNumber k → (x : Option Channel) →
-      channelAt (v .about .channel) (s .channels) ≡ x → (c : Channel) × (x ≡ some c) × (isAsStated (some k) v s c ≡ true)
+      channelAt (v .about .channel) (s .channels) ≡ x →
+      (c : Channel) × (x ≡ some c) × (isAsStated (some k) v s c ≡ true)
   unfolding claimHolds holdsOn
   stated k e none f = clash {b = false} (ap (λ (y : Option Channel). holdsOn v s y) (sym f) ∙ h) refl
   stated k e (some c) f =

@@ -1,10 +1,10 @@
 -- The worked history is a run of made, paired stores, and honest. Assumes nothing.
-use Rattle.wire.proofs.Prelude.{_≡_, refl, List, ℕ, ltb, ltb-true, true}
-use Rattle.wire.specs.Names.{Every, Bytes}
+use Rattle.wire.proofs.Prelude.{_≡_, refl, List, ℕ, ltb-true, true}
+use Rattle.wire.specs.Names.{Bytes}
 use Rattle.wire.proofs.Laws.{every-map}
 use Rattle.slots.specs.Names.{isNumbered, storeIn}
 use Rattle.slots.proofs.Laws.{each-find}
-use Rattle.rules.specs.Names.{Side, first, second, Made, Paired, aSlice, openingsOn, stores, requests, history}
+use Rattle.rules.specs.Names.{Side, first, second, aSlice, openingsOn, stores, requests, history}
 use Rattle.rules.specs.Names.{WorkedHistory}
 use Rattle.rules.proofs.HonestLaws.{areAll, all-every, honest-seen}
 use Rattle.rules.proofs.CaseLaws.{isByte, Peer, Opened, facts}

@@ -10,7 +10,9 @@ pub use Rattle.slots.proofs.RecordLaws.{lookup-remove, lookup-remove-ot
 pub use Rattle.slots.proofs.RecordLaws.{commitments-remove}
 pub use Rattle.slots.proofs.ChannelLaws.{channel-number, channel-own, channel-with, channel-with-other}
 pub use Rattle.slots.proofs.ChannelLaws.{numbers-with}
-pub use Rattle.slots.proofs.LayoutLaws.{PortChannelFields, TimeoutFields, CounterFields, ChannelFields, RecordFields}
-pub use Rattle.slots.proofs.LayoutLaws.{StoreFields, read-port-channel, read-timeout, size-of, bytes-of, read-back}
+pub use Rattle.slots.proofs.LayoutLaws.{PortChannelFields, TimeoutFields, CounterFields, ChannelFields}
+pub use Rattle.slots.proofs.LayoutLaws.{RecordFields}
+pub use Rattle.slots.proofs.LayoutLaws.{StoreFields, read-port-channel, read-timeout, size-of, bytes-of}
+pub use Rattle.slots.proofs.LayoutLaws.{read-back}
 pub use Rattle.slots.proofs.FitLaws.{Sized, fits-size, fit-store, fit-fields, fit-of}
 pub use Rattle.slots.proofs.FitRecordLaws.{fit-single, fit-records, committed-end}

@@ -11,11 +11,11 @@ use Rattle.wire.specs.Choice.{_and_, isSome, isIn, withNumber}
 use Rattle.wire.specs.Bytes.{field}
 use Rattle.wire.specs.declared.Frame.the-variants.{Whole, Malformed}
 use Rattle.wire.specs.Frame.{frameIn}
-use Rattle.wire.proofs.ChoiceLaws.{and-both, and-assoc, and-false, and-true, clash, cases}
+use Rattle.wire.proofs.ChoiceLaws.{and-both, and-assoc, and-false, clash, cases}
 use Rattle.wire.specs.Frame.{frameSize}
-use Rattle.datagram.specs.Kind.{kindOf, sizeOf, bodyOf}
+use Rattle.datagram.specs.Kind.{kindOf, sizeOf}
 use Rattle.datagram.specs.Claim.{claimOf}
-use Rattle.datagram.specs.Datagram.{kindIn, datagramIn, isContextSound, arePartsSound, isSound}
+use Rattle.datagram.specs.Datagram.{kindIn, datagramIn, isContextSound, isSound}
 use Rattle.sound.specs.Sound.{isBodySound}
 
 -- what stands at a place that is there does not depend on what would be read behind the end

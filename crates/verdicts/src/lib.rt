@@ -10,8 +10,6 @@ use slots::PortChannel;
 use slots::Timeout;
 use wire::same_digest;
 ghost use mathlib.Core.Path.{_≡_};
-ghost use Rattle.wire.specs.Bytes.{noDigest};
-ghost use Rattle.slots.specs.Height.{noTimeout};
 ghost use Rattle.rules.specs.Verdict.{firstDifference};
 ghost use Rattle.rules.specs.Refusals.{commitmentDifference, acknowledgementDifference, absenceDifference};
 

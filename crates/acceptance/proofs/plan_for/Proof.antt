@@ -8,7 +8,6 @@ use denote.Ref.{now}
 use Rattle.wire.specs.Choice.{isSome}
 use Rattle.slots.specs.declared.PortChannel.{PortChannel}
 use Rattle.slots.specs.declared.Channel.{Channel}
-use Rattle.slots.specs.declared.Found.the-variants.{At}
 use Rattle.slots.specs.Limits.{channelLimit}
 use Rattle.slots.specs.Table.{isNumbered, channelAt}
 use Rattle.slots.specs.Layout.{storeIn}

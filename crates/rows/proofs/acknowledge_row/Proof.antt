@@ -19,7 +19,8 @@ abbrev Left : ℕ → tie.Start → Type 0
 Left n o =
     let a = o .args in
     (d : Datagram) → d .context ≡ a .x → d .packet ≡ a .p → d .digest ≡ a .digest → d .verdict ≡ a .v →
-    numberBehind 7 (some acknowledge) (storeIn (now (a .store))) d (a .c) ≡ numberBehind n (some acknowledge) (storeIn (now (a .store))) d (a .c)
+    numberBehind 7 (some acknowledge) (storeIn (now (a .store))) d (a .c) ≡
+    numberBehind n (some acknowledge) (storeIn (now (a .store))) d (a .c)
 
 returns : tie.Need-returns
 unfolding numberBehind behind table lowest only _or_

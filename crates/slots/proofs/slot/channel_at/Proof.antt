@@ -10,7 +10,8 @@ returns c =
     let other = c .before .before .before in
     let own = other .before .before in
     let a = own .before .before .before .before .args in
-    channel-read (a .at) (now (a .s)) (own .u16-at .ensures) (other .before .u32-at .ensures) (other .port-channel-at .ensures)
+    channel-read (a .at) (now (a .s)) (own .u16-at .ensures) (other .before .u32-at .ensures)
+    (other .port-channel-at .ensures)
     (c .before .before .u64-at .ensures) (c .before .u64-at2 .ensures) (c .u64-at3 .ensures)
 
 pub channel-at-spec : {M : Type 1} → statement M
