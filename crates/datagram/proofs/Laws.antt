@@ -4,4 +4,4 @@ pub use Rattle.datagram.proofs.DatagramLaws.{Sound, sound-is, PacketFie
 pub use Rattle.datagram.proofs.DatagramLaws.{sequence-below, length-digest, bytes-digest, height-below}
 pub use Rattle.datagram.proofs.DatagramLaws.{time-below}
 pub use Rattle.datagram.proofs.EmittedLaws.{kind-framed, bytes-framed, length-packet, bytes-packet}
-pub use Rattle.datagram.proofs.EmittedLaws.{packet-framed, packet-framed-alone}
+pub use Rattle.datagram.proofs.EmittedLaws.{packet-framed}

@@ -14,7 +14,7 @@ use ends::acknowledged_end;
 use ends::received_end;
 use ends::sent_end;
 use ends::timed_out_end;
-use records::Deed;
+use records::Action;
 use records::RecordEdit;
 use records::freed_commitment;
 use records::plain_record;
@@ -82,7 +82,7 @@ fn decide_send(d: &[u8], c: Channel) -> Decision
     Decision {
         end: end,
         edit: RecordEdit {
-            deed: Deed::Writes,
+            action: Action::Writes,
             about: committed,
         },
         emission: Emission {
@@ -124,7 +124,7 @@ fn decide_write(d: &[u8], c: Channel) -> Decision
     Decision {
         end: c,
         edit: RecordEdit {
-            deed: Deed::Writes,
+            action: Action::Writes,
             about: written,
         },
         emission: Emission {

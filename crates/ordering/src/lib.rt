@@ -1,5 +1,5 @@
 // What depends on a channel's ordering: the tests 14 for 5, 15, 16 for 2, 19, and 20 for 2; whether a counter rises.
-// The store has the test 17, and no other test does.
+// `tables` has the test 17; nothing else depends on it.
 use slots::Channel;
 use slots::Record;
 use tables::ordering::is_ordered;

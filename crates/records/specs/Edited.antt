@@ -9,18 +9,18 @@ use Rattle.slots.specs.Layout.{Store}
 use Rattle.slots.specs.Scan.{firstFree, firstThat}
 use Rattle.rules.specs.Ordering.{Edit, keeps, writes, frees}
 use Rattle.rules.specs.Acceptance.{edited}
-use Rattle.records.specs.declared.Deed.{Deed}
-use Rattle.records.specs.declared.Deed.the-variants.{Keeps, Writes, Frees}
+use Rattle.records.specs.declared.Action.{Action}
+use Rattle.records.specs.declared.Action.the-variants.{Keeps, Writes, Frees}
 use Rattle.records.specs.declared.RecordEdit.{RecordEdit}
 
 -- a record that is written, or one of its key that becomes free
-abbrev pub editOf : Deed → Record → Edit
+abbrev pub editOf : Action → Record → Edit
 editOf Keeps r = keeps
 editOf Writes r = writes r
 editOf Frees r = frees (keyOf r)
 
 abbrev pub editBy : RecordEdit → Edit
-editBy e = editOf (e .deed) (e .about)
+editBy e = editOf (e .action) (e .about)
 
 abbrev pub slotOf : Edit → List (Option Record) → Found
 slotOf keeps rs = Nothing

@@ -16,7 +16,7 @@ ghost use Rattle.slots.specs.Effect.{Exact};
 ghost use Rattle.rules.specs.Ordering.{frees, plainRecord, receivedEdit};
 ghost use Rattle.records.specs.Edited.{withEdit, editBy, slotOf};
 
-pub enum Deed {
+pub enum Action {
     Keeps,
     Writes,
     Frees,
@@ -24,7 +24,7 @@ pub enum Deed {
 
 // Nothing, a record that is written, or the record of its kind, channel and sequence that becomes free.
 pub struct RecordEdit {
-    pub deed: Deed,
+    pub action: Action,
     pub about: Record,
 }
 
@@ -48,12 +48,12 @@ pub fn received_edit(c: Channel, sequence: u64) -> RecordEdit
     let receipt = plain_record(Record::RECEIPT, c.own.channel, sequence, [0; 32]);
     if raises_counter(c) {
         return RecordEdit {
-            deed: Deed::Keeps,
+            action: Action::Keeps,
             about: receipt,
         };
     }
     RecordEdit {
-        deed: Deed::Writes,
+        action: Action::Writes,
         about: receipt,
     }
 }
@@ -64,7 +64,7 @@ pub fn freed_commitment(c: Channel, sequence: u64) -> RecordEdit
 {
     let commitment = plain_record(Record::COMMITMENT, c.own.channel, sequence, [0; 32]);
     RecordEdit {
-        deed: Deed::Frees,
+        action: Action::Frees,
         about: commitment,
     }
 }
@@ -75,11 +75,11 @@ pub fn slot_of(store: &[u8], e: RecordEdit) -> Found
     ensures { λ r. ⌜ r ≡ slotOf (editBy e) (storeIn (now (store .entry)) .records) ⌝ }
 {
     let count = (store.len() - Store::RECORDS_FROM) / Store::SLOT;
-    let deed = e.deed;
-    match deed {
-        Deed::Keeps => Found::Nothing,
-        Deed::Writes => find_free(store, count),
-        Deed::Frees => find_record(
+    let action = e.action;
+    match action {
+        Action::Keeps => Found::Nothing,
+        Action::Writes => find_free(store, count),
+        Action::Frees => find_record(
             store,
             count,
             e.about.kind,
@@ -96,11 +96,11 @@ pub fn edit_records(store: &mut [u8], at: Found, e: RecordEdit)
     let Found::At(i) = at else {
         return;
     };
-    let deed = e.deed;
+    let action = e.action;
     let about = e.about;
-    match deed {
-        Deed::Keeps => {}
-        Deed::Writes => insert_record(store, i, about),
-        Deed::Frees => remove_record(store, i),
+    match action {
+        Action::Keeps => {}
+        Action::Writes => insert_record(store, i, about),
+        Action::Frees => remove_record(store, i),
     }
 }

@@ -6,9 +6,10 @@ use Rattle.slots.specs.declared.Channel.{Channel}
 use Rattle.datagram.specs.Names.{Kind}
 use Rattle.rules.specs.declared.Told.{Told}
 use Rattle.rules.specs.Names.{orNone, refusals, sentPacket, effectOf, effectFor, answerTo, effectIn, called, Call}
-use Rattle.rules.specs.Names.{heard, Met, endOf, Recorded, Answered, Demand3Holds}
+use Rattle.rules.specs.Names.{datagramGot, Met, endOf, Recorded, Answered, Demand3Holds}
 use Rattle.rules.proofs.RefusalLaws.{lowest-zero}
-use Rattle.rules.proofs.Acted.{acted, acted-sent, acted-carried, accepted-store, accepted-record, accepted-size}
+use Rattle.rules.proofs.Acted.{acted, acted-number, acted-sent, acted-carried, accepted-store, accepted-record}
+use Rattle.rules.proofs.Acted.{accepted-size}
 use Rattle.rules.proofs.Acted.{accepted-rest, refused-call}
 use Rattle.rules.proofs.History.{World, got-bytes}
 use Rattle.rules.proofs.Sums.{sums}
@@ -26,10 +27,11 @@ unfolding effectIn effectFor effectOf
 recorded c m p q t =
     let a = acted c m p q t in
     record {
-      kind = a .kind;
-      sent = λ k. acted-sent a k ∙ ap (λ (e : Channel). sentPacket e (heard c)) (sym (ap orNone (a .step .found)));
+      kind = acted-number a;
+      sent = λ k. acted-sent a k ∙ ap (λ (e : Channel). sentPacket e (datagramGot c))
+          (sym (ap orNone (a .step .found)));
       carried = acted-carried a;
-      written = λ k. accepted-record c m t ∙ ap (λ (x : Option Kind). effectFor x (endOf c) (heard c) .emitted) k;
+      written = λ k. accepted-record c m t ∙ ap (λ (x : Option Kind). effectFor x (endOf c) (datagramGot c) .emitted) k;
     }
 
 answered : (c : Call) → Met c → Bytes (c .store) → Bytes (c .datagram) → Answered c
@@ -37,7 +39,7 @@ unfolding answerTo
 answered c m p q =
     let n : c .told .number ≡ answerTo (c .store) (c .output) (c .datagram) =
     ap (λ (t : Told). t .number) (m .told) ∙ number (c .store) (c .output) (c .datagram) in
-    let l = lowest-zero (heard c .kind) (refusals (c .store) (length (c .output)) (c .datagram)) in
+    let l = lowest-zero (datagramGot c .kind) (refusals (c .store) (length (c .output)) (c .datagram)) in
     record {
       number = n;
       accepts = (λ t. l .0 (sym n ∙ t), λ q. n ∙ l .1 q);

@@ -9,7 +9,7 @@ use Rattle.wire.proofs.Laws.{and-both, both-and, or-either, clash}
 use Rattle.slots.specs.Names.{storeIn}
 use Rattle.datagram.specs.declared.Verdict.{Verdict}
 use Rattle.datagram.specs.Names.{verdictPart, bodyOf, hasPart}
-use Rattle.rules.specs.Names.{claimHolds, Side, across, isSide, Call, heard, storeAfter, isAccepted}
+use Rattle.rules.specs.Names.{claimHolds, Side, across, isSide, Call, datagramGot, storeAfter, isAccepted}
 use Rattle.rules.specs.Names.{verdictOf, heightOf, timeOf, AcceptedOn, isUpTo, Honest}
 use Rattle.rules.proofs.History.{side-refl}
 
@@ -57,12 +57,12 @@ pub record Seen : Type 0 where
   pub block : Option Block
 
 -- an accepted call of the ledger
-abbrev isOf : Side → Seen → Bool
-isOf z x = isSide z (x .side) and x .accepted
+abbrev isAcceptedOf : Side → Seen → Bool
+isAcceptedOf z x = isSide z (x .side) and x .accepted
 
 -- THE TEST: the block is closed, its time fits, and the claim holds
 abbrev isClosed : Side → Block → Seen → Bool
-isClosed z b x = not (isOf z x) or ltb (b .height) (x .height)
+isClosed z b x = not (isAcceptedOf z x) or ltb (b .height) (x .height)
 
 abbrev isNotBelow : Block → Seen → Bool
 isNotBelow b x = leb (x .time) (b .time)
@@ -71,7 +71,7 @@ abbrev isNotAbove : Block → Seen → Bool
 isNotAbove b x = leb (b .time) (x .time)
 
 abbrev fitsTime : Side → Block → Seen → Bool
-fitsTime z b x = not (isOf z x) or pick (leb (x .height) (b .height)) (isNotBelow b x) (isNotAbove b x)
+fitsTime z b x = not (isAcceptedOf z x) or pick (leb (x .height) (b .height)) (isNotBelow b x) (isNotAbove b x)
 
 abbrev isTrue : (all behind : List Seen) → Side → Option Block → Bool
 isTrue xs ys z none = true
@@ -92,12 +92,12 @@ true-at all (y ∷ xs) zero x h e =
 true-at all (y ∷ xs) (suc i) x h e = true-at all xs i x (and-both h .1) e
 
 module _ (start : Side → List ℕ) (cs : List Call) where
-  abbrev claims : Side → Verdict → Bool
-  claims z v = claimHolds v (storeIn (storeAfter (isUpTo z (v .height)) (start z) cs))
+  abbrev isSoThere : Side → Verdict → Bool
+  isSoThere z v = claimHolds v (storeIn (storeAfter (isUpTo z (v .height)) (start z) cs))
 
   abbrev blockOf : Bool → Side → Verdict → Option Block
   blockOf false z v = none
-  blockOf true z v = some (record { height = v .height .0; time = v .time; holds = claims z v })
+  blockOf true z v = some (record { height = v .height .0; time = v .time; holds = isSoThere z v })
 
   abbrev pub seen : Call → Seen
   seen c =
@@ -106,18 +106,19 @@ module _ (start : Side → List ℕ) (cs : List Call) where
         accepted = isAccepted c;
         height = heightOf c .0;
         time = timeOf c;
-        block = blockOf (isAccepted c and hasPart verdictPart (bodyOf (heard c .kind))) (across (c .side))
+        block = blockOf (isAccepted c and hasPart verdictPart (bodyOf (datagramGot c .kind))) (across (c .side))
             (verdictOf c);
       }
 
   -- what the test says of an accepted call
-  tested : (z : Side) (j : ℕ) (e : Call) (b : Bool) → AcceptedOn z cs j e → (not (isOf z (seen e)) or b) ≡ true →
+  tested : (z : Side) (j : ℕ) (e : Call) (b : Bool) → AcceptedOn z cs j e →
+      (not (isAcceptedOf z (seen e)) or b) ≡ true →
       b ≡ true
   tested z j e b a h =
-      let o : isOf z (seen e) ≡ true =
+      let o : isAcceptedOf z (seen e) ≡ true =
       both-and (subst (λ (y : Side). isSide y (e .side) ≡ true) (a .side) (side-refl (e .side)))
       (eq-eqb (e .told .number) 0 (a .told)) in
-      ⊎-elim (λ n. clash o (not-true (isOf z (seen e)) n)) (λ x. x) (or-either h)
+      ⊎-elim (λ n. clash o (not-true (isAcceptedOf z (seen e)) n)) (λ x. x) (or-either h)
 
   pub honest-seen : isHonest (map seen cs) ≡ true → Honest start cs
   honest-seen h i c at a p =
@@ -135,7 +136,7 @@ module _ (start : Side → List ℕ) (cs : List Call) where
       v = verdictOf c
 
       block : Block
-      block = record { height = v .height .0; time = v .time; holds = claims z v }
+      block = record { height = v .height .0; time = v .time; holds = isSoThere z v }
 
       t : isTrue (map seen cs) (drop (suc i) (map seen cs)) z (some block) ≡ true
       t = subst (λ (b : Bool). isTrue (map seen cs) (drop (suc i) (map seen cs)) z (blockOf b z v) ≡ true)

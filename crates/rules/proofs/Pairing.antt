@@ -10,7 +10,7 @@ use Rattle.slots.specs.Names.{channelAt, samePortChannel, Store, storeIn}
 use Rattle.slots.specs.Names.{stateClosed}
 use Rattle.datagram.specs.declared.Packet.{Packet}
 use Rattle.datagram.specs.Names.{receive, body, hasPart}
-use Rattle.rules.specs.Names.{fitsDestination, Side, across, Call, heard, At, fold, Paired, Peers, packetOf}
+use Rattle.rules.specs.Names.{fitsDestination, Side, across, Call, datagramGot, At, fold, Paired, Peers, packetOf}
 use Rattle.rules.specs.Names.{isDelivery}
 use Rattle.rules.proofs.Step.{Grown, Later, later, later-refl}
 use Rattle.rules.proofs.Receipt.{receive-of, receive-destination, receive-found}
@@ -84,7 +84,7 @@ module _ (w : World) where
   -- A DELIVERY, on the end that its packet names
   pub record Delivered (i : ℕ) (c : Call) : Type 0 where
     pub did : Did w receive i c
-    pub packet : packetOf c ≡ heard c .packet
+    pub packet : packetOf c ≡ datagramGot c .packet
     pub end : Channel
     pub found : channelAt (packetOf c .destination .channel) (ledger w (c .side) i .channels) ≡ some end
     pub source : packetOf c .source ≡ end .counterparty
@@ -104,9 +104,9 @@ module _ (w : World) where
       let st = d .acts .acted .step in
       let q = did-packet w receive i c d refl in
       let f = and-both (receive-of st (d .kind) .0 .fits) in
-      let port = eqb-true (heard c .packet .destination .port) (st .channel .own .port) (f .0) in
+      let port = eqb-true (datagramGot c .packet .destination .port) (st .channel .own .port) (f .0) in
       let number = sym (receive-destination st (d .kind)) in
-      let own : heard c .packet .destination ≡ st .channel .own =
+      let own : datagramGot c .packet .destination ≡ st .channel .own =
       λ j. record { port = port j; channel = number j } in
       record {
         did = d;

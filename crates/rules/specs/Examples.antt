@@ -1,4 +1,5 @@
--- Openings, packets and datagrams for the worked cases and the worked history, by their bytes.
+-- Openings, packets and datagrams for the worked cases and the worked history, by their bytes. Kinds, claims and orders
+-- are written as numbers here, so that a wrong number in the definitions is refused.
 use mathlib.Core.List.{List, [], _∷_, _++_}
 use Prim.Native.Nat.{ℕ}
 use lib.ListN.{replicate}
@@ -54,24 +55,32 @@ aVerdict k b p c n h t d =
 unfoldable pub aSend : (context : List ℕ) → (channel height time : ℕ) → List ℕ
 aSend x c h t = framed 1 (x ++ little 4 c ++ little 8 h ++ little 8 t ++ aDigest)
 
+unfoldable pub receiveBy : (context : List ℕ) → Packet → (verdict : List ℕ) → List ℕ
+receiveBy x p v = framed 2 (x ++ packetBytes p ++ v)
+
 -- with a verdict of a block: about the packet, with this digest
-unfoldable pub receiveOf : (context block : List ℕ) → Packet → (digest : List ℕ) → List ℕ
+abbrev pub receiveOf : (context block : List ℕ) → Packet → (digest : List ℕ) → List ℕ
 receiveOf x b p d =
-    framed 2 (x ++ packetBytes p ++
-    aVerdict 1 b (p .source .port) (p .source .channel) (p .sequence) (p .timeout .height) (p .timeout .time) d)
+    receiveBy x p
+    (aVerdict 1 b (p .source .port) (p .source .channel) (p .sequence) (p .timeout .height) (p .timeout .time) d)
 
 unfoldable pub aWrite : (context : List ℕ) → (channel sequence : ℕ) → (digest : List ℕ) → List ℕ
 aWrite x c n d = framed 3 (x ++ little 4 c ++ little 8 n ++ d)
 
-unfoldable pub acknowledgeOf : (context block : List ℕ) → Packet → (digest : List ℕ) → List ℕ
+unfoldable pub acknowledgeBy : (context : List ℕ) → Packet → (verdict : List ℕ) → List ℕ
+acknowledgeBy x p v = framed 4 (x ++ packetBytes p ++ anAnswer ++ v)
+
+abbrev pub acknowledgeOf : (context block : List ℕ) → Packet → (digest : List ℕ) → List ℕ
 acknowledgeOf x b p d =
-    framed 4 (x ++ packetBytes p ++ anAnswer ++
-    aVerdict 2 b (p .destination .port) (p .destination .channel) (p .sequence) 0 0 d)
+    acknowledgeBy x p (aVerdict 2 b (p .destination .port) (p .destination .channel) (p .sequence) 0 0 d)
+
+unfoldable pub timeoutBy : (context : List ℕ) → Packet → (verdict : List ℕ) → List ℕ
+timeoutBy x p v = framed 5 (x ++ packetBytes p ++ v)
 
 -- with this claim and sequence
-unfoldable pub timeoutOf : (context block : List ℕ) → Packet → (claim sequence : ℕ) → List ℕ
+abbrev pub timeoutOf : (context block : List ℕ) → Packet → (claim sequence : ℕ) → List ℕ
 timeoutOf x b p k n =
-    framed 5 (x ++ packetBytes p ++ aVerdict k b (p .destination .port) (p .destination .channel) n 0 0 noDigest)
+    timeoutBy x p (aVerdict k b (p .destination .port) (p .destination .channel) n 0 0 noDigest)
 
 -- an output buffer that is just long enough
 unfoldable pub anOutput : List ℕ

@@ -43,12 +43,13 @@ requests =
     atFirst 100 1000 (λ x. aSend x 8 205 0) ∷
     atSecond 200 1000 (λ x. receiveOf x (aBlock 100 1000) acknowledgedOne aDigest) ∷
     atSecond 200 1000 (λ x. aWrite x 9 1 anAnswer) ∷
-    -- it comes too late, and is refused
-    atSecond 205 1005 (λ x. receiveOf x (aBlock 100 1000) timedOutOne aDigest) ∷
+    -- it comes too late, and is refused; its verdict is not true, which is not asked of a refused call
+    atSecond 205 1005 (λ x. receiveOf x (aBlock 100 1000) timedOutOne anAnswer) ∷
     atFirst 101 1010 (λ x. acknowledgeOf x (aBlock 200 1000) acknowledgedOne anAnswer) ∷
     atFirst 101 1010 (λ x. timeoutOf x (aBlock 205 1005) timedOutOne 3 1) ∷
-    atSecond 206 1006 (λ x. aSend x 10 0 2000) ∷
-    atFirst 102 1020 (λ x. receiveOf x (aBlock 206 1006) deliveredOne aDigest) ∷ []
+    -- at the time of the block before
+    atSecond 206 1005 (λ x. aSend x 10 0 2000) ∷
+    atFirst 102 1020 (λ x. receiveOf x (aBlock 206 1005) deliveredOne aDigest) ∷ []
 
 abbrev pub history : List Call
 history = calls stores requests

@@ -1,4 +1,4 @@
--- Parts that several records have: an end, its port before its channel, and a packet's timeouts.
+-- Parts that several records have: a port and a channel, in this order, and a packet's timeouts.
 use mathlib.Core.List.{List}
 use Prim.Native.Nat.{ℕ, _+_}
 use Rattle.wire.specs.Bytes.{field}

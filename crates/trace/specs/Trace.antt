@@ -33,9 +33,12 @@ isOver Over = true
 abbrev pub over : (count size : ℕ) → Replay
 over n k = record { phase = Over; count = n; size = k }
 
--- THE FIRST RECORD: length, kind 0x0020, P (2), openings
+-- THE FIRST RECORD: length, kind, P (2), openings
+abbrev pub traceKind : ℕ
+traceKind = 0x0020
+
 unfoldable pub isOpening : List ℕ → Bool
-isOpening r = leb 8 (length r) and eqb (field 4 2 r) 0x0020
+isOpening r = leb 8 (length r) and eqb (field 4 2 r) traceKind
 
 abbrev pub openingsOf : List ℕ → List ℕ
 openingsOf r = drop 8 r

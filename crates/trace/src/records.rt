@@ -21,6 +21,9 @@ ghost use Rattle.trace.specs.Trace.{opens, answers, stepped};
 ghost use Rattle.trace.specs.Trace.{over as Replay·over};
 ghost use Rattle.trace.specs.Stepped.{steppedTo, Leaves};
 
+// The kind of a trace's first record.
+const FIRST: u16 = 0x0020;
+
 fn make_store(room: &mut [u8], size: usize, openings: &[u8]) -> u8
     ensures told { λ r. ⌜ r ≡ makeTold (take size (now (room .entry))) (now (openings .entry)) ⌝ }
     ensures room { λ _. ⌜
@@ -54,7 +57,7 @@ fn is_opening(bytes: &[u8]) -> bool
     if bytes.len() < 8 {
         return false;
     }
-    u16_at(bytes, 4) == 0x0020
+    u16_at(bytes, 4) == FIRST
 }
 
 // A replay before its first record.

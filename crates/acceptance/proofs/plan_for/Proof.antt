@@ -32,11 +32,11 @@ use Rattle.acceptance.proofs.plan_for.Tie as tie
 abbrev store : tie.Start → List ℕ
 store o = now (o .args .store)
 
-abbrev heard : tie.Start → List ℕ
-heard o = now (o .args .datagram)
+abbrev datagramGot : tie.Start → List ℕ
+datagramGot o = now (o .args .datagram)
 
-sound : (o : tie.Start) → Sound (heard o)
-sound o = sound-is (heard o) (o .pre .sound)
+sound : (o : tie.Start) → Sound (datagramGot o)
+sound o = sound-is (datagramGot o) (o .pre .sound)
 
 exact : (o : tie.Start) → Exact (store o)
 exact o = fit-exact (store o) (o .pre .fit)
@@ -45,10 +45,11 @@ exact o = fit-exact (store o) (o .pre .fit)
 abbrev start : tie.After-channel-in → tie.Start
 start i = i .before .before .before .before
 
-number : (i : tie.After-channel-in) → i .channel-in .result ≡ datagramIn (heard (start i)) .channel
+number : (i : tie.After-channel-in) → i .channel-in .result ≡ datagramIn (datagramGot (start i)) .channel
 unfolding datagramIn
 number i =
-    i .channel-in .ensures ∙ ap (λ (k : ℕ). channelFrom (kindOf k) (heard (start i))) (i .before .kind-in .ensures)
+    i .channel-in .ensures ∙ ap (λ (k : ℕ). channelFrom (kindOf k) (datagramGot (start i)))
+    (i .before .kind-in .ensures)
 
 below : (j : tie.After-channel-index) → j .channel-index .result < channelLimit
 below j =
@@ -57,7 +58,7 @@ below j =
     (j .channel-index .ensures)
 
 found : (x : tie.After-channel-at) → let o = start (x .before .before) in
-    endFor (storeIn (store o)) (datagramIn (heard o)) ≡ some (x .channel-at .result)
+    endFor (storeIn (store o)) (datagramIn (datagramGot o)) ≡ some (x .channel-at .result)
 found x =
     let j = x .before in
     let i = j .before in
@@ -93,7 +94,7 @@ decide-requires c κs =
       ap isSome k ∙ s .known,
       rw k (omega (arith, s .size)),
       ap (λ (x : Option Kind). isCounterAtTop x (c .channel-at .result)) k ∙
-          ap (λ (x : Option Channel). isCounterAtTop (kindOf (kindIn (heard o))) (orNone x)) (sym (found c)) ∙
+          ap (λ (x : Option Channel). isCounterAtTop (kindOf (kindIn (datagramGot o))) (orNone x)) (sym (found c)) ∙
           o .pre .below,
     )
 
@@ -109,13 +110,14 @@ returns c =
     let end = x .channel-at .result in
     let decided = decision .decide .ensures in
     let own : decision .decide .result .end .own ≡ end .own =
-    ap (λ (e : Effect). e .end .own) decided ∙ end-own k end (datagramOf k (heard o)) in
+    ap (λ (e : Effect). e .end .own) decided ∙ end-own k end (datagramOf k (datagramGot o)) in
     let same : decision .decide .result .end .own .channel ≡ i .channel-in .result =
     ap (λ (e : PortChannel). e .channel) own ∙
-    channel-number (datagramIn (heard o) .channel) (storeIn (store o) .channels) end (found x) ∙ sym (number i) in (
+    channel-number (datagramIn (datagramGot o) .channel) (storeIn (store o) .channels) end (found x) ∙
+    sym (number i) in (
       c .context-in .ensures,
       (
-        planned-effect (store o) (heard o) (i .before .kind-in .ensures) (found x) decided,
+        planned-effect (store o) (datagramGot o) (i .before .kind-in .ensures) (found x) decided,
         record {
           end =
               ap (λ (n : ℕ). firstThat (isNumbered n) (storeIn (store o) .channels)) same ∙

@@ -12,7 +12,7 @@ use Rattle.slots.specs.Layout.{Store, bytesOf, storeIn}
 use Rattle.slots.specs.Scan.{isFree, holds}
 use Rattle.slots.proofs.ScanLaws.{found-below}
 use Rattle.rules.specs.Acceptance.{edited}
-use Rattle.records.specs.declared.Deed.{Deed}
+use Rattle.records.specs.declared.Action.{Action}
 use Rattle.records.specs.Edited.{editOf, editBy, slotOf, withRecords, withEdit}
 use Rattle.records.proofs.EditLaws.{written, freed, unedited}
 use Rattle.records.proofs.edit_records.Statement.{statement}
@@ -21,8 +21,8 @@ use Rattle.records.proofs.edit_records.Tie as tie
 abbrev held : tie.Start → Store
 held o = storeIn (now (o .args .store))
 
--- what is left by an edit of another deed
-abbrev leftBy : tie.Start → Deed → List ℕ
+-- what is left by an edit of another action
+abbrev leftBy : tie.Start → Action → List ℕ
 leftBy o x = bytesOf (withEdit (held o) (editOf x (o .args .e .about)))
 
 returns : tie.Need-returns
@@ -31,18 +31,18 @@ returns c =
     let none = unedited (editBy (o .args .e)) (held o .records) (sym (o .pre .1) ∙ c .enum-told .given .1) in
     sym (ap (λ (rs : List (Option Record)). bytesOf (withRecords (held o) rs)) none ∙ o .pre .0 .laid)
 
--- the index that the scan found, for the edit of a deed
+-- the index that the scan found, for the edit of a action
 abbrev start : tie.After-known-told → tie.Start
 start f = f .before .before .before .before
 
 abbrev index : tie.After-known-told → ℕ
 index f = f .before .at .given .0 .0
 
-found : (f : tie.After-known-told) (x : Deed) → start f .args .e .deed ≡ x →
+found : (f : tie.After-known-told) (x : Action) → start f .args .e .action ≡ x →
     slotOf (editOf x (start f .args .e .about)) (held (start f) .records) ≡ At (index f)
 found f x q =
     let o = start f in
-    ap (λ (y : Deed). slotOf (editOf y (o .args .e .about)) (held o .records)) (sym q) ∙ sym (o .pre .1) ∙
+    ap (λ (y : Action). slotOf (editOf y (o .args .e .about)) (held o .records)) (sym q) ∙ sym (o .pre .1) ∙
     f .before .at .given .1
 
 insert-record-requires : tie.Need-insert-record-requires

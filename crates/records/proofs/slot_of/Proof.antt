@@ -7,7 +7,7 @@ use borrow.Author.Needs.{needs}
 use Rattle.slots.specs.declared.Found.{Found}
 use Rattle.slots.specs.Layout.{sizeFor, storeIn}
 use Rattle.slots.proofs.EffectLaws.{exact-room}
-use Rattle.records.specs.declared.Deed.{Deed}
+use Rattle.records.specs.declared.Action.{Action}
 use Rattle.records.specs.Edited.{editOf, slotOf}
 use Rattle.records.proofs.slot_of.Statement.{statement}
 use Rattle.records.proofs.slot_of.Tie as tie
@@ -15,8 +15,8 @@ use Rattle.records.proofs.slot_of.Tie as tie
 room : (o : tie.Start) → let s = now (o .args .store) in length s ≡ sizeFor (length (storeIn s .records))
 room o = exact-room (now (o .args .store)) (o .pre)
 
--- the slot of an edit of another deed
-abbrev slotBy : tie.Start → Deed → Found
+-- the slot of an edit of another action
+abbrev slotBy : tie.Start → Action → Found
 slotBy o x = slotOf (editOf x (o .args .e .about)) (storeIn (now (o .args .store)) .records)
 
 returns : tie.Need-returns
