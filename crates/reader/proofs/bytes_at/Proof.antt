@@ -26,7 +26,7 @@ use denote.Builtin.{u8, usize}
 use denote.Ref.{RefT, now}
 use denote.Signature.{plain}
 use denote.Slice.{ShrSlice, slice-vals, shr-slice-tells, shr-slice-lawful}
-use denote.Steps.{owned, peeks, datagramGot, nothing}
+use denote.Steps.{owned, peeks, heard, nothing}
 use denote.Struct.Laws as LL
 use denote.Triple.Statement.{Contract, Triple}
 use denote.Triple.Call.{calls-at}
@@ -175,7 +175,7 @@ module _ {M : Type 1} (𝓤 : URA M) (H : Heap 𝓤) (A : Atoms 𝓤) (W : Given
         raw (ensured 𝓤 H A new.ended (new.clauses 𝓤 H A mem run) (κ, tt) (s, tt) tt r))))
         (id⊢ 𝓤 _) $ await ! tt $ pick ! (λ r.
         split ! $ move ! (1 ∷ []) $ use1 W (raw (fact 𝓤 (is-made r))) (made 𝓤 H A W mem run κ q s r) $
-        datagramGot ! (is-made r) (λ e. split ! $ move ! (1 ∷ []) $
+        heard ! (is-made r) (λ e. split ! $ move ! (1 ∷ []) $
         -- [what the reader owns; the token; what s owns; room for _5; …; room for _4; …; and the rest]
         peeks ! (row κ) (Is (row κ)) (shows 𝓤 H A (row κ)) r (u ∷ []) (λ is.
         land ! (from ! (stop !))
@@ -191,7 +191,7 @@ module _ {M : Type 1} (𝓤 : URA M) (H : Heap 𝓤) (A : Atoms 𝓤) (W : Given
         (id⊢ 𝓤 _) $ await ! tt $ pick ! (λ p.
         split ! $ move ! (1 ∷ []) $
         use1 W (raw (fact 𝓤 (is-moved r u p))) (gone 𝓤 H A W mem run κ q s n fits r u p) $
-        datagramGot ! (is-moved r u p) (λ m. split ! $ move ! (1 ∷ []) $
+        heard ! (is-moved r u p) (λ m. split ! $ move ! (1 ∷ []) $
         peeks ! (row κ) (Is (row κ)) (shows 𝓤 H A (row κ)) p (u₁ ∷ []) (λ is₁.
         land ! (from ! (stop !))
         (init ! 5 refl (LL.lawful (T.the-type (local κ)) (T′.the-laws (local κ)) 𝓤 H A W .typed p _ is₁ .0)) $
@@ -203,7 +203,7 @@ module _ {M : Type 1} (𝓤 : URA M) (H : Heap 𝓤) (A : Atoms 𝓤) (W : Given
         (later (some (λ (f : RefT (List ℕ)). ((‵ (flft κ q) ⊛ ‵ ftrue) ⊛ ‵ (S .own f (u₂ ∷ []))) ⊛
         raw (ensured 𝓤 H A bytes.ended (bytes.clauses 𝓤 H A mem run) (κ, tt) (p, (k, tt)) tt f))))
         (id⊢ 𝓤 _) $ await ! tt $ pick ! (λ f.
-        split ! $ move ! (1 ∷ []) $ use1 W (raw (fact 𝓤 (Found p f))) (found p f) $ datagramGot ! (Found p f) (λ h.
+        split ! $ move ! (1 ∷ []) $ use1 W (raw (fact 𝓤 (Found p f))) (found p f) $ heard ! (Found p f) (λ h.
         split ! $ move ! (1 ∷ []) $
         -- [the result; the token; what s owns; the locals from the last to _0]
         peeks ! S (Is S) (shows 𝓤 H A S) f (u₂ ∷ []) (λ is₂.

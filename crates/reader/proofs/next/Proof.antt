@@ -31,7 +31,7 @@ use denote.Builtin.{u8, usize}
 use denote.Ref.{NamedLft, now}
 use denote.Signature.{namedLft}
 use denote.Slice.{sliceVal, ShrSlice}
-use denote.Steps.{owned, peeks, datagramGot, nothing}
+use denote.Steps.{owned, peeks, heard, nothing}
 use denote.Enum.Laws as EL
 use denote.Struct.Declared.{Declared}
 use denote.Struct.Laws as LL
@@ -177,7 +177,7 @@ module _ {M : Type 1} (𝓤 : URA M) (H : Heap 𝓤) (A : Atoms 𝓤) (W : Given
         (later (some (λ (f : Front). ((‵ (flft κ q) ⊛ ‵ ftrue) ⊛ ‵ (F.the-row .own f (u ∷ []))) ⊛
         raw (ensured 𝓤 H A front-at.ended (front-at.clauses 𝓤 H A mem run) (κ, tt) (d .src, (d .at, tt)) tt f))))
         (id⊢ 𝓤 _) $ await ! tt $ pick ! (λ f.
-        split ! $ move ! (1 ∷ []) $ use1 W (raw (fact 𝓤 (f ≡ found))) (heed f) $ datagramGot ! (f ≡ found) (λ e.
+        split ! $ move ! (1 ∷ []) $ use1 W (raw (fact 𝓤 (f ≡ found))) (heed f) $ heard ! (f ≡ found) (λ e.
         split ! $ move ! (1 ∷ []) $
         -- [the result; the token; what the reader owns; _3; …; _2; …; _1; …; room for _0; …]
         peeks ! F.the-row (Is F.the-row) (shows 𝓤 H A F.the-row) f (u ∷ []) (λ is.
