@@ -1,6 +1,6 @@
 /* The packet handler of one ledger: a datagram goes in, a number and a record come out. The functions are those of the
- * static library libroute.a, which `rt staticlib route` writes. docs/FORMAT.md has the layouts of stores, datagrams and
- * emitted records; docs/ANSWERS.md has what to do about each answer.
+ * static library libroute.a, which `rt staticlib route` writes. docs/FORMAT.md and docs/DATAGRAMS.md have the
+ * layouts; docs/ANSWERS.md has what to do about each answer.
  *
  * WHAT HOLDS FOR EVERY POINTER. It is valid for as many bytes as the length beside it says: to be read, and also to be
  * written where it is not const. The memory lent to one call does not overlap: not the store with the output, the

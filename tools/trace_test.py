@@ -9,7 +9,7 @@ import unittest
 TRACE = os.path.join(os.path.dirname(os.path.abspath(__file__)), "trace")
 OPEN = "open 2\nchannel 7 port 5 ordered to 6/9\nchannel 8 port 5 unordered to 6/10\n"
 
-# The opening and the send of docs/FORMAT.md, byte for byte.
+# The opening and the send of docs/REPLAY.md, byte for byte.
 OPENING = "14000000 1000 0500 07000000 0600 09000000 01 00"
 SEND = (
     "5a000000 0100 6400000000000000 e803000000000000 3200000000000000 0500 01 0000000000"

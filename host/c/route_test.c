@@ -127,7 +127,7 @@ static void test_make(void)
     EXPECT(route_make_store(store, STORE, list, 2 * ROUTE_OPENING_LENGTH) == ROUTE_CHANNEL_TWICE);
 }
 
-/* The example of docs/FORMAT.md. */
+/* The example of docs/REPLAY.md. */
 static void test_send(void)
 {
     static const uint8_t sent[ROUTE_SENT_LENGTH] = {0x4a, 0, 0, 0, 1, 1, 1, 0, 0, 0, 0, 0, 0, 0, 0x3c, 0, 0, 0, 0, 0,

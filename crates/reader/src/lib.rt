@@ -1,6 +1,6 @@
-// One record at a time. A reader holds the input and a place in it; it tells what stands there, hands out the record,
-// and moves on. The functions over it are thin, since each is proved by a walk: the work is `front_at` and `part_at`.
-// Other crates use `next_at` and `bytes_at`, whose parameters are plain.
+// One record at a time. A reader holds the input and a place in it; it tells what stands there and hands out the
+// record, and `moved` is a reader at another place. The functions over it are thin, since each is proved by a walk: the
+// work is `front_at` and `part_at`. Other crates use `next_at` and `bytes_at`, whose parameters are plain.
 use input::end_within;
 use wire::u32_at;
 ghost use mathlib.Core.Path.{_≡_};
