@@ -6,8 +6,9 @@ use Prim.Native.Nat.{ℕ}
 use Rattle.store.specs.Maker.{makeStore}
 use Rattle.datagram.specs.declared.Packet.{Packet}
 use Rattle.datagram.specs.Emitted.{writtenKind}
-use Rattle.rules.specs.Promise.{Side, first, second, Call, Run, Made, Paired, Honest, howMany, hasEmitted, isSend}
-use Rattle.rules.specs.Promise.{isDelivery, isAcknowledgement, isTimeout}
+use Rattle.rules.specs.Calls.{Side, first, second, Call, Run, Made, Paired, howMany, hasEmitted, isSend}
+use Rattle.rules.specs.Calls.{isDelivery, isAcknowledgement, isTimeout}
+use Rattle.rules.specs.Truth.{Honest}
 use Rattle.rules.specs.Statements.{Request, calls}
 use Rattle.rules.specs.Examples.{aSlice, anOpening, openings, aContext, aDigest, anAnswer, aPacket}
 use Rattle.rules.specs.Examples.{aBlock, aSend, receiveOf, aWrite, acknowledgeOf, timeoutOf, anOutput}
