@@ -25,9 +25,9 @@ use slots::Record;
 use slots::Timeout;
 use tables::ordering::is_received;
 use tables::scan::has_record;
-use verdicts::absence_difference;
-use verdicts::acknowledgement_difference;
-use verdicts::commitment_difference;
+use verdicts::absence_number;
+use verdicts::acknowledgement_number;
+use verdicts::commitment_number;
 use wire::is_zero_digest;
 ghost use mathlib.Core.Path.{_≡_};
 ghost use mathlib.Core.Bool.{not};
@@ -82,8 +82,9 @@ pub fn receive_row(store: &[u8], count: usize, x: Context, p: Packet, v: Verdict
     if is_late_at_receiver(x, timeout) {
         return 11;
     }
-    if commitment_difference(p, v) != 0 {
-        return 14;
+    let wrong = commitment_number(p, v);
+    if wrong != 0 {
+        return wrong;
     }
     delivery_row(store, count, p, c)
 }
@@ -176,8 +177,9 @@ pub fn acknowledge_row(
     if !is_committed(store, count, p) {
         return 13;
     }
-    if acknowledgement_difference(p, digest, v) != 0 {
-        return 14;
+    let wrong = acknowledgement_number(p, digest, v);
+    if wrong != 0 {
+        return wrong;
     }
     acknowledgement_row(p, c)
 }
@@ -213,8 +215,9 @@ pub fn time_out_row(store: &[u8], count: usize, p: Packet, v: Verdict, c: Channe
     if !is_committed(store, count, p) {
         return 13;
     }
-    if absence_difference(c, p, v) != 0 {
-        return 14;
+    let wrong = absence_number(c, p, v);
+    if wrong != 0 {
+        return wrong;
     }
     if !times_out_in_order(c, p.sequence, v.sequence) {
         return 15;

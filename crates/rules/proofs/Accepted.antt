@@ -1,5 +1,5 @@
 -- What an accepted datagram of each kind tells: the one place that opens the table of answers. Assumes nothing.
-use Rattle.wire.proofs.Prelude.{_≡_, true, false, not, List, some, ℕ, eqb-true, not-false}
+use Rattle.wire.proofs.Prelude.{_≡_, true, false, not, List, some, ℕ, not-false}
 use Rattle.wire.specs.Names.{_and_, _or_}
 use Rattle.slots.specs.declared.Channel.{Channel}
 use Rattle.slots.specs.Names.{hasFree, Store, isReceived}
@@ -8,7 +8,7 @@ use Rattle.rules.specs.Names.{receivesInOrder, isReceiptThere, timesOutI
 use Rattle.rules.specs.Names.{isAcknowledgeAtTop, needsReceipt, Line, lowest, table, fitsDestination, fitsSource}
 use Rattle.rules.specs.Names.{isLateAtReceiver, isProvedLate, isCommitted, commitmentDifference}
 use Rattle.rules.specs.Names.{absenceDifference, isAcknowledgementThere}
-use Rattle.rules.proofs.RefusalLaws.{givenAt, silent, not-given}
+use Rattle.rules.proofs.RefusalLaws.{givenAt, silent, not-given, no-difference}
 
 pub record SendOk (s : Store) (c : Channel) : Type 0 where
   pub below : isSendAtTop c ≡ false
@@ -61,7 +61,7 @@ module _ (bs : List ℕ) (room : ℕ) (b : List ℕ) (s : Store) (d : Datagram) 
       record {
         fits = not-false _ (not-given _ 8 (quiet 9 receive h));
         early = not-given _ 10 (quiet 11 receive h);
-        about = eqb-true _ 0 (not-false _ (not-given _ 13 (quiet 14 receive h)));
+        about = no-difference _ (quiet 14 receive h);
         inOrder = not-false _ (not-given _ 14 (quiet 15 receive h));
         new = not-given _ 15 (quiet 16 receive h);
         below = not-given _ 18 (quiet 19 receive h);
@@ -92,6 +92,6 @@ module _ (bs : List ℕ) (room : ℕ) (b : List ℕ) (s : Store) (d : Datagram) 
         fits = not-false _ (not-given _ 8 (quiet 9 timeOut h));
         late = not-false _ (not-given _ 11 (quiet 12 timeOut h));
         committed = not-false _ (not-given _ 12 (quiet 13 timeOut h));
-        about = eqb-true _ 0 (not-false _ (not-given _ 13 (quiet 14 timeOut h)));
+        about = no-difference _ (quiet 14 timeOut h);
         inOrder = not-false _ (not-given _ 14 (quiet 15 timeOut h));
       }

@@ -56,13 +56,13 @@ returns-4 : tie.Need-returns-4
 unfolding numberBehind behind table lowest only _or_
 returns-4 c =
     λ d x p a v. sym (past-13 (c .before .before) d x p a v ∙
-    rw (p, a, v, is-not-zero (c .before .acknowledgement-difference .ensures) (c .if4 .taken)))
+    rw (p, a, v, is-not-zero (c .before .acknowledgement-number .ensures) (c .if4 .taken)) (sym (c .before .acknowledgement-number .ensures)))
 
 past-14 : (e : tie.Else4) → Left 14 (e .before .before .before .before .before .before .before .before .before)
 unfolding numberBehind behind table lowest only _or_
 past-14 e d x p a v =
     past-13 (e .before .before) d x p a v ∙
-    rw (p, a, v, is-zero (e .before .acknowledgement-difference .ensures) (e .if4 .left))
+    rw (p, a, v, is-zero (e .before .acknowledgement-number .ensures) (e .if4 .left))
 
 returns-5 : tie.Need-returns-5
 returns-5 c =

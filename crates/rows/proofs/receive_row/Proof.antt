@@ -57,14 +57,14 @@ returns-4 : tie.Need-returns-4
 unfolding numberBehind behind table lowest only _or_
 returns-4 c =
     λ d x p v. sym (past-11 (c .before .before) d x p v ∙
-    rw (p, v, is-not-zero (c .before .commitment-difference .ensures) (c .if4 .taken)))
+    rw (p, v, is-not-zero (c .before .commitment-number .ensures) (c .if4 .taken)) (sym (c .before .commitment-number .ensures)))
 
 past-14 : (e : tie.Else4) →
     Left 14 (e .before .before .before .before .before .before .before .before .before .before)
 unfolding numberBehind behind table lowest only _or_
 past-14 e d x p v =
     past-11 (e .before .before) d x p v ∙
-    rw (p, v, is-zero (e .before .commitment-difference .ensures) (e .if4 .left))
+    rw (p, v, is-zero (e .before .commitment-number .ensures) (e .if4 .left))
 
 returns-5 : tie.Need-returns-5
 returns-5 c = λ d x p v. c .delivery-row .ensures d p ∙ sym (past-14 (c .before) d x p v)

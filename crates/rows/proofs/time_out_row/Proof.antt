@@ -56,13 +56,13 @@ returns-4 : tie.Need-returns-4
 unfolding numberBehind behind table lowest only _or_
 returns-4 c =
     λ d p v. sym (past-13 (c .before .before) d p v ∙
-    rw (p, v, is-not-zero (c .before .absence-difference .ensures) (c .if4 .taken)))
+    rw (p, v, is-not-zero (c .before .absence-number .ensures) (c .if4 .taken)) (sym (c .before .absence-number .ensures)))
 
 past-14 : (e : tie.Else4) →
     Left 14 (e .before .before .before .before .before .before .before .before .before .before)
 unfolding numberBehind behind table lowest only _or_
 past-14 e d p v =
-    past-13 (e .before .before) d p v ∙ rw (p, v, is-zero (e .before .absence-difference .ensures) (e .if4 .left))
+    past-13 (e .before .before) d p v ∙ rw (p, v, is-zero (e .before .absence-number .ensures) (e .if4 .left))
 
 returns-5 : tie.Need-returns-5
 unfolding numberBehind behind table lowest only _or_
