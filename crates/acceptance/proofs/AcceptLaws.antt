@@ -5,17 +5,19 @@ use Rattle.wire.proofs.Prelude.{not-false}
 use Rattle.wire.specs.Names.{isSome}
 use Rattle.wire.proofs.Laws.{of-pick}
 use Rattle.slots.specs.declared.Channel.{Channel}
-use Rattle.slots.specs.Names.{outputLimit, storeIn, isFit, isOrdered}
+use Rattle.slots.specs.declared.Found.the-variants.{At}
+use Rattle.slots.specs.Names.{outputLimit, storeIn, isFit, isNumbered, isOrdered}
+use Rattle.slots.specs.Scan.{firstThat}
 use Rattle.datagram.specs.Names.{Kind, send, receive, write, acknowledge, timeOut, kindOf, Datagram, datagramOf}
 use Rattle.datagram.specs.Names.{datagramIn, kindIn, isSound}
 use Rattle.rules.specs.Names.{counted, raisedReceive, raisedAcknowledge, raisesReceive, raisesAcknowledge, receivedEnd}
 use Rattle.rules.specs.Names.{acknowledgedEnd, closed, timedOutEnd, lowest, table, refusals, orNone, endFor, Effect}
 use Rattle.rules.specs.Names.{sends, receives, writesAcknowledgement, acknowledges, timesOut, effectOf, effectFor}
-use Rattle.rules.specs.Names.{answerTo, effectIn}
+use Rattle.rules.specs.Names.{puts, answerTo, effectIn}
 use Rattle.rules.proofs.RefusalLaws.{givenAt, silent, not-given}
 use Rattle.rules.proofs.Accepted.{send-ok, receive-ok, acknowledge-ok}
 use Rattle.effects.specs.Decided.{isCounterAtTop}
-use Rattle.acceptance.specs.Planned.{Ready}
+use Rattle.acceptance.specs.Planned.{Ready, IsEndAt}
 
 -- AN ANSWER OF 0: no line of the table gave a number
 module _ (s o d : List ℕ) (accepted : answerTo s o d ≡ 0) where
@@ -50,19 +52,21 @@ module _ (s o d : List ℕ) (accepted : answerTo s o d ≡ 0) where
   unfolding table givenAt
   output-room = ltb-false (length o) outputLimit (not-given _ 1 (quiet 2))
 
--- THE END stays the same one
-pub end-own : (k : Option Kind) (c : Channel) (d : Datagram) → effectFor k c d .end .own ≡ c .own
+-- THE END that is put has the number of the one that was there, and so its slot
+pub end-placed : (k : Option Kind) (c : Channel) (d : Datagram) (cs : List (Option Channel)) (j : ℕ) →
+    firstThat (isNumbered (c .own .channel)) cs ≡ At j → IsEndAt (effectFor k c d .ends) cs j
 unfolding effectFor effectOf sends receives writesAcknowledgement acknowledges timesOut receivedEnd acknowledgedEnd
     timedOutEnd counted closed
-end-own none c d = refl
-end-own (some send) c d = refl
-end-own (some receive) c d =
-    of-pick (λ e. e .own ≡ c .own) (raisesReceive c) (counted c (raisedReceive (c .next))) c (λ q. refl) (λ q. refl)
-end-own (some write) c d = refl
-end-own (some acknowledge) c d =
-    of-pick (λ e. e .own ≡ c .own) (raisesAcknowledge c) (counted c (raisedAcknowledge (c .next))) c (λ q. refl)
-    (λ q. refl)
-end-own (some timeOut) c d = of-pick (λ e. e .own ≡ c .own) (isOrdered c) (closed c) c (λ q. refl) (λ q. refl)
+end-placed none c d cs j h = tt
+end-placed (some send) c d cs j h = h
+end-placed (some receive) c d cs j h =
+    of-pick (λ e. IsEndAt (puts e) cs j) (raisesReceive c) (counted c (raisedReceive (c .next))) c (λ q. h) (λ q. h)
+end-placed (some write) c d cs j h = tt
+end-placed (some acknowledge) c d cs j h =
+    of-pick (λ e. IsEndAt (puts e) cs j) (raisesAcknowledge c) (counted c (raisedAcknowledge (c .next))) c (λ q. h)
+    (λ q. h)
+end-placed (some timeOut) c d cs j h =
+    of-pick (λ e. IsEndAt (puts e) cs j) (isOrdered c) (closed c) c (λ q. h) (λ q. h)
 
 -- THE EFFECT that is decided on the end of the datagram's channel
 pub planned-effect : (s d : List ℕ) {e : Effect} {n : ℕ} {c : Channel} → n ≡ kindIn d →

@@ -6,10 +6,12 @@ use datagram::read::channel_in;
 use datagram::read::context_in;
 use datagram::read::kind_in;
 use effects::Decision;
+use effects::EndAction;
 use effects::decide;
 use emit::emit_record;
 use records::edit_records;
 use records::slot_of;
+use slots::Channel;
 use slots::Found;
 use slots::slot::channel_at;
 use store::Store;
@@ -23,13 +25,14 @@ ghost use Rattle.slots.specs.declared.Found.the-variants.{At};
 ghost use Rattle.slots.specs.Table.{isNumbered, channelAt};
 ghost use Rattle.slots.specs.Layout.{recordsFrom, bytesOf, storeIn};
 ghost use Rattle.slots.specs.Scan.{firstThat};
+ghost use Rattle.slots.specs.Effect.{Exact};
 ghost use Rattle.slots.specs.Fit.{isFit};
 ghost use Rattle.datagram.specs.Datagram.{datagramIn};
 ghost use Rattle.emit.specs.Output.{atFront};
 ghost use Rattle.rules.specs.Acceptance.{applied};
 ghost use Rattle.rules.specs.Call.{answerTo, effectIn, nextStore};
-ghost use Rattle.effects.specs.Decided.{effectBy};
-ghost use Rattle.acceptance.specs.Planned.{Ready, Placed};
+ghost use Rattle.effects.specs.Decided.{endEditOf, effectBy};
+ghost use Rattle.acceptance.specs.Planned.{Ready, IsEndAt, Placed, withEnds};
 
 // What is carried out: the times, what the datagram does, and the slots of the end and of the packet record.
 struct Plan {
@@ -76,6 +79,17 @@ fn plan_for(store: &[u8], datagram: &[u8]) -> Plan
     }
 }
 
+// An end is put only where the action says so.
+fn place_end(store: &mut [u8], index: usize, ends: EndAction, end: Channel)
+    requires { ⌜ Exact (now store) × IsEndAt (endEditOf ends end) (storeIn (now store) .channels) index ⌝ }
+    ensures { λ _. ⌜ now (store .exit) ≡ bytesOf (withEnds (storeIn (now (store .entry))) (endEditOf ends end)) ⌝ }
+{
+    match ends {
+        EndAction::Leaves => {}
+        EndAction::Puts => set_channel(store, index, end),
+    }
+}
+
 // All that is written to the store.
 fn carry_out(store: &mut [u8], p: Plan)
     requires { ⌜ (isFit (now store) ≡ true) × Placed (storeIn (now store)) p ⌝ }
@@ -85,10 +99,12 @@ fn carry_out(store: &mut [u8], p: Plan)
 {
     let height = p.context.height;
     set_times(store, height, p.context.time);
-    let end = p.decision.end;
-    set_channel(store, p.index, end);
+    let decision = p.decision;
+    let ends = decision.ends;
+    let end = decision.end;
+    place_end(store, p.index, ends, end);
     let slot = p.slot;
-    let edit = p.decision.edit;
+    let edit = decision.edit;
     edit_records(store, slot, edit);
 }
 

@@ -1,4 +1,4 @@
-// What acceptance does, decided by reads alone: for each kind of datagram the end that is left, the edit of the packet
+// What acceptance does, decided by reads alone: for each kind of datagram the edit of the ends, the edit of the packet
 // records, and the record that is emitted. A new kind is one more such function, and a line of `decide`.
 use datagram::Packet;
 use datagram::read::digest_in;
@@ -34,7 +34,14 @@ ghost use Rattle.rules.specs.Ordering.{isSendAtTop, isReceiveAtTop, isAcknowled
 ghost use Rattle.rules.specs.Acceptance.{sentPacket, commitment, effectOf, effectFor};
 ghost use Rattle.effects.specs.Decided.{effectBy, isCounterAtTop};
 
+pub enum EndAction {
+    Leaves,
+    Puts,
+}
+
+// The ends stay, or the end of its number becomes `end`.
 pub struct Decision {
+    pub ends: EndAction,
     pub end: Channel,
     pub edit: RecordEdit,
     pub emission: Emission,
@@ -80,6 +87,7 @@ fn decide_send(d: &[u8], c: Channel) -> Decision
     let committed = commitment_of(packet);
     let end = sent_end(c);
     Decision {
+        ends: EndAction::Puts,
         end: end,
         edit: RecordEdit {
             action: Action::Writes,
@@ -101,6 +109,7 @@ fn decide_receive(d: &[u8], c: Channel) -> Decision
     let edit = received_edit(c, packet.sequence);
     let end = received_end(c);
     Decision {
+        ends: EndAction::Puts,
         end: end,
         edit: edit,
         emission: Emission {
@@ -122,6 +131,7 @@ fn decide_write(d: &[u8], c: Channel) -> Decision
     let source = c.counterparty;
     let destination = c.own;
     Decision {
+        ends: EndAction::Leaves,
         end: c,
         edit: RecordEdit {
             action: Action::Writes,
@@ -150,6 +160,7 @@ fn decide_acknowledge(d: &[u8], c: Channel) -> Decision
     let edit = freed_commitment(c, packet.sequence);
     let end = acknowledged_end(c);
     Decision {
+        ends: EndAction::Puts,
         end: end,
         edit: edit,
         emission: Emission {
@@ -168,6 +179,7 @@ fn decide_time_out(d: &[u8], c: Channel) -> Decision
     let edit = freed_commitment(c, packet.sequence);
     let end = timed_out_end(c);
     Decision {
+        ends: EndAction::Puts,
         end: end,
         edit: edit,
         emission: Emission {

@@ -15,7 +15,7 @@ use Rattle.rules.specs.Names.{writesAcknowledgement, acknowledges, times
 use Rattle.rules.proofs.Accepted.{ReceiveOk}
 use Rattle.rules.proofs.Step.{How, sending, receiving, writing, acknowledging, timing, Step, single, later}
 use Rattle.rules.proofs.Step.{record-stays, records-left, own-number, own-found, own-grown, own-after}
-use Rattle.rules.proofs.Step.{other-after}
+use Rattle.rules.proofs.Step.{other-after, endLeft, ownLeft}
 use Rattle.rules.proofs.Commitment.{later-some}
 use Rattle.rules.proofs.OrderingLaws as ordering
 
@@ -64,9 +64,9 @@ module _ {s t : Store} {d : Datagram} (st : Step s d t) (k : d .kind ≡ some re
       clash (subst (λ (c : Channel). isReceived (s .records) c (d .packet .sequence) ≡ true) e (r .received))
       (ordering.receive-new (s .records) (st .channel) (d .packet .sequence) (ok .inOrder) (ok .new))
 
-  pub receive-end : st .effect .end ≡ receivedEnd (st .channel)
+  pub receive-end : ownLeft st ≡ receivedEnd (st .channel)
   unfolding receives
-  receive-end = ap (λ (e : Effect). e .end) (receive-of .1)
+  receive-end = ap (λ (e : Effect). endLeft (e .ends) (st .channel)) (receive-of .1)
 
   pub receive-makes : Received t (d .packet .destination .channel) (d .packet .sequence)
   unfolding receives
@@ -92,7 +92,7 @@ pub record Waits (s : Store) (n m : ℕ) : Type 0 where
   pub next : channel .next .receive ≡ m
 
 receive-kept : {s : Store} {d : Datagram} {c : Channel} {e : Effect} → How s d c e → (d .kind ≡ some receive → ⊥) →
-    e .end .next .receive ≡ c .next .receive
+    endLeft (e .ends) c .next .receive ≡ c .next .receive
 unfolding sends writesAcknowledgement acknowledges timesOut acknowledgedEnd timedOutEnd counted closed
 receive-kept {c = c} (sending q ok) k = refl
 receive-kept {c = c} (receiving q ok) k = absurd (k q)
@@ -111,16 +111,16 @@ module _ {s t : Store} {d : Datagram} {n m : ℕ} (st : Step s d t) (w : Waits s
       own-found st in
       cc
 
-  own-order : st .channel .own .channel ≡ n → isOrdered (st .effect .end) ≡ true
+  own-order : st .channel .own .channel ≡ n → isOrdered (ownLeft st) ≡ true
   unfolding isOrdered
   own-order q =
       ap (λ (k : ℕ). eqb k orderOrdered) (own-grown st .order) ∙
       ap (λ (c : Channel). eqb (c .order) orderOrdered) (own-waits q) ∙ w .ordered
 
-  waits-own : st .channel .own .channel ≡ n → (j : ℕ) → st .effect .end .next .receive ≡ j → Waits t n j
+  waits-own : st .channel .own .channel ≡ n → (j : ℕ) → ownLeft st .next .receive ≡ j → Waits t n j
   waits-own q j h =
       record {
-        channel = st .effect .end;
+        channel = ownLeft st;
         found = ap (λ (k : ℕ). channelAt k (t .channels)) (sym q) ∙ own-after st;
         ordered = own-order q;
         next = h;

@@ -1,20 +1,17 @@
 -- Effects one after another: bytes that hold a store whose fields fit are exact, are read as that store, and hold the
--- next store after each effect. Assumes nothing.
+-- store with other times where those are set. Assumes nothing.
 use mathlib.Core.Path.{_≡_, sym, ap, _∙_}
 use mathlib.Core.Bool.{true}
-use mathlib.Core.List.{List, [], _∷_}
-use mathlib.Core.Option.{Option, none, some}
-use Prim.Native.Nat.{ℕ, zero, suc, _^_, _<_}
-use lib.ListN.{length, set, length-set}
+use mathlib.Core.List.{List}
+use Prim.Native.Nat.{ℕ, _^_, _<_}
+use lib.ListN.{length}
 use Rattle.wire.proofs.ChoiceLaws.{and-both}
 use Rattle.wire.proofs.BytesLaws.{same-eq}
 use Rattle.slots.specs.declared.OwnHeight.{OwnHeight}
-use Rattle.slots.specs.declared.Channel.{Channel}
 use Rattle.slots.specs.Layout.{Store, bytesOf, storeIn}
 use Rattle.slots.specs.Fit.{sizeFits, isFit}
-use Rattle.slots.specs.Effect.{Exact, withTimes, withChannelSlot}
-use Rattle.slots.proofs.TableLaws.{Each}
-use Rattle.slots.proofs.LayoutLaws.{ChannelFields, StoreFields, read-back, size-of}
+use Rattle.slots.specs.Effect.{Exact, withTimes}
+use Rattle.slots.proofs.LayoutLaws.{StoreFields, read-back, size-of}
 use Rattle.slots.proofs.FitLaws.{size-fits}
 
 pub record Held (s : Store) (bs : List ℕ) : Type 0 where
@@ -41,24 +38,12 @@ module _ {s : Store} {bs : List ℕ} (h : Held s bs) where
         laid = ap bytesOf held-store ∙ sym (h .bytes);
       }
 
-each-set : {A : Type 0} (P : A → Type 0) (y : Option A) (i : ℕ) (xs : List (Option A)) → Each P (y ∷ []) → Each P xs →
-    Each P (set xs i y)
-each-set P y i [] p h = tt
-each-set P none zero (none ∷ xs) p h = h
-each-set P none zero (some x ∷ xs) p h = h .1
-each-set P (some y) zero (none ∷ xs) p h = (p .0, h)
-each-set P (some y) zero (some x ∷ xs) p h = (p .0, h .1)
-each-set P y (suc i) (none ∷ xs) p h = each-set P y i xs p h
-each-set P y (suc i) (some x ∷ xs) p h = (h .0, each-set P y i xs p (h .1))
-
--- EACH EFFECT
-module _ {s : Store} {bs : List ℕ} (h : Held s bs) (next : List ℕ) where
-  pub held-times : (k : OwnHeight) (t : ℕ) → k .0 < 256 ^ 8 → t < 256 ^ 8 →
+  pub held-times : (next : List ℕ) (k : OwnHeight) (t : ℕ) → k .0 < 256 ^ 8 → t < 256 ^ 8 →
       next ≡ bytesOf (withTimes (storeIn bs) k t) → Held (withTimes s k t) next
-  held-times k t p q e =
+  held-times next k t p q e =
       let f = h .fields in
       record {
-        bytes = e ∙ ap (λ (u : Store). bytesOf (withTimes u k t)) (held-store h);
+        bytes = e ∙ ap (λ (u : Store). bytesOf (withTimes u k t)) held-store;
         fields =
             record {
               height = p;
@@ -67,24 +52,6 @@ module _ {s : Store} {bs : List ℕ} (h : Held s bs) (next : List ℕ) where
               low = f .low;
               high = f .high;
               channels = f .channels;
-              records = f .records;
-            };
-      }
-
-  pub held-channel : (j : ℕ) (x : Option Channel) → Each ChannelFields (x ∷ []) →
-      next ≡ bytesOf (withChannelSlot (storeIn bs) j x) → Held (withChannelSlot s j x) next
-  held-channel j x p e =
-      let f = h .fields in
-      record {
-        bytes = e ∙ ap (λ (u : Store). bytesOf (withChannelSlot u j x)) (held-store h);
-        fields =
-            record {
-              height = f .height;
-              time = f .time;
-              slots = length-set (s .channels) j x ∙ f .slots;
-              low = f .low;
-              high = f .high;
-              channels = each-set ChannelFields x j (s .channels) p (f .channels);
               records = f .records;
             };
       }

@@ -1,30 +1,32 @@
--- The times, the end and the packet record, one after another: the bytes hold the store that each leaves.
+-- The times, the ends and the packet record, one after another: the bytes hold the store that each leaves.
 -- Assumes nothing.
-use mathlib.Core.Path.{sym, ap, _∙_}
-use mathlib.Core.List.{List}
-use mathlib.Core.Option.{Option, some}
+use mathlib.Core.Path.{sym, ap, subst, _∙_}
 use Prim.Native.Nat.{_^_, _<_}
 use native.Mathlib.Omega.{arith}
 use denote.Ref.{now}
 use borrow.Author.Needs.{needs}
 use Rattle.wire.proofs.PartLaws.{bytes-getD}
-use Rattle.slots.specs.declared.Channel.{Channel}
-use Rattle.slots.specs.Table.{isNumbered}
 use Rattle.slots.specs.Layout.{Store, bytesOf, storeIn}
-use Rattle.slots.specs.Effect.{withTimes, withChannelSlot}
+use Rattle.slots.specs.Effect.{withTimes}
 use Rattle.slots.proofs.Laws.{ChannelFields, fit-fields}
-use Rattle.slots.proofs.ScanLaws.{set-replace}
-use Rattle.slots.proofs.SlotTestLaws.{channel-index}
-use Rattle.slots.proofs.HeldLaws.{Held, fit-exact, held-store, held-exact, held-times, held-channel}
-use Rattle.rules.specs.Acceptance.{applied}
+use Rattle.slots.proofs.HeldLaws.{Held, fit-exact, held-store, held-exact, held-times}
+use Rattle.rules.specs.Acceptance.{EndEdit, applied}
+use Rattle.rules.proofs.Bridge.{EndFields, placed-fields}
 use Rattle.records.specs.Edited.{editBy, slotOf, withEdit}
+use Rattle.effects.specs.declared.EndAction.{EndAction}
+use Rattle.effects.specs.declared.EndAction.the-variants.{Leaves, Puts}
+use Rattle.effects.specs.Decided.{endEditOf, effectBy}
+use Rattle.acceptance.specs.Planned.{IsEndAt, withEnds}
 use Rattle.acceptance.proofs.carry_out.Statement.{statement}
 use Rattle.acceptance.proofs.carry_out.Tie as tie
+
+abbrev ends : tie.Start → EndEdit
+ends o = effectBy (o .args .p .decision) .ends
 
 -- what is planned fits its fields
 end-fields : (o : tie.Start) → ChannelFields (o .args .p .decision .end)
 end-fields o =
-    let g = o .good .1 .0 .1 .1 .0 .1 .1 .0 in
+    let g = o .good .1 .0 .1 .1 .0 .1 .1 .1 .0 in
     record {
       state = omega (arith, g);
       order = omega (arith, g);
@@ -32,6 +34,13 @@ end-fields o =
       counterparty = record { port = omega (arith, g); channel = omega (arith, g) };
       next = record { send = omega (arith, g); receive = omega (arith, g); acknowledge = omega (arith, g) };
     }
+
+ends-fields : (o : tie.Start) → EndFields (ends o)
+ends-fields o = by (o .args .p .decision .ends)
+  where
+    by : (x : EndAction) → EndFields (endEditOf x (o .args .p .decision .end))
+    by Leaves = tt
+    by Puts = end-fields o
 
 times : (o : tie.Start) → (o .args .p .context .height .0 < 256 ^ 8) × (o .args .p .context .time < 256 ^ 8)
 times o = (omega arith, omega arith)
@@ -44,7 +53,7 @@ abbrev timed : tie.Start → Store
 timed o = withTimes (store o) (o .args .p .context .height) (o .args .p .context .time)
 
 abbrev ended : tie.Start → Store
-ended o = withChannelSlot (timed o) (o .args .p .index) (some (o .args .p .decision .end))
+ended o = withEnds (timed o) (ends o)
 
 held : (f : tie.After-slice-known) → Held (store (f .before)) (now (f .before .args .store))
 held f =
@@ -64,21 +73,37 @@ timed-held t =
     held-times (held (first t)) (t .set-times .last .0) (o .args .p .context .height) (o .args .p .context .time)
     (times o .0) (times o .1) (t .set-times .ensures)
 
-abbrev second : tie.After-set-channel → tie.After-set-times
-second e = e .before .before .before .before .before
+abbrev second : tie.After-place-end → tie.After-set-times
+second e = e .before .before .before .before .before .before
 
-ended-held : (e : tie.After-set-channel) → Held (ended (first (second e) .before)) (e .set-channel .last .0)
+ended-held : (e : tie.After-place-end) → Held (ended (first (second e) .before)) (e .place-end .last .0)
 ended-held e =
     let o = first (second e) .before in
-    let p = o .args .p in
-    held-channel (timed-held (second e)) (e .set-channel .last .0) (p .index) (some (p .decision .end))
-    (end-fields o, tt) (e .set-channel .ensures)
+    let h = timed-held (second e) in
+    let f = h .fields in
+    let x = placed-fields (ends o) (timed o .channels) (ends-fields o) (f .channels) in
+    record {
+      bytes = e .place-end .ensures ∙ ap (λ (s : Store). bytesOf (withEnds s (ends o))) (held-store h);
+      fields =
+          record {
+            height = f .height;
+            time = f .time;
+            slots = x .0 ∙ f .slots;
+            low = f .low;
+            high = f .high;
+            channels = x .1;
+            records = f .records;
+          };
+    }
 
-set-channel-requires : tie.Need-set-channel-requires
-set-channel-requires c κs =
-    let t = c .before .before .before .before in
+place-end-requires : tie.Need-place-end-requires
+place-end-requires c κs =
+    let t = c .before .before .before .before .before in
     let o = first t .before in
-    (held-exact (timed-held t), channel-index (o .args .p .index) (now (o .args .store)) _ (o .pre .1 .end))
+    let h = timed-held t in (
+      held-exact h,
+      subst (λ (s : Store). IsEndAt (ends o) (s .channels) (o .args .p .index)) (sym (held-store h)) (o .pre .1 .end),
+    )
 
 edit-records-requires : tie.Need-edit-records-requires
 edit-records-requires c κs =
@@ -97,20 +122,12 @@ returns c =
     let e = w .before .before .before .before .before in
     let o = first (second e) .before in
     let p = o .args .p in
-    let end = p .decision .end in
-    let set = set-replace (isNumbered (end .own .channel)) (some end) (p .index) (store o .channels) (o .pre .1 .end) in
     w .edit-records .ensures ∙
-    ap (λ (s : Store). bytesOf (withEdit s (editBy (p .decision .edit)))) (held-store (ended-held e)) ∙
-    ap (λ (cs : List (Option Channel)). bytesOf (withEdit (record {
-      height = p .context .height;
-      time = p .context .time;
-      channels = cs;
-      records = store o .records;
-    }) (editBy (p .decision .edit)))) set
+    ap (λ (s : Store). bytesOf (withEdit s (editBy (p .decision .edit)))) (held-store (ended-held e))
 
 pub carry-out-spec : {M : Type 1} → statement M
 carry-out-spec =
     tie.close
     (tie.spec
     (λ c κs. fit-exact (now (c .before .before .before .args .store)) (c .before .before .before .pre .0))
-    set-channel-requires edit-records-requires (λ c. search needs) returns)
+    place-end-requires edit-records-requires (λ c. search needs) returns)

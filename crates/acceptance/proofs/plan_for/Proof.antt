@@ -1,12 +1,11 @@
 -- The channel's end is found, and what is decided on it is the effect of the call. Assumes nothing.
-use mathlib.Core.Path.{_≡_, sym, ap, _∙_}
+use mathlib.Core.Path.{_≡_, sym, ap, subst, _∙_}
 use mathlib.Core.List.{List}
 use mathlib.Core.Option.{Option, some}
 use Prim.Native.Nat.{ℕ, _<_}
 use native.Mathlib.Omega.{arith}
 use denote.Ref.{now}
 use Rattle.wire.specs.Choice.{isSome}
-use Rattle.slots.specs.declared.PortChannel.{PortChannel}
 use Rattle.slots.specs.declared.Channel.{Channel}
 use Rattle.slots.specs.Limits.{channelLimit}
 use Rattle.slots.specs.Table.{isNumbered, channelAt}
@@ -24,7 +23,8 @@ use Rattle.datagram.proofs.DatagramLaws.{Sound, sound-is}
 use Rattle.rules.specs.Refusals.{orNone, endFor}
 use Rattle.rules.specs.Acceptance.{Effect}
 use Rattle.effects.specs.Decided.{isCounterAtTop}
-use Rattle.acceptance.proofs.AcceptLaws.{end-own, planned-effect}
+use Rattle.acceptance.specs.Planned.{IsEndAt}
+use Rattle.acceptance.proofs.AcceptLaws.{end-placed, planned-effect}
 use Rattle.acceptance.proofs.plan_for.Statement.{statement}
 use Rattle.acceptance.proofs.plan_for.Tie as tie
 
@@ -109,19 +109,18 @@ returns c =
     let k = kindOf (i .before .kind-in .result) in
     let end = x .channel-at .result in
     let decided = decision .decide .ensures in
-    let own : decision .decide .result .end .own ≡ end .own =
-    ap (λ (e : Effect). e .end .own) decided ∙ end-own k end (datagramOf k (datagramGot o)) in
-    let same : decision .decide .result .end .own .channel ≡ i .channel-in .result =
-    ap (λ (e : PortChannel). e .channel) own ∙
+    let same : end .own .channel ≡ i .channel-in .result =
     channel-number (datagramIn (datagramGot o) .channel) (storeIn (store o) .channels) end (found x) ∙
-    sym (number i) in (
+    sym (number i) in
+    let cs = storeIn (store o) .channels in
+    let at = ap (λ (n : ℕ). firstThat (isNumbered n) cs) same ∙ j .channel-index .ensures in (
       c .context-in .ensures,
       (
         planned-effect (store o) (datagramGot o) (i .before .kind-in .ensures) (found x) decided,
         record {
           end =
-              ap (λ (n : ℕ). firstThat (isNumbered n) (storeIn (store o) .channels)) same ∙
-              j .channel-index .ensures;
+              subst (λ (e : Effect). IsEndAt (e .ends) cs (j .channel-index .result)) (sym decided)
+              (end-placed k end (datagramOf k (datagramGot o)) cs (j .channel-index .result) at);
           edit = c .before .slot-of .ensures;
         },
       ),
