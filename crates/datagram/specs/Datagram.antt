@@ -5,8 +5,9 @@ use mathlib.Core.Option.{Option, none, some}
 use Prim.Native.Nat.{ℕ, _+_}
 use lib.Dec.{ltb, leb, eqb}
 use lib.ListN.{length, getD}
-use Rattle.wire.specs.Choice.{_and_, isSome}
+use Rattle.wire.specs.Choice.{_and_, pick, isSome}
 use Rattle.wire.specs.Bytes.{areZero, part, field, digestSize}
+use Rattle.slots.specs.declared.OtherHeight.{OtherHeight}
 use Rattle.slots.specs.declared.Timeout.{Timeout}
 use Rattle.slots.specs.Height.{ownHeight, otherHeight}
 use Rattle.slots.specs.Part.{portChannelIn, timeoutIn}
@@ -16,7 +17,7 @@ use Rattle.datagram.specs.declared.Verdict.{Verdict}
 use Rattle.wire.specs.Frame.{frameSize}
 use Rattle.datagram.specs.Kind.{Kind, send, receive, write, acknowledge, timeOut, kindOf}
 use Rattle.datagram.specs.Kind.{Part, channelPart, sequencePart, timeoutPart, digestPart, packetPart, verdictPart}
-use Rattle.datagram.specs.Kind.{bodyOf, placeOf, sizeOf}
+use Rattle.datagram.specs.Kind.{isPart, bodyOf, placeOf, sizeOf}
 use Rattle.datagram.specs.Claim.{claimOf}
 
 -- THE PARTS by their bytes
@@ -109,6 +110,23 @@ datagramOf k d =
 
 unfoldable pub datagramIn : List ℕ → Datagram
 datagramIn d = datagramOf (kindOf (kindIn d)) d
+
+-- ITS VERDICTS, each about a block of the other ledger
+pub data AnyVerdict : Type 0 where
+  onPacket : Verdict → AnyVerdict
+
+abbrev pub blockHeight : AnyVerdict → OtherHeight
+blockHeight (onPacket v) = v .height
+
+abbrev pub blockTime : AnyVerdict → ℕ
+blockTime (onPacket v) = v .time
+
+unfoldable pub verdictsIn : Datagram → List Part → List AnyVerdict
+verdictsIn d [] = []
+verdictsIn d (p ∷ ps) = pick (isPart verdictPart p) (onPacket (d .verdict) ∷ verdictsIn d ps) (verdictsIn d ps)
+
+abbrev pub verdictsOf : Datagram → List AnyVerdict
+verdictsOf d = verdictsIn d (bodyOf (d .kind))
 
 -- WELL FORMED: at least 6 bytes, the length field is the slice's length, a known kind of the right length, zero bytes
 -- zero, connection 0 or 1, own height not 0, and each part sound: a sequence, in a packet or by itself, is not 0, and a

@@ -10,8 +10,9 @@ pub use Rattle.datagram.specs.Claim.{nextReceiveIs, claims, claimNumber,
 unfoldable pub use Rattle.datagram.specs.Datagram.{kindIn, contextIn, packetIn, verdictIn, packetFrom}
 unfoldable pub use Rattle.datagram.specs.Datagram.{verdictFrom, timeoutFrom, sequenceFrom, digestFrom}
 unfoldable pub use Rattle.datagram.specs.Datagram.{channelFrom, datagramIn, isPartSound, arePartsSound}
-unfoldable pub use Rattle.datagram.specs.Datagram.{isContextSound, isSound}
-pub use Rattle.datagram.specs.Datagram.{ownChannel, Datagram, datagramOf}
+unfoldable pub use Rattle.datagram.specs.Datagram.{verdictsIn, isContextSound, isSound}
+pub use Rattle.datagram.specs.Datagram.{ownChannel, Datagram, datagramOf, AnyVerdict, onPacket}
+pub use Rattle.datagram.specs.Datagram.{blockHeight, blockTime, verdictsOf}
 unfoldable pub use Rattle.datagram.specs.Emitted.{framed, packetBytes}
 pub use Rattle.datagram.specs.Emitted.{sentKind, deliveredKind, writtenKind, acknowledgedKind, timedOutKind}
 pub use Rattle.datagram.specs.Emitted.{emittedPacket}

@@ -1,16 +1,15 @@
--- A list of calls is honest where a test says so that computes: of each call that carries a verdict, what the premises
+-- A list of calls is honest where a test says so that computes: of each call that carries verdicts, what the premises
 -- look at is compared with what they look at of the others. Assumes nothing.
 use Rattle.wire.proofs.Prelude.{_≡_, ap, subst, Bool, true, false, not, List, [], _∷_, map, ℕ, zero, suc}
-use Rattle.wire.proofs.Prelude.{_<_, Option, none, some, getElem?, drop, arith, leb, ltb, leb-true, ltb-true}
+use Rattle.wire.proofs.Prelude.{_<_, some, getElem?, drop, arith, leb, ltb, leb-true, ltb-true}
 use Rattle.wire.proofs.Prelude.{le-leb, eq-eqb, not-true, ⊎-elim}
 use borrow.Author.Tests.{lt-leb}
 use Rattle.wire.specs.Names.{_and_, _or_, pick, Every}
-use Rattle.wire.proofs.Laws.{and-both, both-and, or-either, clash}
+use Rattle.wire.proofs.Laws.{every-map, and-both, both-and, or-either, clash}
 use Rattle.slots.specs.Names.{storeIn}
-use Rattle.datagram.specs.declared.Verdict.{Verdict}
-use Rattle.datagram.specs.Names.{verdictPart, bodyOf, hasPart}
-use Rattle.rules.specs.Names.{claimHolds, Side, across, isSide, Call, datagramGot, storeAfter, isAccepted}
-use Rattle.rules.specs.Names.{verdictOf, heightOf, timeOf, AcceptedOn, isUpTo, Honest}
+use Rattle.datagram.specs.Names.{AnyVerdict, blockHeight, blockTime}
+use Rattle.rules.specs.Names.{claimHolds, every, Side, across, isSide, Call, storeAfter, isAccepted, verdictsGot}
+use Rattle.rules.specs.Names.{heightOf, timeOf, AcceptedOn, isUpTo, TrueVerdict, Honest}
 use Rattle.rules.proofs.History.{side-refl}
 
 -- each element passes a test
@@ -21,6 +20,11 @@ areAll t (x ∷ xs) = t x and areAll t xs
 pub all-every : {A : Type 0} (t : A → Bool) (xs : List A) → areAll t xs ≡ true → Every (λ x. t x ≡ true) xs
 all-every t [] h = tt
 all-every t (x ∷ xs) h = (and-both h .0, all-every t xs (and-both h .1))
+
+all-mapped : {A B : Type 0} (t : B → Bool) (f : A → B) (xs : List A) → areAll t (map f xs) ≡ true →
+    Every (λ x. t (f x) ≡ true) xs
+all-mapped t f [] h = tt
+all-mapped t f (x ∷ xs) h = (and-both h .0, all-mapped t f xs (and-both h .1))
 
 all-at : {A : Type 0} (t : A → Bool) (xs : List A) (i : ℕ) (x : A) → areAll t xs ≡ true → getElem? xs i ≡ some x →
     t x ≡ true
@@ -54,7 +58,7 @@ pub record Seen : Type 0 where
   pub accepted : Bool
   pub height : ℕ
   pub time : ℕ
-  pub block : Option Block
+  pub blocks : List Block
 
 -- an accepted call of the ledger
 abbrev isAcceptedOf : Side → Seen → Bool
@@ -73,31 +77,31 @@ isNotAbove b x = leb (b .time) (x .time)
 abbrev fitsTime : Side → Block → Seen → Bool
 fitsTime z b x = not (isAcceptedOf z x) or pick (leb (x .height) (b .height)) (isNotBelow b x) (isNotAbove b x)
 
-abbrev isTrue : (all behind : List Seen) → Side → Option Block → Bool
-isTrue xs ys z none = true
-isTrue xs ys z (some b) = b .holds and areAll (isClosed z b) ys and areAll (fitsTime z b) xs
+abbrev isTrue : (all behind : List Seen) → Side → Block → Bool
+isTrue xs ys z b = b .holds and areAll (isClosed z b) ys and areAll (fitsTime z b) xs
 
 abbrev areTrue : (all xs : List Seen) → Bool
 areTrue all [] = true
-areTrue all (x ∷ xs) = isTrue all xs (across (x .side)) (x .block) and areTrue all xs
+areTrue all (x ∷ xs) = areAll (isTrue all xs (across (x .side))) (x .blocks) and areTrue all xs
 
 abbrev pub isHonest : List Seen → Bool
 isHonest xs = areTrue xs xs
 
 true-at : (all xs : List Seen) (i : ℕ) (x : Seen) → areTrue all xs ≡ true → getElem? xs i ≡ some x →
-    isTrue all (drop (suc i) xs) (across (x .side)) (x .block) ≡ true
+    areAll (isTrue all (drop (suc i) xs) (across (x .side))) (x .blocks) ≡ true
 true-at all [] i x h e = let z : _≡_ {A = ℕ} 0 1 = cc in absurd (omega arith)
 true-at all (y ∷ xs) zero x h e =
-    let z : y ≡ x = cc in subst (λ y. isTrue all xs (across (y .side)) (y .block) ≡ true) z (and-both h .0)
+    let z : y ≡ x = cc in subst (λ y. areAll (isTrue all xs (across (y .side))) (y .blocks) ≡ true) z (and-both h .0)
 true-at all (y ∷ xs) (suc i) x h e = true-at all xs i x (and-both h .1) e
 
 module _ (start : Side → List ℕ) (cs : List Call) where
-  abbrev isSoThere : Side → Verdict → Bool
-  isSoThere z v = claimHolds v (storeIn (storeAfter (isUpTo z (v .height)) (start z) cs))
-
-  abbrev blockOf : Bool → Side → Verdict → Option Block
-  blockOf false z v = none
-  blockOf true z v = some (record { height = v .height .0; time = v .time; holds = isSoThere z v })
+  abbrev blockOf : Side → AnyVerdict → Block
+  blockOf z v =
+      record {
+        height = blockHeight v .0;
+        time = blockTime v;
+        holds = claimHolds v (storeIn (storeAfter (isUpTo z (blockHeight v)) (start z) cs));
+      }
 
   abbrev pub seen : Call → Seen
   seen c =
@@ -106,8 +110,7 @@ module _ (start : Side → List ℕ) (cs : List Call) where
         accepted = isAccepted c;
         height = heightOf c .0;
         time = timeOf c;
-        block = blockOf (isAccepted c and hasPart verdictPart (bodyOf (datagramGot c .kind))) (across (c .side))
-            (verdictOf c);
+        blocks = pick (isAccepted c) (map (blockOf (across (c .side))) (verdictsGot c)) [];
       }
 
   -- what the test says of an accepted call
@@ -120,37 +123,48 @@ module _ (start : Side → List ℕ) (cs : List Call) where
       (eq-eqb (e .told .number) 0 (a .told)) in
       ⊎-elim (λ n. clash o (not-true (isAcceptedOf z (seen e)) n)) (λ x. x) (or-either h)
 
-  pub honest-seen : isHonest (map seen cs) ≡ true → Honest start cs
-  honest-seen h i c at a p =
+  -- a verdict that passes it is true
+  true-seen : (i : ℕ) (z : Side) (v : AnyVerdict) →
+      isTrue (map seen cs) (drop (suc i) (map seen cs)) z (blockOf z v) ≡ true →
+      TrueVerdict start cs i z v
+  true-seen i z v t =
       record {
         closed = λ j e k l. let n = later j e k l in omega arith;
-        notBelow = λ j e k l. let n = leb-true (timeOf e) (v .time) (times j e k true (le-leb _ _ l)) in omega arith;
-        notAbove = λ j e k l. let n = leb-true (v .time) (timeOf e) (times j e k false (lt-leb _ _ l)) in omega arith;
+        notBelow = λ j e k l. let n = leb-true (timeOf e) _ (times j e k true (le-leb _ _ l)) in omega arith;
+        notAbove = λ j e k l. let n = leb-true _ (timeOf e) (times j e k false (lt-leb _ _ l)) in omega arith;
         holds = and-both (and-both t .0) .0;
       }
     where
-      z : Side
-      z = across (c .side)
-
-      v : Verdict
-      v = verdictOf c
-
       block : Block
-      block = record { height = v .height .0; time = v .time; holds = isSoThere z v }
+      block = blockOf z v
 
-      t : isTrue (map seen cs) (drop (suc i) (map seen cs)) z (some block) ≡ true
-      t = subst (λ (b : Bool). isTrue (map seen cs) (drop (suc i) (map seen cs)) z (blockOf b z v) ≡ true)
-          (both-and a p) (true-at (map seen cs) (map seen cs) i (seen c) h (map-at seen cs i c at))
-
-      later : (j : ℕ) (e : Call) → AcceptedOn z cs j e → i < j → v .height .0 < heightOf e .0
+      later : (j : ℕ) (e : Call) → AcceptedOn z cs j e → i < j → blockHeight v .0 < heightOf e .0
       later j e k l =
           ltb-true _ _ (tested z j e _ k
           (all-behind (isClosed z block) (map seen cs) i j (seen e) (and-both (and-both t .0) .1) l
           (map-at seen cs j e (k .at))))
 
-      times : (j : ℕ) (e : Call) → AcceptedOn z cs j e → (b : Bool) → leb (heightOf e .0) (v .height .0) ≡ b →
+      times : (j : ℕ) (e : Call) → AcceptedOn z cs j e → (b : Bool) → leb (heightOf e .0) (blockHeight v .0) ≡ b →
           pick b (isNotBelow block (seen e)) (isNotAbove block (seen e)) ≡ true
       times j e k b q =
           subst (λ (b : Bool). pick b (isNotBelow block (seen e)) (isNotAbove block (seen e)) ≡ true) q
           (tested z j e _ k
           (all-at (fitsTime z block) (map seen cs) j (seen e) (and-both t .1) (map-at seen cs j e (k .at))))
+
+  pub honest-seen : isHonest (map seen cs) ≡ true → Honest every start cs
+  honest-seen h i c at a p =
+      every-map (true-seen i z) (verdictsGot c)
+      (all-mapped (isTrue (map seen cs) behind z) (blockOf z) (verdictsGot c) t)
+    where
+      z : Side
+      z = across (c .side)
+
+      behind : List Seen
+      behind = drop (suc i) (map seen cs)
+
+      blocks : List Block
+      blocks = map (blockOf z) (verdictsGot c)
+
+      t : areAll (isTrue (map seen cs) behind z) blocks ≡ true
+      t = subst (λ (b : Bool). areAll (isTrue (map seen cs) behind z) (pick b blocks []) ≡ true) a
+          (true-at (map seen cs) (map seen cs) i (seen c) h (map-at seen cs i c at))

@@ -1,17 +1,27 @@
--- What a verdict that matches is about, and what a claim that holds says. Assumes nothing.
-use Rattle.wire.proofs.Prelude.{_≡_, refl, sym, ap, _∙_, Bool, true, false, not, List, Option, none, some, ℕ, suc}
-use Rattle.wire.proofs.Prelude.{arith, eqb, eqb-true, not-true}
-use Rattle.wire.specs.Names.{pick, isSome, withNumber, same}
-use Rattle.wire.proofs.Laws.{and-both, clash, same-eq}
+-- The verdict of a datagram that carries one, what a verdict that matches is about, and what a claim that holds says.
+-- Assumes nothing.
+use Rattle.wire.proofs.Prelude.{_≡_, refl, sym, ap, _∙_, Bool, true, false, not, List, [], _∷_, Option, none, some, ℕ}
+use Rattle.wire.proofs.Prelude.{suc, arith, eqb, eqb-true, not-true}
+use Rattle.wire.specs.Names.{_or_, pick, isSome, withNumber, same, Every}
+use Rattle.wire.proofs.Laws.{and-both, clash, cases, same-eq}
 use Rattle.slots.specs.declared.PortChannel.{PortChannel}
 use Rattle.slots.specs.declared.Timeout.{Timeout}
 use Rattle.slots.specs.declared.Channel.{Channel}
 use Rattle.slots.specs.declared.Record.{Record}
 use Rattle.slots.specs.Names.{sameTimeout, commitmentKey, receiptKey, lookup, channelAt, Store}
 use Rattle.datagram.specs.declared.Verdict.{Verdict}
+use Rattle.datagram.specs.Names.{Part, verdictPart, isPart, hasPart, Datagram, AnyVerdict, onPacket, verdictsIn}
 use Rattle.datagram.specs.Names.{Claim, commitmentPresent, acknowledgementPresent, receiptAbsent}
 use Rattle.datagram.specs.Names.{nextReceiveIs, claimNumber, claimOf}
 use Rattle.rules.specs.Names.{firstDifference, hasValues, isAsStated, holdsOn, claimHolds}
+
+-- where a body has a verdict about a packet, it is one of the datagram's
+pub packet-verdict : (P : AnyVerdict → Type 0) (d : Datagram) (ps : List Part) → hasPart verdictPart ps ≡ true →
+    Every P (verdictsIn d ps) → P (onPacket (d .verdict))
+unfolding hasPart verdictsIn _or_
+packet-verdict P d [] h e = clash {b = false} h refl
+packet-verdict P d (p ∷ ps) h e =
+    cases (isPart verdictPart p) (λ q. (rw q at e) .0) (λ q. packet-verdict P d ps (rw q at h) (rw q at e))
 
 pub record About (v : Verdict) (k : ℕ) (e : PortChannel) (n : ℕ) (t : Timeout) (d : List ℕ) : Type 0 where
   pub claim : v .claim ≡ k
@@ -80,7 +90,7 @@ claim-of acknowledgementPresent = refl
 claim-of receiptAbsent = refl
 claim-of nextReceiveIs = refl
 
-module _ (v : Verdict) (s : Store) (h : claimHolds v s ≡ true) where
+module _ (v : Verdict) (s : Store) (h : claimHolds (onPacket v) s ≡ true) where
   stated : (k : Claim) → v .claim ≡ claimNumber k → (x : Option Channel) →
       channelAt (v .about .channel) (s .channels) ≡ x →
       (c : Channel) × (x ≡ some c) × (isAsStated (some k) v s c ≡ true)

@@ -2,19 +2,21 @@
 use mathlib.Core.Path.{_≡_}
 use mathlib.Core.Bool.{Bool, true}
 use mathlib.Core.List.{List}
+use mathlib.Core.Option.{Option}
 use Prim.Native.Nat.{ℕ, _≤_, _<_}
 use Rattle.wire.specs.Choice.{_and_}
+use Rattle.wire.specs.Bytes.{Every}
 use Rattle.slots.specs.declared.OtherHeight.{OtherHeight}
 use Rattle.slots.specs.Height.{seenAcross, isUpToOther, UpToOther, BelowOther}
 use Rattle.slots.specs.Layout.{storeIn}
-use Rattle.datagram.specs.declared.Verdict.{Verdict}
-use Rattle.datagram.specs.Kind.{verdictPart, bodyOf, hasPart}
+use Rattle.datagram.specs.Kind.{Kind}
+use Rattle.datagram.specs.Datagram.{AnyVerdict, blockHeight, blockTime, verdictsOf}
 use Rattle.rules.specs.Verdict.{claimHolds}
 use Rattle.rules.specs.Calls.{Side, across, Call, datagramGot, At, storeAfter, isOn, isAccepted}
 
 -- TRUE VERDICTS
-abbrev pub verdictOf : Call → Verdict
-verdictOf c = datagramGot c .verdict
+abbrev pub verdictsGot : Call → List AnyVerdict
+verdictsGot c = verdictsOf (datagramGot c)
 
 -- its height, as the ledger across sees it, and its time
 abbrev pub heightOf : Call → OtherHeight
@@ -33,16 +35,19 @@ abbrev pub isUpTo : Side → OtherHeight → Call → Bool
 isUpTo z h c = isOn z c and isAccepted c and isUpToOther (heightOf c) h
 
 -- the verdict `v` of the call at `i`, of the ledger `z`, is true
-pub record TrueVerdict (start : Side → List ℕ) (cs : List Call) (i : ℕ) (z : Side) (v : Verdict) : Type 0 where
+pub record TrueVerdict (start : Side → List ℕ) (cs : List Call) (i : ℕ) (z : Side) (v : AnyVerdict) : Type 0 where
   -- *closed block*: after the call that carries it no accepted call there has that height or a lower one
-  pub closed : (j : ℕ) (e : Call) → AcceptedOn z cs j e → i < j → BelowOther (v .height) (heightOf e)
+  pub closed : (j : ℕ) (e : Call) → AcceptedOn z cs j e → i < j → BelowOther (blockHeight v) (heightOf e)
   -- the block's time is not below any of theirs, and not above that of any accepted call of greater height
-  pub notBelow : (j : ℕ) (e : Call) → AcceptedOn z cs j e → UpToOther (heightOf e) (v .height) → timeOf e ≤ v .time
-  pub notAbove : (j : ℕ) (e : Call) → AcceptedOn z cs j e → BelowOther (v .height) (heightOf e) → v .time ≤ timeOf e
+  pub notBelow : (j : ℕ) (e : Call) → AcceptedOn z cs j e → UpToOther (heightOf e) (blockHeight v) →
+      timeOf e ≤ blockTime v
+  pub notAbove : (j : ℕ) (e : Call) → AcceptedOn z cs j e → BelowOther (blockHeight v) (heightOf e) →
+      blockTime v ≤ timeOf e
   -- the claim holds after the accepted calls up to that height
-  pub holds : claimHolds v (storeIn (storeAfter (isUpTo z (v .height)) (start z) cs)) ≡ true
+  pub holds : claimHolds v (storeIn (storeAfter (isUpTo z (blockHeight v)) (start z) cs)) ≡ true
 
-abbrev pub Honest : (Side → List ℕ) → List Call → Type 0
-Honest start cs =
-    (i : ℕ) (c : Call) → At cs i c → isAccepted c ≡ true → hasPart verdictPart (bodyOf (datagramGot c .kind)) ≡ true →
-    TrueVerdict start cs i (across (c .side)) (verdictOf c)
+-- every verdict of each accepted call of these kinds is true
+abbrev pub Honest : (kinds : Option Kind → Bool) → (Side → List ℕ) → List Call → Type 0
+Honest ks start cs =
+    (i : ℕ) (c : Call) → At cs i c → isAccepted c ≡ true → ks (datagramGot c .kind) ≡ true →
+    Every (TrueVerdict start cs i (across (c .side))) (verdictsGot c)

@@ -6,6 +6,7 @@ use Prim.Native.Nat.{ℕ}
 use Rattle.store.specs.Maker.{makeStore}
 use Rattle.datagram.specs.declared.Packet.{Packet}
 use Rattle.datagram.specs.Emitted.{writtenKind}
+use Rattle.rules.specs.Refusals.{every}
 use Rattle.rules.specs.Calls.{Side, first, second, Call, Run, Made, Paired, howMany, hasEmitted, isSend}
 use Rattle.rules.specs.Calls.{isDelivery, isAcknowledgement, isTimeout}
 use Rattle.rules.specs.Truth.{Honest}
@@ -68,5 +69,5 @@ pub record WorkedHistory : Type 0 where
   pub made : (z : Side) → Made (stores z)
   pub paired : Paired stores
   pub run : Run stores history
-  pub honest : Honest stores history
+  pub honest : Honest every stores history
   pub happened : Happened
