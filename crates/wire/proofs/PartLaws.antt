@@ -7,7 +7,7 @@ use native.Mathlib.Nat.{add-assoc, zero-add, suc-add, suc-inj, suc-ne-zero, sub-
 use native.Mathlib.Nat.{mul-assoc, mul-comm, pow-succ', mod-add-div, mod-lt}
 use native.Mathlib.Omega.{arith}
 use lib.Dec.{eqb}
-use lib.ListN.{length, getD, take, drop}
+use lib.ListN.{length, getD, take, drop, length-drop}
 use lib.Seq.{take-add, take-take, take-nil, drop-drop, drop-cons, take-all, getD-take, getD-drop}
 use mir.Syntax.{w8}
 use mir.Val.{Fits}
@@ -38,6 +38,11 @@ part-split n m i bs = rw (take-add n m (drop i bs), drop-drop n i bs)
 pub part-one : (i : ℕ) (bs : List ℕ) → i < length bs → part i 1 bs ≡ getD bs i 0 ∷ []
 unfolding part
 part-one i bs h = rw (drop-cons bs i 0)
+
+-- all from a place on
+pub part-drop : (i : ℕ) (bs : List ℕ) → part i (length bs - i) bs ≡ drop i bs
+unfolding part
+part-drop i bs = take-all (length bs - i) (drop i bs) (omega (arith, length-drop i bs))
 
 -- one byte more
 pub part-more : (i n : ℕ) (bs : List ℕ) → i + n < length bs
@@ -101,6 +106,10 @@ pub part-part : (i n at m : ℕ) (bs : List ℕ) → i + n ≤ m → part i n (p
 unfolding part
 part-part i n at m bs h =
     rw (drop-take i m (drop at bs), take-take n (m - i) (drop i (drop at bs)) (omega arith), drop-drop i at bs)
+
+pub drop-part : (i at m : ℕ) (bs : List ℕ) → drop i (part at m bs) ≡ part (at + i) (m - i) bs
+unfolding part
+drop-part i at m bs = rw (drop-take i m (drop at bs), drop-drop i at bs)
 
 pub field-part : (i n at m : ℕ) (bs : List ℕ) → i + n ≤ m → field i n (part at m bs) ≡ field (at + i) n bs
 unfolding field
@@ -182,18 +191,25 @@ module _ (n from : ℕ) (bs : List ℕ) {i size v : ℕ} (bytes : Bytes bs) (lef
       let agree = eq-eqb (field (from + i) n bs) 0 (sym number ∙ none) in
       (more, rw (left .1, zero-turn n from i size bs bytes more, agree))
 
--- BY HALVES of n bytes each
-module _ (n i : ℕ) (xs ys : List ℕ) where
-  pub same-halves : i + n ≤ length xs → i + n ≤ length ys → same (part i (n + n) xs) (part i (n + n) ys) ≡
-      (same (part i n xs) (part i n ys) and same (part (i + n) n xs) (part (i + n) n ys))
-  same-halves h k =
-      rw (part-split n n i xs, part-split n n i ys)
-      (same-append (part i n xs) (part i n ys) (part (i + n) n xs) (part (i + n) n ys)
-      (length-part i n xs h ∙ sym (length-part i n ys k)))
+-- BY PARTS: n bytes, and the m behind them
+pub same-split : (n m i : ℕ) (xs ys : List ℕ) → i + n ≤ length xs → i + n ≤ length ys →
+    same (part i (n + m) xs) (part i (n + m) ys) ≡
+    (same (part i n xs) (part i n ys) and same (part (i + n) m xs) (part (i + n) m ys))
+same-split n m i xs ys h k =
+    rw (part-split n m i xs, part-split n m i ys)
+    (same-append (part i n xs) (part i n ys) (part (i + n) m xs) (part (i + n) m ys)
+    (length-part i n xs h ∙ sym (length-part i n ys k)))
 
-  pub same-numbers : Bytes xs → Bytes ys → i + n ≤ length xs → i + n ≤ length ys →
-      same (part i n xs) (part i n ys) ≡ eqb (field i n xs) (field i n ys)
-  unfolding field
-  same-numbers b c h k =
-      same-number (part i n xs) (part i n ys) (length-part i n xs h ∙ sym (length-part i n ys k))
-      (bytes-part i n xs b) (bytes-part i n ys c)
+-- two arrays
+pub same-arrays : (n m : ℕ) (xs ys : List ℕ) → length xs ≡ n + m → length ys ≡ n + m →
+    (same (part 0 n xs) (part 0 n ys) and same (part n m xs) (part n m ys)) ≡ same xs ys
+same-arrays n m xs ys l k =
+    let halves = same-split n m 0 xs ys (omega arith) (omega arith) in
+    sym (rw (zero-add n, part-all (n + m) xs l, part-all (n + m) ys k) at halves)
+
+pub same-numbers : (n i : ℕ) (xs ys : List ℕ) → Bytes xs → Bytes ys → i + n ≤ length xs → i + n ≤ length ys →
+    same (part i n xs) (part i n ys) ≡ eqb (field i n xs) (field i n ys)
+unfolding field
+same-numbers n i xs ys b c h k =
+    same-number (part i n xs) (part i n ys) (length-part i n xs h ∙ sym (length-part i n ys k))
+    (bytes-part i n xs b) (bytes-part i n ys c)

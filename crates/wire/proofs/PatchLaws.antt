@@ -1,13 +1,13 @@
 -- Laws of bytes stored over bytes. Assumes nothing.
 use mathlib.Core.Path.{_≡_, refl, sym, _∙_}
-use mathlib.Core.List.{List, [], _∷_, _++_}
-use Prim.Native.Nat.{ℕ, suc, _+_, _/_, _%_, _^_, _≤_, _<_}
+use mathlib.Core.List.{List, [], _∷_, _++_, append-nil}
+use Prim.Native.Nat.{ℕ, suc, _+_, _-_, _/_, _%_, _^_, _≤_, _<_}
 use native.Mathlib.Nat.{add-suc, suc-add, add-zero, zero-add, suc-inj, suc-ne-zero}
 use native.Mathlib.Omega.{arith}
-use lib.ListN.{length, set, length-set}
+use lib.ListN.{length, set, replicate, length-set, length-replicate, replicate-append-replicate}
 use lib.Seq.{set-comm}
-use Rattle.wire.specs.Bytes.{little, patch}
-use Rattle.wire.proofs.BytesLaws.{length-little}
+use Rattle.wire.specs.Bytes.{little, part, patch}
+use Rattle.wire.proofs.BytesLaws.{length-little, length-part}
 use Rattle.wire.proofs.PartLaws.{little-split}
 
 pub length-patch : (i : ℕ) (xs bs : List ℕ) → length (patch i xs bs) ≡ length bs
@@ -63,6 +63,23 @@ patch-front [] [] bs l = refl
 patch-front [] (y ∷ ys) bs l = absurd (suc-ne-zero _ (sym l))
 patch-front (x ∷ xs) [] bs l = absurd (suc-ne-zero _ l)
 patch-front (x ∷ xs) (y ∷ ys) bs l = rw (patch-cons 0 x xs (ys ++ bs), patch-front xs ys bs (suc-inj l))
+
+-- over zeros: the rest of them stays
+pub patch-zeros : (n : ℕ) (xs : List ℕ) → length xs ≤ n →
+    patch 0 xs (replicate n 0) ≡ xs ++ replicate (n - length xs) 0
+patch-zeros n xs h =
+    let k : ℕ = length xs in
+    let split = replicate-append-replicate {A = ℕ} k (n - k) 0 in
+    let whole : k + (n - k) ≡ n = omega arith in
+    let front = patch-front xs (replicate k 0) (replicate (n - k) 0) (sym (length-replicate k 0)) in
+    rw (split, whole) at front
+
+-- so an array of zeros takes all of a part
+pub patch-array : (n i : ℕ) (bs : List ℕ) → i + n ≤ length bs → patch 0 (part i n bs) (replicate n 0) ≡ part i n bs
+patch-array n i bs h =
+    let l = length-part i n bs h in
+    let none : n - length (part i n bs) ≡ 0 = omega arith in
+    patch-zeros n (part i n bs) (omega arith) ∙ rw (none, append-nil)
 
 -- over the whole middle of three
 pub patch-middle : (i : ℕ) (xs ps qs rs : List ℕ) → length ps ≡ i → length xs ≡ length qs

@@ -115,17 +115,25 @@ pub fn are_zero(s: &[u8], from: usize, size: usize) -> bool
     true
 }
 
+// `size` bytes of one slice, stored over those of another.
+pub fn put_part(s: &mut [u8], at: usize, from: &[u8], start: usize, size: usize)
+    requires { ⌜ (at + size ≤ length (now s)) × (start + size ≤ length (now from)) ⌝ }
+    ensures { λ _. ⌜ now (s .exit) ≡ patch at (part start size (now (from .entry))) (now (s .entry)) ⌝ }
+{
+    let mut i: usize = 0;
+    while i < size {
+        s[at + i] = from[start + i];
+        i += 1;
+    }
+}
+
 // Digests are arrays by value: read whole, compared whole, stored whole.
 pub fn digest_at(s: &[u8], at: usize) -> [u8; DIGEST]
     requires { ⌜ at + digestSize ≤ length (now s) ⌝ }
     ensures { λ r. ⌜ r ≡ part at digestSize (now (s .entry)) ⌝ }
 {
     let mut d = [0u8; DIGEST];
-    let mut i: usize = 0;
-    while i < DIGEST {
-        d[i] = s[at + i];
-        i += 1;
-    }
+    put_part(&mut d, 0, s, at, DIGEST);
     d
 }
 
@@ -133,25 +141,29 @@ pub fn put_digest(s: &mut [u8], at: usize, d: [u8; DIGEST])
     requires { ⌜ at + digestSize ≤ length (now s) ⌝ }
     ensures { λ _. ⌜ now (s .exit) ≡ patch at d (now (s .entry)) ⌝ }
 {
-    let mut i: usize = 0;
-    while i < DIGEST {
-        s[at + i] = d[i];
-        i += 1;
-    }
+    put_part(s, at, &d, 0, DIGEST);
 }
 
-// Sixteen bytes, as two words.
-fn same_half(a: &[u8], b: &[u8], at: usize) -> bool
+// Eight bytes, as one word.
+pub fn same_word(a: &[u8], b: &[u8], at: usize) -> bool
+    requires { ⌜ (at + 8 ≤ length (now a)) × (at + 8 ≤ length (now b)) ⌝ }
+    ensures { λ r. ⌜ r ≡ same (part at 8 (now (a .entry))) (part at 8 (now (b .entry))) ⌝ }
+{
+    u64_at(a, at) == u64_at(b, at)
+}
+
+// Sixteen, as two.
+pub fn same_two(a: &[u8], b: &[u8], at: usize) -> bool
     requires { ⌜ (at + 16 ≤ length (now a)) × (at + 16 ≤ length (now b)) ⌝ }
     ensures { λ r. ⌜ r ≡ same (part at 16 (now (a .entry))) (part at 16 (now (b .entry))) ⌝ }
 {
-    (u64_at(a, at) == u64_at(b, at)) & (u64_at(a, at + 8) == u64_at(b, at + 8))
+    same_word(a, b, at) & same_word(a, b, at + 8)
 }
 
 pub fn same_digest(a: [u8; DIGEST], b: [u8; DIGEST]) -> bool
     ensures { λ r. ⌜ r ≡ same a b ⌝ }
 {
-    same_half(&a, &b, 0) & same_half(&a, &b, 16)
+    same_two(&a, &b, 0) & same_two(&a, &b, 16)
 }
 
 pub fn is_zero_digest(d: [u8; DIGEST]) -> bool

@@ -1,9 +1,8 @@
 -- By halves. Assumes nothing.
-use mathlib.Core.Path.{_≡_, sym, _∙_}
-use native.Mathlib.Omega.{arith}
+use mathlib.Core.Path.{_≡_}
 use lib.ListN.{length}
 use Rattle.wire.specs.Choice.{_and_}
-use Rattle.wire.proofs.PartLaws.{part-all, same-halves}
+use Rattle.wire.proofs.PartLaws.{same-arrays}
 use borrow.Author.Needs.{needs}
 use Rattle.wire.proofs.same_digest.Statement.{statement}
 use Rattle.wire.proofs.same_digest.Tie as tie
@@ -17,8 +16,7 @@ returns c =
     let ys = o .args .t2 in
     let l : length xs ≡ 32 = search needs in
     let m : length ys ≡ 32 = search needs in
-    rw (c .same-half2 .ensures, first .same-half .ensures)
-    (sym (same-halves 16 0 xs ys (omega arith) (omega arith)) ∙ rw (part-all 32 xs l, part-all 32 ys m))
+    rw (c .same-two2 .ensures, first .same-two .ensures) (same-arrays 16 16 xs ys l m)
 
 pub same-digest-spec : {M : Type 1} → statement M
 same-digest-spec =
