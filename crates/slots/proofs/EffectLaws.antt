@@ -1,5 +1,5 @@
--- Bytes stored over one slot, or over the times, of a store's bytes are the bytes of the store with that slot, or those
--- times, replaced. Assumes nothing.
+-- Bytes stored over one slot, the times or the next channel number of a store's bytes are the bytes of the store with
+-- that part replaced. Assumes nothing.
 use mathlib.Core.Path.{_≡_, refl, sym, ap, _∙_}
 use mathlib.Core.Bool.{true}
 use mathlib.Core.List.{List, [], _∷_, _++_, append-assoc, append-nil}
@@ -9,21 +9,20 @@ use native.Mathlib.Nat.{le-of-suc-le-suc, not-suc-le-zero}
 use native.Mathlib.Omega.{arith}
 use lib.ListN.{length, set, drop, replicate, length-append, length-set}
 use Rattle.wire.specs.Bytes.{Bytes, little, patch, digestSize}
-use Rattle.wire.proofs.BytesLaws.{length-part}
-use Rattle.wire.proofs.BytesLaws.{length-little}
+use Rattle.wire.proofs.BytesLaws.{length-little, length-part}
 use Rattle.wire.proofs.PatchLaws.{patch-behind, patch-front, patch-middle}
 use Rattle.slots.specs.declared.OwnHeight.{OwnHeight}
 use Rattle.slots.specs.declared.Channel.{Channel}
 use Rattle.slots.specs.declared.Record.{Record}
-use Rattle.slots.specs.Limits.{channelLimit}
+use Rattle.slots.specs.Limits.{channelLimit, versionSize}
 use Rattle.slots.specs.Codes.{storeKind}
 use Rattle.slots.specs.Layout.{Store, headerSize, slotSize, recordsFrom, sizeFor, roomIn}
 use Rattle.slots.specs.Layout.{channelBytes, recordBytes, slotBytes, tableBytes, headerBytes, bytesOf}
 use Rattle.slots.specs.Layout.{channelIn, recordIn, storeIn}
 use Rattle.slots.specs.Fit.{sizeFits}
-use Rattle.slots.specs.Effect.{Exact, withTimes, withChannelSlot, withRecordSlot}
-use Rattle.slots.proofs.TableLaws.{Each, each-of}
-use Rattle.slots.proofs.LayoutLaws.{length-header, length-channel, length-channels, length-record}
+use Rattle.slots.specs.Effect.{Exact, withTimes, withNext, withChannelSlot, withRecordSlot}
+use Rattle.slots.proofs.TableLaws.{Each}
+use Rattle.slots.proofs.LayoutLaws.{length-header, length-channel, length-record, length-table}
 use Rattle.slots.proofs.FitLaws.{fits-size, length-read, each-read}
 
 -- A SLOT OF A TABLE, whatever the entries are, with any bytes behind the table
@@ -66,21 +65,22 @@ module _ {A : Type 0} (f : A → List ℕ) where
 
 -- THE WHOLE
 abbrev headerOf : Store → List ℕ
-headerOf s = headerBytes (s .height .0) (s .time) (length (s .records))
+headerOf s = headerBytes (s .height .0) (s .time) (length (s .records)) (s .next)
 
 header-size : (s : Store) → length (headerOf s) ≡ headerSize
-header-size s = length-header (s .height .0) (s .time) (length (s .records))
+header-size s = length-header (s .height .0) (s .time) (length (s .records)) (s .next)
 
 -- the sizes that its parts have
 pub record Sizes (s : Store) : Type 0 where
   pub slots : length (s .channels) ≡ channelLimit
+  pub channels : SlotsSized channelBytes (s .channels)
   pub records : SlotsSized recordBytes (s .records)
 
 module _ (s : Store) (sizes : Sizes s) where
-  pub patch-channel : (j : ℕ) (x : Option Channel) → j < channelLimit →
+  pub patch-channel : (j : ℕ) (x : Option Channel) → SlotsSized channelBytes (x ∷ []) → j < channelLimit →
       patch (headerSize + slotSize * j) (slotBytes channelBytes x) (bytesOf s) ≡ bytesOf (withChannelSlot s j x)
   unfolding bytesOf
-  patch-channel j x h =
+  patch-channel j x l h =
       let cs : List ℕ = tableBytes channelBytes (s .channels) in
       let rs : List ℕ = tableBytes recordBytes (s .records) in
       let place : headerSize + slotSize * j ≡ length (headerOf s) + slotSize * j = omega (arith, header-size s) in
@@ -88,8 +88,7 @@ module _ (s : Store) (sizes : Sizes s) where
       rw (
         place,
         patch-behind (headerOf s) (slotSize * j) (slotBytes channelBytes x) (cs ++ rs),
-        patch-slot channelBytes x j (s .channels) rs (each-of length-channel (x ∷ []))
-            (each-of length-channel (s .channels)) b,
+        patch-slot channelBytes x j (s .channels) rs l (sizes .channels) b,
       )
 
   pub patch-record : (i : ℕ) (x : Option Record) → SlotsSized recordBytes (x ∷ []) →
@@ -99,7 +98,7 @@ module _ (s : Store) (sizes : Sizes s) where
   patch-record i x l h =
       let cs : List ℕ = tableBytes channelBytes (s .channels) in
       let rs : List ℕ = tableBytes recordBytes (s .records) in
-      let size = length-channels (s .channels) in
+      let size = length-table channelBytes (s .channels) (sizes .channels) in
       let place : recordsFrom + slotSize * i ≡ length (headerOf s) + (length cs + slotSize * i) =
       omega (arith, header-size s, sizes .slots) in
       let slot = patch-slot recordBytes x i (s .records) [] l (sizes .records) h in
@@ -111,55 +110,81 @@ module _ (s : Store) (sizes : Sizes s) where
       )
       (ap (λ (bs : List ℕ). headerOf s ++ (cs ++ bs)) (simp append-nil at slot))
 
-pub patch-times : (s : Store) (h : OwnHeight) (t : ℕ) →
-    patch 8 (little 8 (h .0) ++ little 8 t) (bytesOf s) ≡ bytesOf (withTimes s h t)
-unfolding bytesOf headerBytes
-patch-times s h t =
-    let n : ℕ = length (s .records) in
-    let front : List ℕ = little 4 (sizeFor n) ++ (little 2 storeKind ++ little 2 channelLimit) in
-    let times : OwnHeight → ℕ → List ℕ = λ k u. little 8 (k .0) ++ little 8 u in
-    let rest : List ℕ =
-    little 4 n ++ (replicate 36 0 ++ (tableBytes channelBytes (s .channels) ++ tableBytes recordBytes (s .records))) in
-    let split : (k : OwnHeight) (u : ℕ) → bytesOf (withTimes s k u) ≡ front ++ (times k u ++ rest) =
-    λ k u. simp append-assoc in
-    let l : length front ≡ 8 = simp (length-append, length-little) in
-    let m : length (times h t) ≡ length (times (s .height) (s .time)) = simp (length-append, length-little) in
-    ap (patch 8 (times h t)) (split (s .height) (s .time)) ∙
-    patch-middle 8 (times h t) front (times (s .height) (s .time)) rest l m ∙ sym (split h t)
+-- over a part of the header, which has a part before it and the rest behind it
+patch-within : (i : ℕ) (new front old rest : List ℕ) (s t : Store) → length front ≡ i → length new ≡ length old →
+    bytesOf s ≡ front ++ (old ++ rest) → bytesOf t ≡ front ++ (new ++ rest) → patch i new (bytesOf s) ≡ bytesOf t
+patch-within i new front old rest s t l m p q = ap (patch i new) p ∙ patch-middle i new front old rest l m ∙ sym q
+
+module _ (s : Store) where
+  tables : List ℕ
+  tables = tableBytes channelBytes (s .channels) ++ tableBytes recordBytes (s .records)
+
+  front : List ℕ
+  front = little 4 (sizeFor (length (s .records))) ++ (little 2 storeKind ++ little 2 channelLimit)
+
+  times : OwnHeight → (time : ℕ) → List ℕ
+  times h t = little 8 (h .0) ++ little 8 t
+
+  pub patch-times : (h : OwnHeight) (t : ℕ) →
+      patch 8 (little 8 (h .0) ++ little 8 t) (bytesOf s) ≡ bytesOf (withTimes s h t)
+  unfolding bytesOf headerBytes tables front times
+  patch-times h t =
+      let rest : List ℕ = little 4 (length (s .records)) ++ (little 8 (s .next) ++ (replicate 28 0 ++ tables)) in
+      patch-within 8 (times h t) front (times (s .height) (s .time)) rest s (withTimes s h t)
+      (simp (length-append, length-little)) (simp (length-append, length-little))
+      (simp append-assoc) (simp append-assoc)
+
+  pub patch-next : (n : ℕ) → patch 28 (little 8 n) (bytesOf s) ≡ bytesOf (withNext s n)
+  unfolding bytesOf headerBytes tables front times
+  patch-next n =
+      let before : List ℕ = front ++ (times (s .height) (s .time) ++ little 4 (length (s .records))) in
+      patch-within 28 (little 8 n) before (little 8 (s .next)) (replicate 28 0 ++ tables) s (withNext s n)
+      (simp (length-append, length-little)) (simp length-little) (simp append-assoc) (simp append-assoc)
 
 -- BYTES THAT ARE EXACT
 sizes-read : (bs : List ℕ) → Bytes bs → sizeFits (length bs) ≡ true → Sizes (storeIn bs)
-unfolding storeIn recordIn
+unfolding storeIn channelIn recordIn
 sizes-read bs b h =
     let z = fits-size (length bs) h in
     record {
       slots = length-read channelIn channelLimit (drop headerSize bs);
+      channels =
+          each-read (λ c. length (channelBytes c) ≡ slotSize) channelIn channel-in headerSize channelLimit bs
+          (omega arith) b;
       records =
           each-read (λ r. length (recordBytes r) ≡ slotSize) recordIn record-in recordsFrom (roomIn (length bs)) bs
           (omega arith) b;
     }
   where
+    channel-in : (p : List ℕ) → length p ≡ slotSize → Bytes p → length (channelBytes (channelIn p)) ≡ slotSize
+    channel-in p l k = length-channel (channelIn p) (length-part 40 versionSize p (omega arith))
+
     record-in : (p : List ℕ) → length p ≡ slotSize → Bytes p → length (recordBytes (recordIn p)) ≡ slotSize
     record-in p l k = length-record (recordIn p) (length-part 32 digestSize p (omega arith))
 
-pub exact-times : (bs : List ℕ) → Exact bs → (h : OwnHeight) (t : ℕ) →
-    patch 8 (little 8 (h .0) ++ little 8 t) bs ≡ bytesOf (withTimes (storeIn bs) h t)
-exact-times bs exact h t =
-    ap (patch 8 (little 8 (h .0) ++ little 8 t)) (sym (exact .laid)) ∙ patch-times (storeIn bs) h t
+module _ (bs : List ℕ) (exact : Exact bs) where
+  exact-so : (i : ℕ) (new : List ℕ) (s : Store) → patch i new (bytesOf (storeIn bs)) ≡ bytesOf s →
+      patch i new bs ≡ bytesOf s
+  exact-so i new s p = ap (patch i new) (sym (exact .laid)) ∙ p
 
-module _ (bs : List ℕ) (bytes : Bytes bs) (exact : Exact bs) where
-  pub exact-channel : (j : ℕ) (x : Option Channel) → j < channelLimit →
-      patch (headerSize + slotSize * j) (slotBytes channelBytes x) bs ≡ bytesOf (withChannelSlot (storeIn bs) j x)
-  exact-channel j x h =
-      ap (patch (headerSize + slotSize * j) (slotBytes channelBytes x)) (sym (exact .laid)) ∙
-      patch-channel (storeIn bs) (sizes-read bs bytes (exact .size)) j x h
+  pub exact-times : (h : OwnHeight) (t : ℕ) →
+      patch 8 (little 8 (h .0) ++ little 8 t) bs ≡ bytesOf (withTimes (storeIn bs) h t)
+  exact-times h t = exact-so 8 _ _ (patch-times (storeIn bs) h t)
 
-  pub exact-record : (i : ℕ) (x : Option Record) → SlotsSized recordBytes (x ∷ []) →
-      i < length (storeIn bs .records) →
-      patch (recordsFrom + slotSize * i) (slotBytes recordBytes x) bs ≡ bytesOf (withRecordSlot (storeIn bs) i x)
-  exact-record i x l h =
-      ap (patch (recordsFrom + slotSize * i) (slotBytes recordBytes x)) (sym (exact .laid)) ∙
-      patch-record (storeIn bs) (sizes-read bs bytes (exact .size)) i x l h
+  pub exact-next : (n : ℕ) → patch 28 (little 8 n) bs ≡ bytesOf (withNext (storeIn bs) n)
+  exact-next n = exact-so 28 _ _ (patch-next (storeIn bs) n)
+
+  module _ (bytes : Bytes bs) where
+    pub exact-channel : (j : ℕ) (x : Option Channel) → SlotsSized channelBytes (x ∷ []) → j < channelLimit →
+        patch (headerSize + slotSize * j) (slotBytes channelBytes x) bs ≡ bytesOf (withChannelSlot (storeIn bs) j x)
+    exact-channel j x l h =
+        exact-so _ _ _ (patch-channel (storeIn bs) (sizes-read bs bytes (exact .size)) j x l h)
+
+    pub exact-record : (i : ℕ) (x : Option Record) → SlotsSized recordBytes (x ∷ []) →
+        i < length (storeIn bs .records) →
+        patch (recordsFrom + slotSize * i) (slotBytes recordBytes x) bs ≡ bytesOf (withRecordSlot (storeIn bs) i x)
+    exact-record i x l h =
+        exact-so _ _ _ (patch-record (storeIn bs) (sizes-read bs bytes (exact .size)) i x l h)
 
 -- and have room for every slot of theirs
 pub exact-room : (bs : List ℕ) → Exact bs → length bs ≡ sizeFor (length (storeIn bs .records))

@@ -69,6 +69,8 @@ channel-in p l b =
       own = record { port = field-below _ _ p b; channel = field-below _ _ p b };
       counterparty = record { port = field-below _ _ p b; channel = field-below _ _ p b };
       next = record { send = field-below _ _ p b; receive = field-below _ _ p b; acknowledge = field-below _ _ p b };
+      size = length-part _ _ p (omega arith);
+      bytes = bytes-part _ _ p b;
     }
 
 abbrev Known : Record → Type 0
@@ -120,6 +122,7 @@ fit-fields bs b h =
     record {
       height = field-below _ _ bs b;
       time = field-below _ _ bs b;
+      next = field-below _ _ bs b;
       slots = length-read channelIn channelLimit (drop headerSize bs);
       low = omega arith;
       high = omega arith;

@@ -1,17 +1,20 @@
 -- Effects one after another: bytes that hold a store whose fields fit are exact, are read as that store, and hold the
--- store with other times where those are set. Assumes nothing.
+-- next store after each effect. Assumes nothing.
 use mathlib.Core.Path.{_≡_, sym, ap, _∙_}
 use mathlib.Core.Bool.{true}
-use mathlib.Core.List.{List}
-use Prim.Native.Nat.{ℕ, _^_, _<_}
-use lib.ListN.{length}
+use mathlib.Core.List.{List, [], _∷_}
+use mathlib.Core.Option.{Option, none, some}
+use Prim.Native.Nat.{ℕ, zero, suc, _^_, _<_}
+use lib.ListN.{length, set, length-set}
 use Rattle.wire.proofs.ChoiceLaws.{and-both}
 use Rattle.wire.proofs.BytesLaws.{same-eq}
 use Rattle.slots.specs.declared.OwnHeight.{OwnHeight}
+use Rattle.slots.specs.declared.Channel.{Channel}
 use Rattle.slots.specs.Layout.{Store, bytesOf, storeIn}
 use Rattle.slots.specs.Fit.{sizeFits, isFit}
-use Rattle.slots.specs.Effect.{Exact, withTimes}
-use Rattle.slots.proofs.LayoutLaws.{StoreFields, read-back, size-of}
+use Rattle.slots.specs.Effect.{Exact, withTimes, withNext, withChannelSlot}
+use Rattle.slots.proofs.TableLaws.{Each}
+use Rattle.slots.proofs.LayoutLaws.{ChannelFields, StoreFields, read-back, size-of}
 use Rattle.slots.proofs.FitLaws.{size-fits}
 
 pub record Held (s : Store) (bs : List ℕ) : Type 0 where
@@ -38,20 +41,64 @@ module _ {s : Store} {bs : List ℕ} (h : Held s bs) where
         laid = ap bytesOf held-store ∙ sym (h .bytes);
       }
 
-  pub held-times : (next : List ℕ) (k : OwnHeight) (t : ℕ) → k .0 < 256 ^ 8 → t < 256 ^ 8 →
+each-set : {A : Type 0} (P : A → Type 0) (y : Option A) (i : ℕ) (xs : List (Option A)) → Each P (y ∷ []) → Each P xs →
+    Each P (set xs i y)
+each-set P y i [] p h = tt
+each-set P none zero (none ∷ xs) p h = h
+each-set P none zero (some x ∷ xs) p h = h .1
+each-set P (some y) zero (none ∷ xs) p h = (p .0, h)
+each-set P (some y) zero (some x ∷ xs) p h = (p .0, h .1)
+each-set P y (suc i) (none ∷ xs) p h = each-set P y i xs p h
+each-set P y (suc i) (some x ∷ xs) p h = (h .0, each-set P y i xs p (h .1))
+
+-- EACH EFFECT
+module _ {s : Store} {bs : List ℕ} (h : Held s bs) (next : List ℕ) where
+  held-after : (g : Store → Store) → StoreFields (g s) → next ≡ bytesOf (g (storeIn bs)) → Held (g s) next
+  held-after g f e = record { bytes = e ∙ ap (λ (u : Store). bytesOf (g u)) (held-store h); fields = f }
+
+  pub held-times : (k : OwnHeight) (t : ℕ) → k .0 < 256 ^ 8 → t < 256 ^ 8 →
       next ≡ bytesOf (withTimes (storeIn bs) k t) → Held (withTimes s k t) next
-  held-times next k t p q e =
+  held-times k t p q e =
       let f = h .fields in
+      held-after (λ u. withTimes u k t)
       record {
-        bytes = e ∙ ap (λ (u : Store). bytesOf (withTimes u k t)) held-store;
-        fields =
-            record {
-              height = p;
-              time = q;
-              slots = f .slots;
-              low = f .low;
-              high = f .high;
-              channels = f .channels;
-              records = f .records;
-            };
-      }
+        height = p;
+        time = q;
+        next = f .next;
+        slots = f .slots;
+        low = f .low;
+        high = f .high;
+        channels = f .channels;
+        records = f .records;
+      } e
+
+  pub held-next : (n : ℕ) → n < 256 ^ 8 → next ≡ bytesOf (withNext (storeIn bs) n) → Held (withNext s n) next
+  held-next n p e =
+      let f = h .fields in
+      held-after (λ u. withNext u n)
+      record {
+        height = f .height;
+        time = f .time;
+        next = p;
+        slots = f .slots;
+        low = f .low;
+        high = f .high;
+        channels = f .channels;
+        records = f .records;
+      } e
+
+  pub held-channel : (j : ℕ) (x : Option Channel) → Each ChannelFields (x ∷ []) →
+      next ≡ bytesOf (withChannelSlot (storeIn bs) j x) → Held (withChannelSlot s j x) next
+  held-channel j x p e =
+      let f = h .fields in
+      held-after (λ u. withChannelSlot u j x)
+      record {
+        height = f .height;
+        time = f .time;
+        next = f .next;
+        slots = length-set (s .channels) j x ∙ f .slots;
+        low = f .low;
+        high = f .high;
+        channels = each-set ChannelFields x j (s .channels) p (f .channels);
+        records = f .records;
+      } e

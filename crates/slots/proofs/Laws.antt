@@ -9,7 +9,9 @@ pub use Rattle.slots.proofs.RecordLaws.{single-insert, commitments-inse
 pub use Rattle.slots.proofs.RecordLaws.{lookup-remove, lookup-remove-other, single-remove, remove-from}
 pub use Rattle.slots.proofs.RecordLaws.{commitments-remove}
 pub use Rattle.slots.proofs.ChannelLaws.{channel-number, channel-own, channel-with, channel-with-other}
-pub use Rattle.slots.proofs.ChannelLaws.{numbers-with}
+pub use Rattle.slots.proofs.ChannelLaws.{channel-insert, channel-insert-other, numbers-with, numbers-insert}
+pub use Rattle.slots.proofs.ChannelLaws.{next-low, number-below, next-unused, fits-with, fits-insert}
+pub use Rattle.slots.proofs.ChannelLaws.{fit-numbers, padded-fits, padded-size, padded-bytes}
 pub use Rattle.slots.proofs.LayoutLaws.{PortChannelFields, TimeoutFields, CounterFields, ChannelFields}
 pub use Rattle.slots.proofs.LayoutLaws.{RecordFields}
 pub use Rattle.slots.proofs.LayoutLaws.{StoreFields, read-port-channel, read-timeout, size-of, bytes-of}

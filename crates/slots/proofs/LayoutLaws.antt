@@ -9,11 +9,11 @@ use Rattle.slots.specs.declared.Timeout.{Timeout}
 use Rattle.slots.specs.declared.Counters.{Counters}
 use Rattle.slots.specs.declared.Channel.{Channel}
 use Rattle.slots.specs.declared.Record.{Record}
-use Rattle.slots.specs.Names.{channelLimit, recordLimit, ownHeight, Store, headerSize, slotSize, recordsFrom}
-use Rattle.slots.specs.Names.{sizeFor, roomIn, channelBytes, recordBytes, slotBytes, tableBytes, headerBytes}
-use Rattle.slots.specs.Names.{bytesOf, channelIn, recordIn, slotIn, tableIn, storeIn, commitmentKind}
-use Rattle.slots.specs.Names.{acknowledgementKind}
-use Rattle.slots.proofs.TableLaws.{Each, each-of, each-map}
+use Rattle.slots.specs.Names.{channelLimit, recordLimit, versionSize, ownHeight, Store, headerSize, slotSize}
+use Rattle.slots.specs.Names.{recordsFrom, sizeFor, roomIn, channelBytes, recordBytes, slotBytes, tableBytes}
+use Rattle.slots.specs.Names.{headerBytes, bytesOf, channelIn, recordIn, slotIn, tableIn, storeIn}
+use Rattle.slots.specs.Names.{commitmentKind, acknowledgementKind}
+use Rattle.slots.proofs.TableLaws.{Each, each-map}
 
 -- BOUNDS: each number fits its field
 pub record PortChannelFields (e : PortChannel) : Type 0 where
@@ -35,6 +35,8 @@ pub record ChannelFields (c : Channel) : Type 0 where
   pub own : PortChannelFields (c .own)
   pub counterparty : PortChannelFields (c .counterparty)
   pub next : CounterFields (c .next)
+  pub size : length (c .version) ≡ versionSize
+  pub bytes : Bytes (c .version)
 
 pub record RecordFields (r : Record) : Type 0 where
   pub low : commitmentKind ≤ r .kind
@@ -48,6 +50,7 @@ pub record RecordFields (r : Record) : Type 0 where
 pub record StoreFields (s : Store) : Type 0 where
   pub height : s .height .0 < 256 ^ 8
   pub time : s .time < 256 ^ 8
+  pub next : s .next < 256 ^ 8
   pub slots : length (s .channels) ≡ channelLimit
   pub low : 1 ≤ length (s .records)
   pub high : length (s .records) ≤ recordLimit
@@ -65,14 +68,14 @@ pub read-timeout : (t : Timeout) → TimeoutFields t →
 read-timeout t h = λ i.
     record { height = read-little 8 (t .height) (h .height) i; time = read-little 8 (t .time) (h .time) i }
 
--- SIZES; a packet record has its size where its digest has
-pub length-header : (h t n : ℕ) → length (headerBytes h t n) ≡ headerSize
+-- SIZES; a channel record has its size where its version has, a packet record where its digest has
+pub length-header : (h t n m : ℕ) → length (headerBytes h t n m) ≡ headerSize
 unfolding headerBytes little
-length-header h t n = refl
+length-header h t n m = refl
 
-pub length-channel : (c : Channel) → length (channelBytes c) ≡ slotSize
+pub length-channel : (c : Channel) → length (c .version) ≡ versionSize → length (channelBytes c) ≡ slotSize
 unfolding channelBytes little
-length-channel c = refl
+length-channel c h = omega arith
 
 pub length-record : (r : Record) → length (r .digest) ≡ digestSize → length (recordBytes r) ≡ slotSize
 unfolding recordBytes little
@@ -92,9 +95,6 @@ length-table f [] h = refl
 length-table f (none ∷ xs) h = omega (arith, length-table f xs h)
 length-table f (some x ∷ xs) h =
     length-append (f x) (tableBytes f xs) ∙ omega (arith, h .0, length-table f xs (h .1))
-
-pub length-channels : (xs : List (Option Channel)) → length (tableBytes channelBytes xs) ≡ slotSize * length xs
-length-channels xs = length-table channelBytes xs (each-of length-channel xs)
 
 module _ {A : Type 0} (f : A → List ℕ) (g : List ℕ → A) where
   bytes-table : (xs : List (Option A)) → Each (Kept f g) xs → Bytes (tableBytes f xs)
@@ -125,7 +125,7 @@ bytes-channel : (c : Channel) → ChannelFields c → Bytes (channelBytes c)
 unfolding channelBytes
 bytes-channel c h =
     let two : Bytes (c .state ∷ c .order ∷ []) = (h .state, (h .order, tt)) in
-    search (every-append Byte, bytes-little, two, bytes-zeros 24) depth 14
+    search (every-append Byte, bytes-little, two, h .bytes) depth 14
 
 bytes-record : (r : Record) → RecordFields r → Bytes (recordBytes r)
 unfolding recordBytes
@@ -133,7 +133,7 @@ bytes-record r h = search (every-append Byte, bytes-little, bytes-zeros 2, h .by
 
 channel-kept : (c : Channel) → ChannelFields c → Kept channelBytes channelIn c
 unfolding channelBytes channelIn little field part areZero _and_
-channel-kept c h = record { size = length-channel c; bytes = bytes-channel c h; taken = refl; back = back }
+channel-kept c h = record { size = length-channel c (h .size); bytes = bytes-channel c h; taken = refl; back = back }
   where
     next : Counters
     next = c .next
@@ -151,6 +151,7 @@ channel-kept c h = record { size = length-channel c; bytes = bytes-channel c h; 
                 receive = read-little 8 (next .receive) (h .next .receive) i;
                 acknowledge = read-little 8 (next .acknowledge) (h .next .acknowledge) i;
               };
+          version = take-all versionSize (c .version) (omega (arith, h .size)) i;
         }
 
 record-kept : (r : Record) → RecordFields r → Kept recordBytes recordIn r
@@ -182,7 +183,9 @@ module _ (s : Store) (ok : StoreFields s) where
   records-kept = each-map record-kept (s .records) (ok .records)
 
   channels-size : length (tableBytes channelBytes (s .channels)) ≡ slotSize * channelLimit
-  channels-size = length-channels (s .channels) ∙ omega (arith, ok .slots)
+  channels-size =
+      length-table channelBytes (s .channels) (each-map (λ c k. k .size) (s .channels) channels-kept) ∙
+      omega (arith, ok .slots)
 
   pub size-of : length (bytesOf s) ≡ sizeFor (length (s .records))
   unfolding bytesOf headerBytes little
@@ -199,7 +202,7 @@ module _ (s : Store) (ok : StoreFields s) where
   bytes-of =
       let a = bytes-table channelBytes channelIn (s .channels) channels-kept in
       let b = bytes-table recordBytes recordIn (s .records) records-kept in
-      search (every-append Byte, bytes-little, bytes-zeros 36, a, b) depth 14
+      search (every-append Byte, bytes-little, bytes-zeros 28, a, b) depth 14
 
   pub read-back : storeIn (bytesOf s) ≡ s
   unfolding storeIn bytesOf headerBytes little field part
@@ -207,6 +210,7 @@ module _ (s : Store) (ok : StoreFields s) where
       record {
         height = ownHeight (read-little 8 (s .height .0) (ok .height) i);
         time = read-little 8 (s .time) (ok .time) i;
+        next = read-little 8 (s .next) (ok .next) i;
         channels = channels i;
         records = records i;
       }

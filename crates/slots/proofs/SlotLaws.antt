@@ -4,7 +4,7 @@ use mathlib.Core.List.{List, [], _∷_, _++_}
 use Prim.Native.Nat.{ℕ, _+_, _≤_}
 use native.Mathlib.Nat.{add-assoc, add-zero}
 use native.Mathlib.Omega.{arith}
-use lib.ListN.{length, getD, set, replicate, length-append}
+use lib.ListN.{length, getD, set, length-append}
 use Rattle.wire.specs.Bytes.{little, part, field, patch, digestSize}
 use Rattle.wire.proofs.BytesLaws.{length-little}
 use Rattle.wire.proofs.PartLaws.{part-part, field-part, byte-part}
@@ -13,6 +13,7 @@ use Rattle.slots.specs.declared.PortChannel.{PortChannel}
 use Rattle.slots.specs.declared.Timeout.{Timeout}
 use Rattle.slots.specs.declared.Channel.{Channel}
 use Rattle.slots.specs.declared.Record.{Record}
+use Rattle.slots.specs.Limits.{versionSize}
 use Rattle.slots.specs.Codes.{channelKind}
 use Rattle.slots.specs.Layout.{slotSize, channelIn, channelBytes, recordIn, recordBytes}
 use Rattle.slots.specs.Part.{portChannelIn, timeoutIn}
@@ -32,17 +33,19 @@ module _ (at : ℕ) (bs : List ℕ) where
   number : (i n : ℕ) → i + n ≤ slotSize → {x : ℕ} → x ≡ field (at + i) n bs → x ≡ field i n (part at slotSize bs)
   number i n h p = p ∙ sym (field-part i n at slotSize bs h)
 
-  pub channel-read : {p c s r a : ℕ} {e : PortChannel} → p ≡ field (at + 8) 2 bs → c ≡ field (at + 4) 4 bs →
-      e ≡ portChannelIn (at + 10) bs → s ≡ field (at + 16) 8 bs → r ≡ field (at + 24) 8 bs → a ≡ field (at + 32) 8 bs →
+  pub channel-read : {p c s r a : ℕ} {e : PortChannel} {v : List ℕ} → p ≡ field (at + 8) 2 bs →
+      c ≡ field (at + 4) 4 bs → e ≡ portChannelIn (at + 10) bs → s ≡ field (at + 16) 8 bs → r ≡ field (at + 24) 8 bs →
+      a ≡ field (at + 32) 8 bs → v ≡ part (at + 40) versionSize bs →
       record {
         state = getD bs (at + 2) 0;
         order = getD bs (at + 3) 0;
         own = record { port = p; channel = c };
         counterparty = e;
         next = record { send = s; receive = r; acknowledge = a };
+        version = v;
       } ≡ channelIn (part at slotSize bs)
   unfolding channelIn
-  channel-read p c e s r a = λ i.
+  channel-read p c e s r a v = λ i.
       record {
         state = sym (byte-part 2 at slotSize bs (omega arith)) i;
         order = sym (byte-part 3 at slotSize bs (omega arith)) i;
@@ -54,6 +57,7 @@ module _ (at : ℕ) (bs : List ℕ) where
               receive = number 24 8 (omega arith) r i;
               acknowledge = number 32 8 (omega arith) a i;
             };
+        version = (v ∙ sym (part-part 40 versionSize at slotSize bs (omega arith))) i;
       }
 
   pub record-read : {k c n : ℕ} {t : Timeout} {d : List ℕ} → k ≡ field at 2 bs → c ≡ field (at + 4) 4 bs →
@@ -81,7 +85,7 @@ module _ (at : ℕ) (bs : List ℕ) where
   head-stored k x y n = bytes-stored k n (x ∷ []) (y ∷ []) refl refl
 
   pub channel-stored : (c : Channel) → patch at (channelBytes c) bs
-      ≡ patch (at + 40) (replicate 24 0)
+      ≡ patch (at + 40) (c .version)
       (patch (at + 16) (little 8 (c .next .send) ++ little 8 (c .next .receive) ++ little 8 (c .next .acknowledge))
       (patch (at + 10) (little 2 (c .counterparty .port) ++ little 4 (c .counterparty .channel))
       (patch (at + 8) (little 2 (c .own .port))

@@ -24,11 +24,6 @@ module _ {A : Type 0} where
   each-all t (none ∷ xs) h = each-all t xs h
   each-all t (some x ∷ xs) h = both-and (h .0) (each-all t xs (h .1))
 
-  pub each-of : {P : A → Type 0} → ((x : A) → P x) → (xs : List (Option A)) → Each P xs
-  each-of f [] = tt
-  each-of f (none ∷ xs) = each-of f xs
-  each-of f (some x ∷ xs) = (f x, each-of f xs)
-
   pub each-map : {P Q : A → Type 0} → ((x : A) → P x → Q x) → (xs : List (Option A)) → Each P xs → Each Q xs
   each-map f [] h = tt
   each-map f (none ∷ xs) h = each-map f xs h

@@ -5,6 +5,12 @@ use Prim.Native.Nat.{ℕ}
 use Rattle.wire.specs.Choice.{isIn}
 
 -- STATES of a channel end
+abbrev pub stateInit : ℕ
+stateInit = 1
+
+abbrev pub stateTryOpen : ℕ
+stateTryOpen = 2
+
 abbrev pub stateOpen : ℕ
 stateOpen = 3
 
@@ -12,7 +18,7 @@ abbrev pub stateClosed : ℕ
 stateClosed = 4
 
 abbrev pub isState : ℕ → Bool
-isState n = isIn stateOpen stateClosed n
+isState n = isIn stateInit stateClosed n
 
 -- ORDERS of a channel
 abbrev pub orderOrdered : ℕ

@@ -1,4 +1,5 @@
--- What the parts of a datagram's effect leave: the store with other times, or with one slot replaced.
+-- What the parts of a datagram's effect leave: the store with other times, another next channel number, or with one
+-- slot replaced.
 use mathlib.Core.Path.{_≡_}
 use mathlib.Core.Bool.{true}
 use mathlib.Core.List.{List}
@@ -17,12 +18,29 @@ pub record Exact (bs : List ℕ) : Type 0 where
   pub laid : bytesOf (storeIn bs) ≡ bs
 
 abbrev pub withTimes : Store → OwnHeight → (time : ℕ) → Store
-withTimes s h t = record { height = h; time = t; channels = s .channels; records = s .records }
+withTimes s h t =
+    record { height = h; time = t; next = s .next; channels = s .channels; records = s .records }
+
+abbrev pub withNext : Store → (next : ℕ) → Store
+withNext s n =
+    record { height = s .height; time = s .time; next = n; channels = s .channels; records = s .records }
 
 abbrev pub withChannelSlot : Store → (index : ℕ) → Option Channel → Store
 withChannelSlot s j x =
-    record { height = s .height; time = s .time; channels = set (s .channels) j x; records = s .records }
+    record {
+      height = s .height;
+      time = s .time;
+      next = s .next;
+      channels = set (s .channels) j x;
+      records = s .records;
+    }
 
 abbrev pub withRecordSlot : Store → (index : ℕ) → Option Record → Store
 withRecordSlot s i x =
-    record { height = s .height; time = s .time; channels = s .channels; records = set (s .records) i x }
+    record {
+      height = s .height;
+      time = s .time;
+      next = s .next;
+      channels = s .channels;
+      records = set (s .records) i x;
+    }

@@ -5,26 +5,40 @@ use mathlib.Core.Option.{Option, none, some}
 use Prim.Native.Nat.{ℕ, _-_, _%_}
 use lib.Dec.{ltb, leb, eqb}
 use lib.ListN.{length}
-use Rattle.wire.specs.Choice.{_and_, pick, isIn}
+use Rattle.wire.specs.Choice.{_and_, _or_, pick, isIn}
 use Rattle.wire.specs.Bytes.{same, areZero}
 use Rattle.slots.specs.declared.Channel.{Channel}
 use Rattle.slots.specs.declared.Record.{Record}
 use Rattle.slots.specs.Limits.{recordLimit}
-use Rattle.slots.specs.Codes.{isState, isOrder, commitmentKind, receiptKind, acknowledgementKind}
+use Rattle.slots.specs.Codes.{stateInit, isState, isOrder, commitmentKind, receiptKind}
+use Rattle.slots.specs.Codes.{acknowledgementKind}
+use Rattle.slots.specs.Version.{isPadded}
 use Rattle.slots.specs.Height.{noTimeout, sameTimeout}
 use Rattle.slots.specs.Table.{all, distinct, sameNumber, channelAt, sameKey}
 use Rattle.slots.specs.Layout.{Store, slotSize, recordsFrom, sizeFor, bytesOf, storeIn}
 use Rattle.slots.specs.Ordering.{isOrdered, isReceived}
 
--- OPEN or CLOSED, ordered or unordered, counters at least 1
+-- an INIT end does not know its counterparty's channel
+unfoldable pub namesNone : Channel → Bool
+namesNone c = not (eqb (c .state) stateInit) or eqb (c .counterparty .channel) 0
+
+-- INIT, TRYOPEN, OPEN or CLOSED, ordered or unordered, counters at least 1, a version with zeros behind it
 unfoldable pub channelFits : Channel → Bool
 channelFits c =
     isState (c .state) and isOrder (c .order) and
-    (leb 1 (c .next .send) and leb 1 (c .next .receive) and leb 1 (c .next .acknowledge))
+    (leb 1 (c .next .send) and leb 1 (c .next .receive) and leb 1 (c .next .acknowledge)) and
+    isPadded (c .version) and namesNone c
 
 -- channel numbers differ
 unfoldable pub channelsFit : List (Option Channel) → Bool
 channelsFit cs = all channelFits cs and distinct sameNumber cs
+
+-- the next channel number is at least 1 and above every channel number
+unfoldable pub isBelow : (next : ℕ) → Channel → Bool
+isBelow n c = ltb (c .own .channel) n
+
+unfoldable pub numbersFit : (next : ℕ) → List (Option Channel) → Bool
+numbersFit n cs = leb 1 n and all (isBelow n) cs
 
 -- a commitment is below next send; a receipt is on an unordered channel, with zero timeouts and digest;
 -- an acknowledgement is of a received packet, with zero timeouts
@@ -45,7 +59,7 @@ unfoldable pub recordsFit : Store → Bool
 recordsFit s = all (recordFits s) (s .records) and distinct sameKey (s .records)
 
 unfoldable pub storeFits : Store → Bool
-storeFits s = channelsFit (s .channels) and recordsFit s
+storeFits s = channelsFit (s .channels) and numbersFit (s .next) (s .channels) and recordsFit s
 
 unfoldable pub sizeFits : (size : ℕ) → Bool
 sizeFits n = isIn (sizeFor 1) (sizeFor recordLimit) n and eqb ((n - recordsFrom) % slotSize) 0

@@ -8,15 +8,16 @@ use Rattle.wire.specs.Bytes.{areZero, little, part, field, pieces, digestSize}
 use Rattle.slots.specs.declared.OwnHeight.{OwnHeight}
 use Rattle.slots.specs.declared.Channel.{Channel}
 use Rattle.slots.specs.declared.Record.{Record}
-use Rattle.slots.specs.Limits.{channelLimit}
+use Rattle.slots.specs.Limits.{channelLimit, versionSize}
 use Rattle.slots.specs.Codes.{storeKind, channelKind}
 use Rattle.slots.specs.Height.{ownHeight}
 use Rattle.slots.specs.Part.{portChannelIn, timeoutIn}
 
--- what a store says: last height and time, and the slots of its two tables
+-- what a store says: last height and time, the next channel number, and the slots of its two tables
 pub record Store : Type 0 where
   pub height : OwnHeight
   pub time : ℕ
+  pub next : ℕ
   pub channels : List (Option Channel)
   pub records : List (Option Record)
 
@@ -42,7 +43,7 @@ unfoldable pub channelBytes : Channel → List ℕ
 channelBytes c =
     little 2 channelKind ++ (c .state ∷ c .order ∷ []) ++ little 4 (c .own .channel) ++ little 2 (c .own .port) ++
     little 2 (c .counterparty .port) ++ little 4 (c .counterparty .channel) ++
-    little 8 (c .next .send) ++ little 8 (c .next .receive) ++ little 8 (c .next .acknowledge) ++ replicate 24 0
+    little 8 (c .next .send) ++ little 8 (c .next .receive) ++ little 8 (c .next .acknowledge) ++ c .version
 
 unfoldable pub recordBytes : Record → List ℕ
 recordBytes r =
@@ -57,14 +58,14 @@ unfoldable pub tableBytes : {A : Type 0} → (A → List ℕ) → List (Option A
 tableBytes f [] = []
 tableBytes f (x ∷ xs) = slotBytes f x ++ tableBytes f xs
 
-unfoldable pub headerBytes : (height time records : ℕ) → List ℕ
-headerBytes h t n =
+unfoldable pub headerBytes : (height time records next : ℕ) → List ℕ
+headerBytes h t n m =
     little 4 (sizeFor n) ++ little 2 storeKind ++ little 2 channelLimit ++ little 8 h ++ little 8 t ++ little 4 n ++
-    replicate 36 0
+    little 8 m ++ replicate 28 0
 
 unfoldable pub bytesOf : Store → List ℕ
 bytesOf s =
-    headerBytes (s .height .0) (s .time) (length (s .records)) ++
+    headerBytes (s .height .0) (s .time) (length (s .records)) (s .next) ++
     (tableBytes channelBytes (s .channels) ++ tableBytes recordBytes (s .records))
 
 -- READ
@@ -76,6 +77,7 @@ channelIn bs =
       own = record { port = field 8 2 bs; channel = field 4 4 bs };
       counterparty = portChannelIn 10 bs;
       next = record { send = field 16 8 bs; receive = field 24 8 bs; acknowledge = field 32 8 bs };
+      version = part 40 versionSize bs;
     }
 
 unfoldable pub recordIn : List ℕ → Record
@@ -99,6 +101,7 @@ storeIn bs =
     record {
       height = ownHeight (field 8 8 bs);
       time = field 16 8 bs;
+      next = field 28 8 bs;
       channels = tableIn channelIn channelLimit (drop headerSize bs);
       records = tableIn recordIn (roomIn (length bs)) (drop recordsFrom bs);
     }

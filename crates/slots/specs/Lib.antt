@@ -1,6 +1,7 @@
 pub mod Limits
 pub mod Codes
 pub mod Height
+pub mod Version
 pub mod Part
 pub mod Table
 pub mod Layout

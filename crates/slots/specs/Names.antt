@@ -1,11 +1,14 @@
 -- All definitions of this crate under one name, for those who use them.
-pub use Rattle.slots.specs.Limits.{channelLimit, recordLimit, outputLimit, top}
-pub use Rattle.slots.specs.Codes.{stateOpen, stateClosed, isState, orderOrdered, orderUnordered, isOrder}
+pub use Rattle.slots.specs.Limits.{channelLimit, recordLimit, outputLimit, versionSize, topChannel, top}
+pub use Rattle.slots.specs.Codes.{stateInit, stateTryOpen, stateOpen, stateClosed, isState}
+pub use Rattle.slots.specs.Codes.{orderOrdered, orderUnordered, isOrder}
 pub use Rattle.slots.specs.Codes.{commitmentKind, receiptKind, acknowledgementKind, storeKind, channelKind}
 unfoldable pub use Rattle.slots.specs.Height.{isPast, sameTimeout}
 pub use Rattle.slots.specs.Height.{ownHeight, otherHeight, heightAtSender, heightAtReceiver, seenAcross}
 pub use Rattle.slots.specs.Height.{isBelowOwn, isSameOwn, isUpToOther, UpToOther, BelowOther, isPastOwn}
 pub use Rattle.slots.specs.Height.{isPastOther, noTimeout}
+unfoldable pub use Rattle.slots.specs.Version.{noneZero, versionFits, padded, isPadded}
+pub use Rattle.slots.specs.Version.{noVersion}
 unfoldable pub use Rattle.slots.specs.Table.{find, replace, insert, hasFree, count, all, distinct, isNumbered}
 unfoldable pub use Rattle.slots.specs.Table.{samePortChannel, hasKey, isCommitmentOn}
 pub use Rattle.slots.specs.Table.{sameNumber, channelAt, withChannel, Key, commitmentKey, receiptKey}
@@ -15,5 +18,6 @@ unfoldable pub use Rattle.slots.specs.Layout.{headerBytes, bytesOf, chan
 pub use Rattle.slots.specs.Layout.{Store, headerSize, slotSize, recordsFrom, sizeFor, tableIn}
 unfoldable pub use Rattle.slots.specs.Ordering.{isOrdered, isReceived}
 pub use Rattle.slots.specs.Ordering.{hasReceipt}
-unfoldable pub use Rattle.slots.specs.Fit.{channelFits, channelsFit, fitsEnd, recordFits, recordsFit, storeFits}
+unfoldable pub use Rattle.slots.specs.Fit.{namesNone, channelFits, channelsFit, isBelow, numbersFit, fitsEnd}
+unfoldable pub use Rattle.slots.specs.Fit.{recordFits, recordsFit, storeFits}
 unfoldable pub use Rattle.slots.specs.Fit.{sizeFits, isFit}

@@ -2,6 +2,7 @@
 // bytes and stored there. specs/ says what they mean, and what a store says by its bytes.
 pub mod part; // a port and a channel, and timeouts
 pub mod slot; // a channel end or a packet record in 64 bytes
+pub mod version; // a version in 24 bytes
 
 use wire::DIGEST;
 
@@ -29,18 +30,26 @@ pub struct Counters {
     pub acknowledge: u64,
 }
 
-// A channel end.
+// The bytes of a version, as specs/Limits.antt has it.
+pub const VERSION: usize = 24;
+
+// A channel end. Its version has zeros behind it. An INIT end does not know its counterparty's channel: it is 0.
 pub struct Channel {
     pub state: u8,
     pub order: u8,
     pub own: PortChannel,
     pub counterparty: PortChannel,
     pub next: Counters,
+    pub version: [u8; VERSION],
 }
 
 // Its record's kind, its states and its orders, as specs/Codes.antt has them.
 impl Channel {
     pub const KIND: u16 = 1;
+
+    pub const INIT: u8 = 1;
+
+    pub const TRY_OPEN: u8 = 2;
 
     pub const OPEN: u8 = 3;
 

@@ -6,12 +6,13 @@ use super::Record;
 use super::part::port_channel_at;
 use super::part::put_port_channel;
 use super::part::timeout_at;
+use super::version::put_version;
+use super::version::version_at;
 use wire::digest_at;
 use wire::put_digest;
 use wire::put_three;
 use wire::put_u16;
 use wire::put_u32;
-use wire::put_zeros;
 use wire::u16_at;
 use wire::u32_at;
 use wire::u64_at;
@@ -40,6 +41,7 @@ pub fn channel_at(s: &[u8], at: usize) -> Channel
             receive: u64_at(s, at + 24),
             acknowledge: u64_at(s, at + 32),
         },
+        version: version_at(s, at + 40),
     }
 }
 
@@ -77,7 +79,8 @@ pub fn put_channel(s: &mut [u8], at: usize, c: Channel)
     put_u16(s, at + 8, c.own.port);
     put_port_channel(s, at + 10, c.counterparty.port, c.counterparty.channel);
     put_three(s, at + 16, c.next.send, c.next.receive, c.next.acknowledge);
-    put_zeros(s, at + 40, 24);
+    let v = c.version;
+    put_version(s, at + 40, v);
 }
 
 pub fn put_record(s: &mut [u8], at: usize, r: Record)

@@ -7,12 +7,14 @@ use Rattle.slots.proofs.slot.channel_at.Tie as tie
 
 returns : tie.Need-returns
 returns c =
-    let other = c .before .before .before in
+    let counters = c .before in
+    let other = counters .before .before .before in
     let own = other .before .before in
     let a = own .before .before .before .before .args in
     channel-read (a .at) (now (a .s)) (own .u16-at .ensures) (other .before .u32-at .ensures)
     (other .port-channel-at .ensures)
-    (c .before .before .u64-at .ensures) (c .before .u64-at2 .ensures) (c .u64-at3 .ensures)
+    (counters .before .before .u64-at .ensures) (counters .before .u64-at2 .ensures) (counters .u64-at3 .ensures)
+    (c .version-at .ensures)
 
 pub channel-at-spec : {M : Type 1} → statement M
 channel-at-spec =
@@ -21,4 +23,4 @@ channel-at-spec =
     (λ c. search needs) (λ c. search needs) (λ c. search needs) (λ c. search needs) (λ c. search needs)
     (λ c κs. search needs) (λ c. search needs) (λ c κs. search needs) (λ c. search needs) (λ c κs. search needs)
     (λ c. search needs) (λ c κs. search needs) (λ c. search needs) (λ c κs. search needs) (λ c. search needs)
-    (λ c κs. search needs) returns)
+    (λ c κs. search needs) (λ c. search needs) (λ c κs. search needs) returns)

@@ -6,13 +6,13 @@ use Rattle.slots.proofs.slot.put_channel.Tie as tie
 
 returns : tie.Need-returns
 returns c =
-    let zeros = c .before .before in
-    let counters = zeros .before .before .before .before in
+    let version = c .before .before in
+    let counters = version .before .before .before .before .before in
     let counterparty = counters .before .before .before .before in
     let port = counterparty .before .before .before .before in
     let head = port .before .before .before .before in
     rw (
-      zeros .put-zeros .ensures,
+      version .put-version .ensures,
       counters .put-three .ensures,
       counterparty .put-port-channel .ensures,
       port .put-u16 .ensures,
