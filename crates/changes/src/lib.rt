@@ -1,5 +1,5 @@
-// Changes of a lent store, as acceptance makes them, a step at a time: the times, one channel end, one packet record.
-// Each step leaves the bytes of the store with that part replaced, and no other byte changed.
+// Changes of a lent store, as acceptance makes them, a step at a time: the times, the next channel number, one channel
+// end, one packet record. Each step leaves the bytes of the store with that part replaced, and no other byte changed.
 use slots::Channel;
 use slots::OwnHeight;
 use slots::Record;
@@ -14,7 +14,7 @@ ghost use Prim.Native.Nat.{_<_};
 ghost use lib.ListN.{length};
 ghost use Rattle.slots.specs.Limits.{channelLimit};
 ghost use Rattle.slots.specs.Layout.{bytesOf, storeIn};
-ghost use Rattle.slots.specs.Effect.{Exact, withTimes, withChannelSlot, withRecordSlot};
+ghost use Rattle.slots.specs.Effect.{Exact, withTimes, withNext, withChannelSlot, withRecordSlot};
 
 // Last height and time.
 pub fn set_times(s: &mut [u8], height: OwnHeight, time: u64)
@@ -25,7 +25,15 @@ pub fn set_times(s: &mut [u8], height: OwnHeight, time: u64)
     put_u64(s, 16, time);
 }
 
-// The channel end of index `j`.
+// The next channel number.
+pub fn set_next(s: &mut [u8], next: u64)
+    requires { ⌜ Exact (now s) ⌝ }
+    ensures { λ _. ⌜ now (s .exit) ≡ bytesOf (withNext (storeIn (now (s .entry))) next) ⌝ }
+{
+    put_u64(s, 28, next);
+}
+
+// A channel end takes the slot of index `j`.
 pub fn set_channel(s: &mut [u8], j: usize, c: Channel)
     requires { ⌜ Exact (now s) × (j < channelLimit) ⌝ }
     ensures { λ _. ⌜ now (s .exit) ≡ bytesOf (withChannelSlot (storeIn (now (s .entry))) j (some c)) ⌝ }

@@ -1,5 +1,5 @@
 -- Laws of a list of openings: one is read field by field, and a turn of a loop takes the next one. Assumes nothing.
-use mathlib.Core.Path.{_≡_, sym, _∙_}
+use mathlib.Core.Path.{_≡_, refl, sym, _∙_}
 use mathlib.Core.Bool.{not}
 use mathlib.Core.List.{List, [], _∷_}
 use mathlib.Core.Option.{some}
@@ -17,6 +17,7 @@ use Rattle.wire.proofs.PatchLaws.{patch-then}
 use Rattle.slots.specs.declared.PortChannel.{PortChannel}
 use Rattle.slots.specs.Codes.{stateOpen, isOrder}
 use Rattle.slots.specs.Table.{find, distinct, isNumbered, sameNumber, channelAt}
+use Rattle.slots.specs.Version.{noVersion}
 use Rattle.slots.specs.Part.{portChannelIn}
 use Rattle.slots.specs.Layout.{slotSize, channelBytes, slotBytes, tableBytes}
 use Rattle.openings.specs.Opening.{openingSize, openingKind, openingsIn, openingFits, allOpeningsFit}
@@ -58,6 +59,7 @@ module _ (at : ℕ) (bs : List ℕ) (room : at + openingSize ≤ length bs) wher
         own = e;
         counterparty = f;
         next = record { send = 1; receive = 1; acknowledge = 1 };
+        version = noVersion;
       } ≡ openingOf (part at openingSize bs)
   unfolding openingOf
   opening-read x e f = λ i.
@@ -67,7 +69,12 @@ module _ (at : ℕ) (bs : List ℕ) (room : at + openingSize ≤ length bs) wher
         own = (e ∙ sym (end-part 6 at openingSize bs (omega arith))) i;
         counterparty = (f ∙ sym (end-part 12 at openingSize bs (omega arith))) i;
         next = record { send = 1; receive = 1; acknowledge = 1 };
+        version = noVersion;
       }
+
+pub length-opened : (o : List ℕ) → length (channelBytes (openingOf o)) ≡ slotSize
+unfolding openingOf
+length-opened o = length-channel (openingOf o) refl
 
 -- ALL OF THEM
 pub length-ends : (bs : List ℕ) → length (endsOf bs) ≡ length bs / openingSize
@@ -89,7 +96,10 @@ module _ (bs : List ℕ) (i : ℕ) (more : i < length bs / openingSize) where
   unfolding allOpeningsFit
   fit-turn = rw opening-next
 
-  number-at : openingOf (openingAt bs i) .own .channel ≡ field (openingSize * i + 8) 4 bs
+  pub ends-turn : endsFrom bs i ≡ some (openingOf (openingAt bs i)) ∷ endsFrom bs (i + 1)
+  ends-turn = rw opening-next
+
+  pub number-at : openingOf (openingAt bs i) .own .channel ≡ field (openingSize * i + 8) 4 bs
   unfolding openingOf
   number-at = field-part 8 4 (openingSize * i) openingSize bs (omega arith)
 
@@ -113,7 +123,7 @@ module _ (bs : List ℕ) (i : ℕ) (more : i < length bs / openingSize) where
   store-turn at cs =
       let c = openingOf (openingAt bs i) in
       let rest : List ℕ = tableBytes channelBytes (endsFrom bs (i + 1)) in
-      rw opening-next (sym (patch-then at slotSize (channelBytes c) rest cs (length-channel c)))
+      rw opening-next (sym (patch-then at slotSize (channelBytes c) rest cs (length-opened (openingAt bs i))))
 
 -- and behind the last one
 pub openings-over : (bs : List ℕ) (i : ℕ) → length bs / openingSize ≤ i → openingsFrom bs i ≡ []

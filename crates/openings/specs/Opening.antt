@@ -9,6 +9,7 @@ use Rattle.wire.specs.Choice.{_and_}
 use Rattle.wire.specs.Bytes.{field, pieces}
 use Rattle.slots.specs.declared.Channel.{Channel}
 use Rattle.slots.specs.Codes.{stateOpen, isOrder}
+use Rattle.slots.specs.Version.{noVersion}
 use Rattle.slots.specs.Part.{portChannelIn}
 
 abbrev pub openingSize : ℕ
@@ -29,7 +30,7 @@ unfoldable pub allOpeningsFit : List (List ℕ) → Bool
 allOpeningsFit [] = true
 allOpeningsFit (o ∷ os) = openingFits o and allOpeningsFit os
 
--- an OPEN end with counters 1
+-- an OPEN end with counters 1 and no version
 unfoldable pub openingOf : List ℕ → Channel
 openingOf o =
     record {
@@ -38,6 +39,7 @@ openingOf o =
       own = portChannelIn 6 o;
       counterparty = portChannelIn 12 o;
       next = record { send = 1; receive = 1; acknowledge = 1 };
+      version = noVersion;
     }
 
 unfoldable pub endsOf : List ℕ → List (Option Channel)

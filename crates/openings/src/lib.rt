@@ -2,6 +2,7 @@
 // open.
 use slots::Channel;
 use slots::Counters;
+use slots::VERSION;
 use slots::part::port_channel_at;
 use wire::u8_at;
 use wire::u16_at;
@@ -81,11 +82,12 @@ pub fn numbers_distinct(openings: &[u8]) -> bool
     true
 }
 
-// An OPEN end with counters 1, as the opening from `at` on says.
+// An OPEN end with counters 1 and no version, as the opening from `at` on says.
 pub fn opening_at(openings: &[u8], at: usize) -> Channel
     requires { ⌜ at + openingSize ≤ length (now openings) ⌝ }
     ensures { λ r. ⌜ r ≡ openingOf (part at openingSize (now (openings .entry))) ⌝ }
 {
+    let version = [0u8; VERSION];
     Channel {
         state: Channel::OPEN,
         order: u8_at(openings, at + 18),
@@ -96,5 +98,6 @@ pub fn opening_at(openings: &[u8], at: usize) -> Channel
             receive: 1,
             acknowledge: 1,
         },
+        version,
     }
 }

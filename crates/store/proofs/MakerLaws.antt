@@ -1,22 +1,24 @@
 -- A made store: it fits its fields and fits together, and has no packet record. Assumes nothing.
 use Rattle.wire.proofs.Prelude.{_≡_, refl, ap, _∙_, Bool, true, not, List, [], _∷_, _++_, map, Option, none, some, ℕ}
-use Rattle.wire.proofs.Prelude.{zero, suc, _-_, _/_, _%_, _≤_, arith, ltb, eqb, length, replicate, length-append}
-use Rattle.wire.proofs.Prelude.{length-replicate, length-map, ltb-false, eq-eqb, not-false}
-use Rattle.wire.specs.Names.{_and_, pick, Every, Bytes}
-use Rattle.wire.proofs.Laws.{and-both, both-and, pick-zero, every-map, every-of, every-getD, Byte, field-below}
-use Rattle.wire.proofs.Laws.{length-pieces, every-pieces}
+use Rattle.wire.proofs.Prelude.{zero, suc, _-_, _/_, _%_, _^_, _≤_, arith, ltb, eqb, length, replicate, length-append}
+use Rattle.wire.proofs.Prelude.{length-replicate, length-map, ltb-false, lt-ltb, le-leb, eq-eqb, not-false}
+use Rattle.wire.specs.Names.{_and_, _or_, pick, Every, Bytes, areZero}
+use Rattle.wire.proofs.Laws.{and-both, both-and, pick-zero, every-map, every-getD, Byte, bytes-zeros}
+use Rattle.wire.proofs.Laws.{field-below, length-pieces, every-pieces}
 use Rattle.slots.specs.declared.Channel.{Channel}
 use Rattle.slots.specs.declared.Record.{Record}
-use Rattle.slots.specs.Names.{channelLimit, find, count, distinct, Key, hasKey, lookup, isCommitmentOn}
-use Rattle.slots.specs.Names.{commitments, isNumbered, sameNumber, channelAt, sameKey, roomIn, bytesOf}
-use Rattle.slots.specs.Names.{channelFits, channelsFit, recordFits, recordsFit, storeFits, sizeFits}
+use Rattle.slots.specs.Names.{channelLimit, versionSize, noVersion, isPadded, find, count, distinct, Key, hasKey}
+use Rattle.slots.specs.Names.{lookup, isCommitmentOn, commitments, isNumbered, sameNumber, channelAt, sameKey}
+use Rattle.slots.specs.Names.{roomIn, bytesOf}
+use Rattle.slots.specs.Names.{namesNone, channelFits, channelsFit, isBelow, numbersFit, recordFits, recordsFit}
+use Rattle.slots.specs.Names.{storeFits, sizeFits}
 use Rattle.openings.specs.Opening.{openingSize}
 use Rattle.openings.specs.Opening.{openingsIn, openingFits, allOpeningsFit, openingOf, endsOf}
-use Rattle.store.specs.Maker.{makeNumber, madeStore}
-use Rattle.store.specs.Maker.{makeTold, makeStore}
-use Rattle.slots.proofs.TableLaws.{Each, each-all, each-find}
+use Rattle.store.specs.Maker.{leastAbove, makeNumber, madeStore, makeTold, makeStore}
+use Rattle.slots.proofs.TableLaws.{Each, each-all, each-map, each-find}
 use Rattle.slots.proofs.LayoutLaws.{ChannelFields, RecordFields, StoreFields}
 use Rattle.slots.proofs.FitLaws.{Sized, fits-size}
+use Rattle.store.proofs.LeastLaws.{least-positive, least-above, least-upto}
 
 -- FREE SLOTS behind a table change nothing
 module _ {A : Type 0} where
@@ -69,14 +71,17 @@ made n os h =
     }
 
 -- ENDS: what holds of each opening's end holds of each channel end of a made store
-each-made : (P : Channel → Type 0) (n : ℕ) (os : List ℕ) → Every (λ o. P (openingOf o)) (openingsIn os) →
-    Each P (madeStore n os .channels)
-unfolding madeStore endsOf
-each-made P n os h = each-free P (channelLimit - length os / openingSize) (endsOf os) (each-some (openingsIn os) h)
+pub each-ends : (P : Channel → Type 0) (os : List ℕ) → Every (λ o. P (openingOf o)) (openingsIn os) → Each P (endsOf os)
+unfolding endsOf
+each-ends P os h = each-some (openingsIn os) h
   where
     each-some : (ps : List (List ℕ)) → Every (λ o. P (openingOf o)) ps → Each P (map (λ o. some (openingOf o)) ps)
     each-some [] k = tt
     each-some (p ∷ ps) k = (k .0, each-some ps (k .1))
+
+each-made : (P : Channel → Type 0) (n : ℕ) (os : List ℕ) → Each P (endsOf os) → Each P (madeStore n os .channels)
+unfolding madeStore
+each-made P n os h = each-free P (channelLimit - length os / openingSize) (endsOf os) h
 
 opening-fields : (o : List ℕ) → Bytes o → ChannelFields (openingOf o)
 unfolding openingOf
@@ -87,12 +92,24 @@ opening-fields o b =
       own = record { port = field-below _ _ o b; channel = field-below _ _ o b };
       counterparty = record { port = field-below _ _ o b; channel = field-below _ _ o b };
       next = record { send = omega arith; receive = omega arith; acknowledge = omega arith };
+      size = refl;
+      bytes = bytes-zeros versionSize;
     }
+
+no-version-fits : isPadded noVersion ≡ true
+unfolding isPadded areZero _and_
+no-version-fits = refl
+
+opening-names : (o : List ℕ) → namesNone (openingOf o) ≡ true
+unfolding namesNone openingOf _or_
+opening-names o = refl
 
 opening-fits : (o : List ℕ) → openingFits o ≡ true → channelFits (openingOf o) ≡ true
 unfolding openingFits channelFits openingOf
 opening-fits o h =
-    both-and (both-and (both-and refl refl) (and-both (and-both h .0) .1)) (both-and (both-and refl refl) refl)
+    let codes = both-and (both-and refl refl) (and-both (and-both h .0) .1) in
+    let counters = both-and (both-and refl refl) refl in
+    both-and (both-and (both-and codes counters) no-version-fits) (opening-names o)
 
 openings-fit : (ps : List (List ℕ)) → allOpeningsFit ps ≡ true → Every (λ o. openingFits o ≡ true) ps
 unfolding allOpeningsFit
@@ -100,38 +117,54 @@ openings-fit [] h = tt
 openings-fit (p ∷ ps) h = (and-both h .0, openings-fit ps (and-both h .1))
 
 -- THE STORE
-pub made-fields : (n : ℕ) (os : List ℕ) → Bytes os → makeNumber n os ≡ 0 → StoreFields (madeStore n os)
-unfolding madeStore endsOf
-made-fields n os b h =
-    let m = made n os h in
-    let k = length os / openingSize in
-    let a = length-append (endsOf os) (replicate (channelLimit - k) none) in
-    let c = length-map (openingsIn os) (λ o. some (openingOf o)) in
-    let d = length-pieces openingSize k os in
-    let e = length-replicate {A = Option Channel} (channelLimit - k) none in
-    let f = length-replicate {A = Option Record} (roomIn n) none in
-    record {
-      height = omega arith;
-      time = omega arith;
-      slots = omega (arith, m .few);
-      low = omega (arith, m .sized .low);
-      high = omega (arith, m .sized .high);
-      channels =
-          each-made ChannelFields n os
-          (every-map (λ o p. opening-fields o (p .1)) (openingsIn os) (every-pieces openingSize k os (omega arith) b));
-      records = each-free RecordFields (roomIn n) [] tt;
-    }
+module _ (n : ℕ) (os : List ℕ) where
+  ends-fields : Bytes os → Each ChannelFields (endsOf os)
+  ends-fields b =
+      each-ends ChannelFields os
+      (every-map (λ o p. opening-fields o (p .1)) (openingsIn os)
+      (every-pieces openingSize (length os / openingSize) os (omega arith) b))
 
-pub made-fits : (n : ℕ) (os : List ℕ) → makeNumber n os ≡ 0 → storeFits (madeStore n os) ≡ true
-unfolding storeFits channelsFit recordsFit madeStore distinct
-made-fits n os h =
-    let m = made n os h in
-    let s = madeStore n os in
-    let fits = every-map opening-fits (openingsIn os) (openings-fit (openingsIn os) (m .fits)) in
-    let ends = each-all channelFits (s .channels) (each-made (λ c. channelFits c ≡ true) n os fits) in
-    let apart = distinct-free sameNumber (channelLimit - length os / openingSize) (endsOf os) ∙ m .apart in
-    let records = each-all (recordFits s) (s .records) (each-free (λ r. recordFits s r ≡ true) (roomIn n) [] tt) in
-    both-and (both-and ends apart) (both-and records (distinct-free sameKey (roomIn n) []))
+  pub made-fields : Bytes os → makeNumber n os ≡ 0 → StoreFields (madeStore n os)
+  unfolding madeStore endsOf
+  made-fields b h =
+      let m = made n os h in
+      let k = length os / openingSize in
+      let a = length-append (endsOf os) (replicate (channelLimit - k) none) in
+      let c = length-map (openingsIn os) (λ o. some (openingOf o)) in
+      let d = length-pieces openingSize k os in
+      let e = length-replicate {A = Option Channel} (channelLimit - k) none in
+      let f = length-replicate {A = Option Record} (roomIn n) none in
+      let numbers = each-map (λ c p. p .own .channel) (endsOf os) (ends-fields b) in
+      record {
+        height = omega arith;
+        time = omega arith;
+        next = omega (arith, least-upto (256 ^ 4) (endsOf os) (omega arith) numbers);
+        slots = omega (arith, m .few);
+        low = omega (arith, m .sized .low);
+        high = omega (arith, m .sized .high);
+        channels = each-made ChannelFields n os (ends-fields b);
+        records = each-free RecordFields (roomIn n) [] tt;
+      }
+
+  numbers-fit : numbersFit (madeStore n os .next) (madeStore n os .channels) ≡ true
+  unfolding numbersFit isBelow madeStore
+  numbers-fit =
+      let next : ℕ = leastAbove (endsOf os) in
+      let below = each-map (λ c p. lt-ltb (c .own .channel) next p) (endsOf os) (least-above (endsOf os)) in
+      both-and (le-leb 1 next (least-positive (endsOf os)))
+      (each-all (isBelow next) (madeStore n os .channels) (each-made (λ c. isBelow next c ≡ true) n os below))
+
+  pub made-fits : makeNumber n os ≡ 0 → storeFits (madeStore n os) ≡ true
+  unfolding storeFits channelsFit recordsFit madeStore distinct
+  made-fits h =
+      let m = made n os h in
+      let s = madeStore n os in
+      let fits = every-map opening-fits (openingsIn os) (openings-fit (openingsIn os) (m .fits)) in
+      let each = each-made (λ c. channelFits c ≡ true) n os (each-ends (λ c. channelFits c ≡ true) os fits) in
+      let ends = each-all channelFits (s .channels) each in
+      let apart = distinct-free sameNumber (channelLimit - length os / openingSize) (endsOf os) ∙ m .apart in
+      let records = each-all (recordFits s) (s .records) (each-free (λ r. recordFits s r ≡ true) (roomIn n) [] tt) in
+      both-and (both-and (both-and ends apart) numbers-fit) (both-and records (distinct-free sameKey (roomIn n) []))
 
 pub made-lookup : (n : ℕ) (os : List ℕ) (k : Key) → lookup k (madeStore n os .records) ≡ none
 unfolding madeStore find
@@ -141,13 +174,12 @@ pub made-commitments : (n : ℕ) (os : List ℕ) (m : ℕ) → commitments m (ma
 unfolding madeStore
 made-commitments n os m = count-free (isCommitmentOn m) (roomIn n)
 
-pub made-counters : (n : ℕ) (os : List ℕ) (m : ℕ) (c : Channel) → channelAt m (madeStore n os .channels) ≡ some c →
-    c .next .receive ≡ 1
-unfolding openingOf
-made-counters n os m c =
-    let ones = every-of (λ o. openingOf o .next .receive ≡ 1) (λ o. refl) (openingsIn os) in
-    each-find (λ c. c .next .receive ≡ 1) (isNumbered m) (madeStore n os .channels) c
-    (each-made (λ c. c .next .receive ≡ 1) n os ones)
+-- what holds of each opening's end holds of an end that is found
+pub made-end : (P : Channel → Type 0) (n : ℕ) (os : List ℕ) → Every (λ o. P (openingOf o)) (openingsIn os) →
+    (m : ℕ) (c : Channel) → channelAt m (madeStore n os .channels) ≡ some c →
+    P c
+made-end P n os h m c =
+    each-find P (isNumbered m) (madeStore n os .channels) c (each-made P n os (each-ends P os h))
 
 pub make-told : (bs os : List ℕ) → makeTold bs os ≡ 0 → makeStore bs os ≡ bytesOf (madeStore (length bs) os)
 unfolding makeStore

@@ -6,7 +6,7 @@ use wire::u16_at;
 use wire::u32_at;
 use wire::u64_at;
 ghost use mathlib.Core.Path.{_≡_};
-ghost use Prim.Native.Nat.{_+_, _≤_};
+ghost use Prim.Native.Nat.{_+_, _*_, _≤_};
 ghost use lib.ListN.{length};
 ghost use Rattle.wire.specs.Choice.{isSome};
 ghost use Rattle.wire.specs.Bytes.{part};
@@ -111,19 +111,36 @@ pub fn find_record(s: &[u8], count: usize, kind: u16, channel: u32, sequence: u6
     first_record(s, count, 0, kind, channel, sequence)
 }
 
-// The free packet record of lowest index.
-pub fn find_free(s: &[u8], count: usize) -> Found
-    requires { ⌜ length (now s) ≡ sizeFor count ⌝ }
-    ensures { λ r. ⌜ r ≡ firstFree (storeIn (now (s .entry)) .records) ⌝ }
+// The free slot of lowest index of a table of `count` slots, which starts at a place. Whatever its entries are, a free
+// one is all zero.
+fn first_free(s: &[u8], start: usize, count: usize) -> Found
+    requires { ⌜ start + slotSize * count ≤ length (now s) ⌝ }
+    ensures { λ r. ⌜ r ≡ firstFree (tableFrom (λ p. p) start count (now (s .entry)) 0) ⌝ }
 {
     let mut i: usize = 0;
     while i < count {
-        if are_zero(s, Store::RECORDS_FROM + Store::SLOT * i, Store::SLOT) {
+        if are_zero(s, start + Store::SLOT * i, Store::SLOT) {
             return Found::At(i);
         }
         i += 1;
     }
     Found::Nothing
+}
+
+// The free packet record of lowest index.
+pub fn find_free(s: &[u8], count: usize) -> Found
+    requires { ⌜ length (now s) ≡ sizeFor count ⌝ }
+    ensures { λ r. ⌜ r ≡ firstFree (storeIn (now (s .entry)) .records) ⌝ }
+{
+    first_free(s, Store::RECORDS_FROM, count)
+}
+
+// The free channel record of lowest index.
+pub fn find_free_channel(s: &[u8]) -> Found
+    requires { ⌜ recordsFrom ≤ length (now s) ⌝ }
+    ensures { λ r. ⌜ r ≡ firstFree (storeIn (now (s .entry)) .channels) ⌝ }
+{
+    first_free(s, Store::HEADER, Store::CHANNELS)
 }
 
 pub fn is_found(f: Found) -> bool

@@ -21,7 +21,7 @@ returns c =
     let bytes = bytes-array (now (a .s)) (first .slice-known .given) in
     let full : length (a .r .digest) ≡ 32 = search needs in
     c .before .before .put-record .ensures ∙
-    exact-record (now (a .s)) bytes (o .pre .0) (a .i) (some (a .r)) (length-record (a .r) full, tt) (o .pre .1)
+    exact-record (now (a .s)) (o .pre .0) bytes (a .i) (some (a .r)) (length-record (a .r) full, tt) (o .pre .1)
 
 pub insert-record-spec : {M : Type 1} → statement M
 insert-record-spec =

@@ -18,7 +18,7 @@ returns c =
     let a = o .args in
     let bytes = bytes-array (now (a .s)) (first .slice-known .given) in
     c .before .before .put-zeros .ensures ∙
-    exact-record (now (a .s)) bytes (o .pre .0) (a .i) none tt (o .pre .1)
+    exact-record (now (a .s)) (o .pre .0) bytes (a .i) none tt (o .pre .1)
 
 pub remove-record-spec : {M : Type 1} → statement M
 remove-record-spec =
