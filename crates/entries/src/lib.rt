@@ -8,25 +8,35 @@ use store::Store;
 use tables::ordering::is_ordered;
 use tables::ordering::is_received;
 use tables::scan::find_channel;
+use versions::is_padded;
 use wire::is_zero_digest;
+use wire::u32_at;
+use wire::u64_at;
 ghost use mathlib.Core.Path.{_≡_};
 ghost use mathlib.Core.Bool.{not};
 ghost use mathlib.Core.Option.{some};
+ghost use Prim.Native.Nat.{_+_, _≤_};
 ghost use lib.ListN.{length};
 ghost use Rattle.wire.specs.Choice.{_and_};
-ghost use Rattle.wire.specs.Bytes.{areZero};
+ghost use Rattle.wire.specs.Bytes.{part, areZero};
 ghost use Rattle.slots.specs.Height.{noTimeout, sameTimeout};
-ghost use Rattle.slots.specs.Layout.{sizeFor, storeIn};
+ghost use Rattle.slots.specs.Layout.{slotSize, sizeFor, channelIn, storeIn};
 ghost use Rattle.slots.specs.Ordering.{isOrdered, isReceived};
 ghost use Rattle.slots.specs.Fit.{channelFits, fitsEnd, recordFits};
 
-// OPEN or CLOSED, ordered or unordered, counters at least 1.
-pub fn channel_fits(c: Channel) -> bool
-    ensures { λ r. ⌜ r ≡ channelFits c ⌝ }
+// INIT, TRYOPEN, OPEN or CLOSED, ordered or unordered, counters at least 1, a version with zeros behind it; an INIT end
+// names no counterparty's channel. The channel record from `at` on, field by field.
+pub fn channel_fits(s: &[u8], at: usize) -> bool
+    requires { ⌜ at + slotSize ≤ length (now s) ⌝ }
+    ensures { λ r. ⌜ r ≡ channelFits (channelIn (part at slotSize (now (s .entry)))) ⌝ }
 {
-    ((Channel::OPEN <= c.state) & (c.state <= Channel::CLOSED))
-        & ((Channel::ORDERED <= c.order) & (c.order <= Channel::UNORDERED))
-        & ((1 <= c.next.send) & (1 <= c.next.receive) & (1 <= c.next.acknowledge))
+    let state = s[at + 2];
+    let order = s[at + 3];
+    ((Channel::INIT <= state) & (state <= Channel::CLOSED))
+        & ((Channel::ORDERED <= order) & (order <= Channel::UNORDERED))
+        & ((1 <= u64_at(s, at + 16)) & (1 <= u64_at(s, at + 24)) & (1 <= u64_at(s, at + 32)))
+        & is_padded(s, at + 40)
+        & ((state != Channel::INIT) | (u32_at(s, at + 12) == 0))
 }
 
 fn is_no_timeout(t: Timeout) -> bool

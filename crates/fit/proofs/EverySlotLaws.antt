@@ -6,6 +6,7 @@ use mathlib.Core.Option.{Option, none, some}
 use Prim.Native.Nat.{ℕ, zero, suc, _+_, _*_, _≤_, _<_}
 use native.Mathlib.Nat.{sub-zero}
 use native.Mathlib.Omega.{arith}
+use lib.Dec.{leb}
 use lib.ListN.{length, take, drop, length-drop, take-append-drop, drop-of-length-le}
 use lib.Seq.{length-take-le, drop-drop}
 use borrow.Author.Tests.{not-true, not-false}
@@ -14,17 +15,19 @@ use Rattle.wire.specs.Bytes.{same, areZero, part, field, pieces, digestSize}
 use Rattle.wire.proofs.ChoiceLaws.{cases, of-pick, and-assoc, and-true, and-comm, and-swap}
 use Rattle.wire.proofs.BytesLaws.{eq-same, length-part, pieces-turn, pieces-end}
 use Rattle.wire.proofs.PartLaws.{same-append}
-use Rattle.slots.specs.Limits.{channelLimit}
+use Rattle.slots.specs.declared.Channel.{Channel}
+use Rattle.slots.specs.Limits.{channelLimit, versionSize}
 use Rattle.slots.specs.Table.{find, all, distinct, sameNumber, sameKey}
 use Rattle.slots.specs.Layout.{headerSize, slotSize, recordsFrom, roomIn}
 use Rattle.slots.specs.Layout.{channelBytes, recordBytes, slotBytes, tableBytes, headerBytes, bytesOf}
 use Rattle.slots.specs.Layout.{channelIn, recordIn, slotIn, tableIn, storeIn}
 use Rattle.slots.specs.Scan.{indexWhere, isAt, holds, slotAt, slotsFrom}
-use Rattle.slots.specs.Fit.{channelFits, channelsFit, recordFits, recordsFit, storeFits, sizeFits, isFit}
+use Rattle.slots.specs.Fit.{channelFits, channelsFit, isBelow, numbersFit, recordFits, recordsFit, storeFits}
+use Rattle.slots.specs.Fit.{sizeFits, isFit}
 use Rattle.slots.proofs.LayoutLaws.{length-header, length-channel, length-record}
 use Rattle.slots.proofs.FitLaws.{fits-size, length-read}
 use Rattle.slots.proofs.SlotTestLaws.{find-at}
-use Rattle.fit.specs.EverySlot.{everySlot, isExact, slotFits}
+use Rattle.fit.specs.EverySlot.{everySlot, fitsBelow, isExact, slotFits}
 use Rattle.fit.proofs.FieldLaws.{same-zeros}
 
 -- A TURN: after i turns the answer for all slots is the answer for those that are left. The test came to r
@@ -126,23 +129,62 @@ record-size : (p : List ℕ) → length p ≡ slotSize → length (recordBytes (
 unfolding recordIn
 record-size p l = length-record (recordIn p) (length-part 32 digestSize p (omega arith))
 
-two-tables : (h a b c d e : Bool) {q : Bool} → (a and b) ≡ (c and d) → (d and e) ≡ q →
-    (h and a and (b and e)) ≡ (h and c and q)
-two-tables h a b c d e {q} first second =
-    rw (and-assoc h a (b and e), ← and-assoc a b e, first, and-assoc c d e, second, ← and-assoc h c q)
+channel-size : (p : List ℕ) → length p ≡ slotSize → length (channelBytes (channelIn p)) ≡ slotSize
+unfolding channelIn
+channel-size p l = length-channel (channelIn p) (length-part 40 versionSize p (omega arith))
 
-pub fit-parts : (bs : List ℕ) → sizeFits (length bs) ≡ true → let n = roomIn (length bs) in
+-- both tests of a channel end are asked in one scan
+all-both : {A : Type 0} (t u v : A → Bool) → ((x : A) → v x ≡ (t x and u x)) → (xs : List (Option A)) →
+    all v xs ≡ (all t xs and all u xs)
+unfolding all
+all-both t u v h [] = sym (and-true true)
+all-both t u v h (none ∷ xs) = all-both t u v h xs
+all-both t u v h (some x ∷ xs) = rw (h x, all-both t u v h xs) (and-swap (t x) (u x) (all t xs) (all u xs))
+
+channels-below : (n : ℕ) (cs : List (Option Channel)) →
+    (channelsFit cs and numbersFit n cs) ≡ (leb 1 n and (all (fitsBelow n) cs and distinct sameNumber cs))
+unfolding channelsFit numbersFit fitsBelow
+channels-below n cs =
+    let t : Bool = all channelFits cs in
+    let b : Bool = all (isBelow n) cs in
+    let d : Bool = distinct sameNumber cs in
+    let l : Bool = leb 1 n in
+    rw (
+      all-both channelFits (isBelow n) (fitsBelow n) (λ c. refl) cs,
+      and-comm l b,
+      and-swap t d b l,
+      and-comm (t and b) (d and l),
+      and-comm d l,
+      and-assoc l d (t and b),
+      and-comm d (t and b),
+    )
+
+two-tables : (h a l b c d e : Bool) {q : Bool} → (a and b) ≡ (c and d) → (d and e) ≡ q →
+    (h and a and (l and b and e)) ≡ (h and l and c and q)
+two-tables h a l b c d e {q} first second =
+    rw (
+      and-assoc l b e,
+      and-swap h a l (b and e),
+      ← and-assoc a b e,
+      first,
+      and-assoc c d e,
+      second,
+      ← and-assoc (h and l) c q,
+    )
+
+pub fit-parts : (bs : List ℕ) → sizeFits (length bs) ≡ true → let n = roomIn (length bs) in let m = field 28 8 bs in
     isFit bs ≡
-    (same (headerBytes (field 8 8 bs) (field 16 8 bs) n) (part 0 headerSize bs) and
-    everySlot (slotFits channelBytes channelIn channelFits sameNumber) (slotsFrom headerSize channelLimit bs 0) and
+    (same (headerBytes (field 8 8 bs) (field 16 8 bs) n m) (part 0 headerSize bs) and leb 1 m and
+    everySlot (slotFits channelBytes channelIn (fitsBelow m) sameNumber) (slotsFrom headerSize channelLimit bs 0) and
     everySlot (slotFits recordBytes recordIn (recordFits (storeIn bs)) sameKey) (slotsFrom recordsFrom n bs 0))
-unfolding isFit storeFits channelsFit recordsFit bytesOf storeIn part _and_
+unfolding isFit storeFits recordsFit bytesOf storeIn part _and_
 fit-parts bs fits =
     let n : ℕ = roomIn (length bs) in
+    let m : ℕ = field 28 8 bs in
     let size = fits-size (length bs) fits .whole in
     let c : List ℕ = tableBytes channelBytes (storeIn bs .channels) in
     let r : List ℕ = tableBytes recordBytes (storeIn bs .records) in
-    let h : List ℕ = headerBytes (field 8 8 bs) (field 16 8 bs) n in
+    let h : List ℕ = headerBytes (field 8 8 bs) (field 16 8 bs) n m in
     let front : List ℕ = take headerSize bs in
     let tables : List ℕ = drop headerSize bs in
     let last : List ℕ = drop recordsFrom bs in
@@ -151,12 +193,12 @@ fit-parts bs fits =
     let ll : length last ≡ slotSize * n = omega (arith, length-drop recordsFrom bs) in
     let whole : same (h ++ (c ++ r)) bs ≡ (same h front and same (c ++ r) tables) =
     ap (same (h ++ (c ++ r))) (sym (take-append-drop headerSize bs)) ∙
-    same-append h front (c ++ r) tables (length-header (field 8 8 bs) (field 16 8 bs) n ∙ sym lf) in
+    same-append h front (c ++ r) tables (length-header (field 8 8 bs) (field 16 8 bs) n m ∙ sym lf) in
     let all = drop-of-length-le last {i = slotSize * n} (omega arith) in
-    let channels = table-fits channelBytes channelIn channelFits sameNumber (λ p l. length-channel (channelIn p))
+    let channels = table-fits channelBytes channelIn (fitsBelow m) sameNumber channel-size
     channelLimit tables r (omega arith) in
     let records = table-fits recordBytes recordIn (recordFits (storeIn bs)) sameKey record-size n last []
     (omega arith) in
-    rw (fits, length-read recordIn n last, sub-zero n, whole)
-    (two-tables (same h front) _ _ _ _ _ (rw (drop-drop (slotSize * channelLimit) headerSize bs) at channels)
+    rw (fits, length-read recordIn n last, sub-zero n, whole, channels-below m (storeIn bs .channels))
+    (two-tables (same h front) _ (leb 1 m) _ _ _ _ (rw (drop-drop (slotSize * channelLimit) headerSize bs) at channels)
     (rw (append-nil, all, eq-same [], and-true) at records))

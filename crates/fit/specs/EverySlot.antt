@@ -4,13 +4,19 @@ use mathlib.Core.List.{List, [], _∷_, map}
 use Prim.Native.Nat.{ℕ}
 use Rattle.wire.specs.Choice.{_and_, _or_, isSome}
 use Rattle.wire.specs.Bytes.{same, areZero}
+use Rattle.slots.specs.declared.Channel.{Channel}
 use Rattle.slots.specs.Table.{find}
 use Rattle.slots.specs.Layout.{slotIn}
+use Rattle.slots.specs.Fit.{channelFits, isBelow}
 
 -- each slot passes a test, which is given the slots behind it too
 unfoldable pub everySlot : (List ℕ → List (List ℕ) → Bool) → List (List ℕ) → Bool
 everySlot t [] = true
 everySlot t (p ∷ ps) = t p ps and everySlot t ps
+
+-- a channel end fits, and its number is below the next one
+unfoldable pub fitsBelow : (next : ℕ) → Channel → Bool
+fitsBelow n c = channelFits c and isBelow n c
 
 -- what is read in a slot is stored as it stands there
 abbrev pub isExact : {A : Type 0} → (A → List ℕ) → (List ℕ → A) → List ℕ → Bool

@@ -7,7 +7,6 @@ use entries::record_fits;
 use exact::is_channel_exact;
 use exact::is_header_exact;
 use exact::is_record_exact;
-use slots::slot::channel_at;
 use slots::slot::record_at;
 use store::Store;
 use store::size::size_fits;
@@ -15,6 +14,8 @@ use tables::scan::first_channel;
 use tables::scan::first_record;
 use tables::scan::is_found;
 use wire::are_zero;
+use wire::u32_at;
+use wire::u64_at;
 ghost use mathlib.Core.Path.{_≡_};
 ghost use Prim.Native.Nat.{_+_, _≤_, _<_};
 ghost use lib.ListN.{length};
@@ -22,16 +23,16 @@ ghost use Rattle.slots.specs.Limits.{channelLimit};
 ghost use Rattle.slots.specs.Table.{sameNumber, sameKey};
 ghost use Rattle.slots.specs.Layout.{headerSize, recordsFrom, sizeFor, storeIn};
 ghost use Rattle.slots.specs.Layout.{channelBytes, channelIn, recordBytes, recordIn};
-ghost use Rattle.slots.specs.Fit.{channelFits, recordFits, isFit};
+ghost use Rattle.slots.specs.Fit.{recordFits, isFit};
 ghost use Rattle.slots.specs.Scan.{slotAt, slotsFrom};
-ghost use Rattle.fit.specs.EverySlot.{everySlot, slotFits};
+ghost use Rattle.fit.specs.EverySlot.{everySlot, fitsBelow, slotFits};
 
 // Slot i of the channel records, before the slots behind it.
-fn channel_slot_fits(s: &[u8], i: usize) -> bool
+fn channel_slot_fits(s: &[u8], next: u64, i: usize) -> bool
     requires { ⌜ (recordsFrom ≤ length (now s)) × (i < channelLimit) ⌝ }
     ensures { λ r. ⌜
         r ≡
-        slotFits channelBytes channelIn channelFits sameNumber (slotAt headerSize (now (s .entry)) i)
+        slotFits channelBytes channelIn (fitsBelow next) sameNumber (slotAt headerSize (now (s .entry)) i)
         (slotsFrom headerSize channelLimit (now (s .entry)) (i + 1))
         ⌝ }
 {
@@ -39,21 +40,23 @@ fn channel_slot_fits(s: &[u8], i: usize) -> bool
     if are_zero(s, at, Store::SLOT) {
         return true;
     }
-    let c = channel_at(s, at);
-    is_channel_exact(s, at) & channel_fits(c) & !is_found(first_channel(s, i + 1, c.own.channel))
+    let number = u32_at(s, at + 4);
+    is_channel_exact(s, at)
+        & (channel_fits(s, at) & ((number as u64) < next))
+        & !is_found(first_channel(s, i + 1, number))
 }
 
-fn channels_fit(s: &[u8]) -> bool
+fn channels_fit(s: &[u8], next: u64) -> bool
     requires { ⌜ recordsFrom ≤ length (now s) ⌝ }
     ensures { λ r. ⌜
         r ≡
-        everySlot (slotFits channelBytes channelIn channelFits sameNumber)
+        everySlot (slotFits channelBytes channelIn (fitsBelow next) sameNumber)
         (slotsFrom headerSize channelLimit (now (s .entry)) 0)
         ⌝ }
 {
     let mut i: usize = 0;
     while i < Store::CHANNELS {
-        if !channel_slot_fits(s, i) {
+        if !channel_slot_fits(s, next, i) {
             return false;
         }
         i += 1;
@@ -107,5 +110,6 @@ pub fn is_fit(s: &[u8]) -> bool
         return false;
     }
     let count = (size - Store::RECORDS_FROM) / Store::SLOT;
-    is_header_exact(s, count) & channels_fit(s) & records_fit(s, count)
+    let next = u64_at(s, 28);
+    is_header_exact(s, count) & (1 <= next) & channels_fit(s, next) & records_fit(s, count)
 }

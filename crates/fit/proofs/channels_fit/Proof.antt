@@ -8,20 +8,20 @@ use denote.Ref.{now}
 use Rattle.slots.specs.Limits.{channelLimit}
 use Rattle.slots.specs.Table.{sameNumber}
 use Rattle.slots.specs.Layout.{headerSize, channelBytes, channelIn}
-use Rattle.slots.specs.Fit.{channelFits}
-use Rattle.fit.specs.EverySlot.{slotFits}
+use Rattle.fit.specs.EverySlot.{fitsBelow, slotFits}
 use Rattle.fit.proofs.EverySlotLaws.{everyFrom, fails, passes, passed}
 use Rattle.fit.proofs.channels_fit.Statement.{statement}
 use Rattle.fit.proofs.channels_fit.Tie as tie
 
-abbrev test : List ℕ → List (List ℕ) → Bool
-test = slotFits channelBytes channelIn channelFits sameNumber
+abbrev test : (next : ℕ) → List ℕ → List (List ℕ) → Bool
+test n = slotFits channelBytes channelIn (fitsBelow n) sameNumber
 
 abbrev Inv-loop : tie.InvT-loop
-Inv-loop s i₀ i = everyFrom test headerSize channelLimit s 0 ≡ everyFrom test headerSize channelLimit s i
+Inv-loop s next i₀ i =
+    everyFrom (test next) headerSize channelLimit s 0 ≡ everyFrom (test next) headerSize channelLimit s i
 
 abbrev μ-loop : tie.MeasureT-loop
-μ-loop s i₀ i = channelLimit - i
+μ-loop s next i₀ i = channelLimit - i
 
 loop-holds : tie.Need-loop-holds Inv-loop μ-loop
 loop-holds c = refl
@@ -30,21 +30,21 @@ returns : tie.Need-returns Inv-loop μ-loop
 returns c =
     let l = c .before .before .before in
     let a = l .before .before .args in
-    fails test headerSize channelLimit (now (a .s)) (l .loop .i) (l .loop .inv) (omega arith)
+    fails (test (a .next)) headerSize channelLimit (now (a .s)) (l .loop .i) (l .loop .inv) (omega arith)
     (c .before .channel-slot-fits .ensures) (c .if1 .taken)
 
 loop-again : tie.Need-loop-again Inv-loop μ-loop
 loop-again c =
     let l = c .before .before .before in
     let a = l .before .before .args in
-    passes test headerSize channelLimit (now (a .s)) (l .loop .i) (l .loop .inv) (omega arith)
+    passes (test (a .next)) headerSize channelLimit (now (a .s)) (l .loop .i) (l .loop .inv) (omega arith)
     (c .before .channel-slot-fits .ensures) (c .if1 .left)
 
 returns-2 : tie.Need-returns-2 Inv-loop μ-loop
 returns-2 c =
     let l = c .before in
     let a = l .before .before .args in
-    passed test headerSize channelLimit (now (a .s)) (l .loop .i) (l .loop .inv) (omega arith)
+    passed (test (a .next)) headerSize channelLimit (now (a .s)) (l .loop .i) (l .loop .inv) (omega arith)
 
 pub channels-fit-spec : {M : Type 1} → statement M
 channels-fit-spec =
