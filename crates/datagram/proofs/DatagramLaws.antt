@@ -1,116 +1,18 @@
--- What a sound datagram tells, and bounds of its parts. Assumes nothing.
-use Rattle.wire.proofs.Prelude.{_≡_, refl, sym, ap, _∙_, true, false, List, [], _∷_, Option, some, _⊎_, inl, inr}
-use Rattle.wire.proofs.Prelude.{⊎-elim, ℕ}
-use Rattle.wire.proofs.Prelude.{none, _+_, _^_, _≤_, _<_, arith, eqb, length, ltb-true, eqb-true, eqb-false, eq-eqb}
-use Rattle.wire.specs.Names.{_or_, isSome, withNumber, Bytes, digestSize}
-use Rattle.wire.proofs.Laws.{and-both, or-either, clash, cases, none-if, some-if, some-is, with-number, same-number}
-use Rattle.wire.proofs.Laws.{field-below}
-use Rattle.wire.proofs.Laws.{length-part, bytes-part}
+-- What a sound datagram tells, bounds of its parts, and its verdicts. Assumes nothing.
+use Rattle.wire.proofs.Prelude.{_≡_, refl, ap, _∙_, true, false, List, [], _∷_, Option, inl, inr, ℕ, _+_, _^_}
+use Rattle.wire.proofs.Prelude.{_≤_, _<_, arith, length, ltb-true, leb-true, eqb-true}
+use Rattle.wire.specs.Names.{isSome, Every, Bytes, digestSize}
+use Rattle.wire.proofs.Laws.{and-both, or-either, clash, cases, field-below, length-part, bytes-part}
+use Rattle.wire.proofs.Laws.{every-getD, every-drop, Byte}
 use Rattle.slots.proofs.Laws.{PortChannelFields, TimeoutFields}
 use Rattle.datagram.specs.declared.Packet.{Packet}
-use Rattle.datagram.specs.Names.{Kind, send, receive, write, acknowledge, timeOut, kinds, kindNumber, kindOf}
-use Rattle.datagram.specs.Names.{isKind, isOf, packetSize, sizeOf, isSound, kindIn, contextIn}
-use Rattle.datagram.specs.Names.{Part, channelPart, sequencePart, timeoutPart, digestPart, packetPart}
-use Rattle.datagram.specs.Names.{verdictPart, partNumber, isPart, partSize, bodyOf, hasPart, partsSize}
-use Rattle.datagram.specs.Names.{sizeBefore, packetIn, packetFrom, timeoutFrom, sequenceFrom}
-use Rattle.datagram.specs.Names.{digestFrom, Datagram, datagramIn, isPartSound, arePartsSound, isContextSound}
-
--- KINDS are known by their numbers
-pub kind-of : (k : Kind) → kindOf (kindNumber k) ≡ some k
-unfolding withNumber
-kind-of send = refl
-kind-of receive = refl
-kind-of write = refl
-kind-of acknowledge = refl
-kind-of timeOut = refl
-
-pub number-of : (n : ℕ) (k : Kind) → kindOf n ≡ some k → n ≡ kindNumber k
-number-of n k h = with-number kindNumber n kinds k h
-
-pub is-of : (j : Kind) (x : Option Kind) → isOf j x ≡ true → x ≡ some j
-is-of j none h = clash {b = false} h refl
-is-of j (some k) h = ap some (sym (same-number kindNumber kinds kind-of j k h))
-
--- whether a number is a kind's
-pub of-number : (j : Kind) (n : ℕ) → isOf j (kindOf n) ≡ eqb n (kindNumber j)
-of-number j n =
-    cases (eqb n (kindNumber j))
-    (λ e.
-    let q : kindOf n ≡ some j = ap (λ (m : ℕ). kindOf m) (eqb-true n (kindNumber j) e) ∙ kind-of j in
-    ap (isOf j) q ∙ eq-eqb (kindNumber j) (kindNumber j) refl ∙ sym e)
-    (λ e.
-    cases (isOf j (kindOf n))
-    (λ f. absurd (eqb-false n (kindNumber j) e (number-of n j (is-of j (kindOf n) f)))) (λ f. f ∙ sym e))
-
--- a datagram is not of two kinds
-pub kinds-apart {ℓ} : {A : Type ℓ} {x : Option Kind} (j k : Kind) → x ≡ some j → x ≡ some k → isKind j k ≡ false → A
-kinds-apart j k p q n =
-    let e : j ≡ k = some-is (sym p ∙ q) in
-    clash (eq-eqb (kindNumber j) (kindNumber k) (ap kindNumber e)) n
-
--- numbers that no kind has
-kind-range : (k : Kind) → (1 ≤ kindNumber k) × (kindNumber k ≤ 5)
-kind-range send = (omega arith, omega arith)
-kind-range receive = (omega arith, omega arith)
-kind-range write = (omega arith, omega arith)
-kind-range acknowledge = (omega arith, omega arith)
-kind-range timeOut = (omega arith, omega arith)
-
-pub unknown : (n : ℕ) → ((k : Kind) → n ≡ kindNumber k → ⊥) → kindOf n ≡ none
-unknown n h = none-if (kindOf n) (λ k e. h k (number-of n k e))
-
-pub out-of-range : (n : ℕ) → (n ≡ 0) ⊎ (6 ≤ n) → kindOf n ≡ none
-out-of-range n h =
-    unknown n (λ k q.
-    let r = kind-range k in
-    ⊎-elim (λ z. omega (arith, q, r .0, z)) (λ z. omega (arith, q, r .1, z)) h)
-
--- a number of a kind that is none of the first three
-pub two-left : (n : ℕ) → n < 6 → (n ≡ 0 → ⊥) → (n ≡ 1 → ⊥) → (n ≡ 2 → ⊥) → (n ≡ 3 → ⊥) → (n ≡ 4) ⊎ (n ≡ 5)
-two-left n l a b c d =
-    cases (eqb n 4) (λ e. inl (eqb-true n 4 e)) (λ e. inr (last n l a b c d (eqb-false n 4 e)))
-  where
-    last : (n : ℕ) → n < 6 → (n ≡ 0 → ⊥) → (n ≡ 1 → ⊥) → (n ≡ 2 → ⊥) → (n ≡ 3 → ⊥) → (n ≡ 4 → ⊥) → n ≡ 5
-    last n l a b c d e = omega arith
-
--- what holds of every kind holds of a number that has one
-pub by-kind : (P : ℕ → Type 0) → ((k : Kind) → P (kindNumber k)) → (n : ℕ) → isSome (kindOf n) ≡ true → P n
-by-kind P each n h = let q = some-if (kindOf n) h in rw (number-of n (q .0) (q .1)) (each (q .0))
-
--- PARTS are known by their numbers
-abbrev parts : List Part
-parts = channelPart ∷ sequencePart ∷ timeoutPart ∷ digestPart ∷ packetPart ∷ verdictPart ∷ []
-
-part-of : (p : Part) → withNumber partNumber (partNumber p) parts ≡ some p
-unfolding withNumber
-part-of channelPart = refl
-part-of sequencePart = refl
-part-of timeoutPart = refl
-part-of digestPart = refl
-part-of packetPart = refl
-part-of verdictPart = refl
-
-is-part : (p q : Part) → isPart p q ≡ true → p ≡ q
-is-part = same-number partNumber parts part-of
-
--- a kind that has a part is known
-pub part-known : (p : Part) (x : Option Kind) → hasPart p (bodyOf x) ≡ true → isSome x ≡ true
-unfolding hasPart
-part-known p none h = clash {b = false} h refl
-part-known p (some k) h = refl
-
--- a part of a body lies within it
-pub part-room : (p : Part) (ps : List Part) → hasPart p ps ≡ true → sizeBefore p ps + partSize p ≤ partsSize ps
-unfolding hasPart sizeBefore partsSize
-part-room p [] h = clash {b = false} h refl
-part-room p (q ∷ qs) h =
-    let ih = part-room p qs in
-    cases (isPart p q)
-    (λ e. let s : partSize p ≡ partSize q = ap partSize (is-part p q e) in rw (sizeBefore, e) (omega arith))
-    (λ e. elim (or-either h) [
-      | inl y ↦ clash y e
-      | inr y ↦ let k = ih y in rw (sizeBefore, e) (omega arith)
-    ])
+use Rattle.datagram.specs.Names.{Kind, kindOf, packetSize, sizeOf, isSized, isSound, kindIn, contextIn}
+use Rattle.datagram.specs.Names.{Part, digestPart, packetPart, verdictPart, endVerdictPart, versionPart, isPart}
+use Rattle.datagram.specs.Names.{placeOf, bodyOf, hasPart, packetIn, packetFrom, timeoutFrom, sequenceFrom}
+use Rattle.datagram.specs.Names.{digestFrom, counterpartyFrom, orderFrom, versionFrom, Datagram, datagramIn}
+use Rattle.datagram.specs.Names.{AnyVerdict, onPacket, onEnd, verdictsIn, verdictsOf}
+use Rattle.datagram.specs.Names.{isPartSound, arePartsSound, isContextSound}
+use Rattle.datagram.proofs.KindLaws.{of-rest, is-part, part-room}
 
 parts-sound : (d : Datagram) (p : Part) (ps : List Part) → arePartsSound d ps ≡ true → hasPart p ps ≡ true →
     isPartSound d p ≡ true
@@ -126,9 +28,15 @@ parts-sound d p (q ∷ qs) h k =
 -- what a well-formed datagram tells
 pub record Sound (d : List ℕ) : Type 0 where
   pub known : isSome (kindOf (kindIn d)) ≡ true
-  pub size : length d ≡ sizeOf (kindOf (kindIn d))
+  pub size : sizeOf (kindOf (kindIn d)) ≤ length d
   pub height : 0 < contextIn d .height .0
   pub parts : (p : Part) → hasPart p (bodyOf (kindOf (kindIn d))) ≡ true → isPartSound (datagramIn d) p ≡ true
+
+pub sized : (k : Option Kind) (n : ℕ) → isSized k n ≡ true → sizeOf k ≤ n
+unfolding isSized
+sized k n h =
+    cases (hasPart versionPart (bodyOf k)) (λ e. leb-true (sizeOf k) n (rw (isSized, e) at h))
+    (λ e. omega (arith, eqb-true n (sizeOf k) (rw (isSized, e) at h)))
 
 pub sound-is : (d : List ℕ) → isSound d ≡ true → Sound d
 unfolding isSound isContextSound
@@ -138,7 +46,7 @@ sound-is d h =
     let c = and-both (b .0) in
     record {
       known = and-both (c .0) .1;
-      size = eqb-true (length d) (sizeOf (kindOf (kindIn d))) (c .1);
+      size = sized (kindOf (kindIn d)) (length d) (c .1);
       height = ltb-true 0 (contextIn d .height .0) (and-both (b .1) .1);
       parts = λ p q. parts-sound (datagramIn d) p (bodyOf (kindOf (kindIn d))) (a .1) q;
     }
@@ -186,6 +94,22 @@ module _ (d : List ℕ) (b : Bytes d) where
   unfolding datagramIn contextIn
   time-below = field-below _ _ d b
 
+  pub port-below : datagramIn d .context .port < 256 ^ 2
+  unfolding datagramIn contextIn
+  port-below = field-below _ _ d b
+
+  pub counterparty-fields : PortChannelFields (datagramIn d .counterparty)
+  unfolding datagramIn counterpartyFrom
+  counterparty-fields = record { port = field-below _ _ d b; channel = field-below _ _ d b }
+
+  pub order-below : datagramIn d .order < 256
+  unfolding datagramIn orderFrom
+  order-below = every-getD Byte d _ 0 (omega arith) b
+
+  pub bytes-version : Bytes (datagramIn d .version)
+  unfolding datagramIn versionFrom
+  bytes-version = every-drop Byte (placeOf versionPart (kindOf (kindIn d))) d b
+
   module _ (s : Sound d) where
     pub packet-fields : hasPart packetPart (bodyOf (datagramIn d .kind)) ≡ true → PacketFields (datagramIn d .packet)
     unfolding datagramIn packetFrom
@@ -196,3 +120,32 @@ module _ (d : List ℕ) (b : Bytes d) where
     unfolding datagramIn digestFrom
     length-digest p =
         length-part _ digestSize d (omega (arith, s .size, part-room digestPart (bodyOf (kindOf (kindIn d))) p))
+
+-- VERDICTS: what holds of all that a datagram carries holds of the one in a part that its kind has
+module _ (P : AnyVerdict → Type 0) (d : Datagram) where
+  later : (q : Part) (qs : List Part) → Every P (verdictsIn d (q ∷ qs)) → Every P (verdictsIn d qs)
+  unfolding verdictsIn
+  later q qs h =
+      let rest = verdictsIn d qs in
+      of-rest P (isPart verdictPart q) (onPacket (d .verdict)) rest _
+      (of-rest P (isPart endVerdictPart q) (onEnd (d .endVerdict)) rest rest (λ r. r)) h
+
+  carried : (p : Part) (v : AnyVerdict) → ((ps : List Part) → verdictsIn d (p ∷ ps) ≡ v ∷ verdictsIn d ps) →
+      (ps : List Part) → hasPart p ps ≡ true → Every P (verdictsIn d ps) → P v
+  unfolding hasPart
+  carried p v at [] k h = clash {b = false} k refl
+  carried p v at (q ∷ qs) k h =
+      elim (or-either k) [
+        | inl y ↦ (rw (← is-part p q y, at qs) at h) .0
+        | inr y ↦ carried p v at qs y (later q qs h)
+      ]
+
+  pub packet-verdict : hasPart verdictPart (bodyOf (d .kind)) ≡ true → Every P (verdictsOf d) →
+      P (onPacket (d .verdict))
+  unfolding verdictsIn
+  packet-verdict k h = carried verdictPart (onPacket (d .verdict)) (λ ps. refl) (bodyOf (d .kind)) k h
+
+  pub end-verdict : hasPart endVerdictPart (bodyOf (d .kind)) ≡ true → Every P (verdictsOf d) →
+      P (onEnd (d .endVerdict))
+  unfolding verdictsIn
+  end-verdict k h = carried endVerdictPart (onEnd (d .endVerdict)) (λ ps. refl) (bodyOf (d .kind)) k h

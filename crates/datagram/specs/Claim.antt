@@ -5,16 +5,17 @@ use Prim.Native.Nat.{ℕ}
 use Rattle.wire.specs.Choice.{withNumber}
 
 pub data Claim : Type 0 where
-  commitmentPresent acknowledgementPresent receiptAbsent nextReceiveIs : Claim
+  commitmentPresent acknowledgementPresent receiptAbsent nextReceiveIs endIs : Claim
 
 abbrev pub claims : List Claim
-claims = commitmentPresent ∷ acknowledgementPresent ∷ receiptAbsent ∷ nextReceiveIs ∷ []
+claims = commitmentPresent ∷ acknowledgementPresent ∷ receiptAbsent ∷ nextReceiveIs ∷ endIs ∷ []
 
 abbrev pub claimNumber : Claim → ℕ
 claimNumber commitmentPresent = 1
 claimNumber acknowledgementPresent = 2
 claimNumber receiptAbsent = 3
 claimNumber nextReceiveIs = 4
+claimNumber endIs = 5
 
 -- the claim of a number: none where no claim has it
 abbrev pub claimOf : ℕ → Option Claim

@@ -4,20 +4,26 @@ use mathlib.Core.List.{List, [], _∷_}
 use mathlib.Core.Option.{Option, none, some}
 use Prim.Native.Nat.{ℕ, _+_}
 use lib.Dec.{ltb, leb, eqb}
-use lib.ListN.{length, getD}
+use lib.ListN.{length, getD, drop}
 use Rattle.wire.specs.Choice.{_and_, pick, isSome}
 use Rattle.wire.specs.Bytes.{areZero, part, field, digestSize}
 use Rattle.slots.specs.declared.OtherHeight.{OtherHeight}
+use Rattle.slots.specs.declared.PortChannel.{PortChannel}
 use Rattle.slots.specs.declared.Timeout.{Timeout}
+use Rattle.slots.specs.Codes.{isOrder}
 use Rattle.slots.specs.Height.{ownHeight, otherHeight}
 use Rattle.slots.specs.Part.{portChannelIn, timeoutIn}
+use Rattle.slots.specs.Layout.{slotSize, channelIn}
 use Rattle.datagram.specs.declared.Context.{Context}
 use Rattle.datagram.specs.declared.Packet.{Packet}
 use Rattle.datagram.specs.declared.Verdict.{Verdict}
+use Rattle.datagram.specs.declared.EndVerdict.{EndVerdict}
 use Rattle.wire.specs.Frame.{frameSize}
-use Rattle.datagram.specs.Kind.{Kind, send, receive, write, acknowledge, timeOut, kindOf}
+use Rattle.datagram.specs.Kind.{Kind, send, receive, write, acknowledge, timeOut}
+use Rattle.datagram.specs.Kind.{openInit, openTry, openAcknowledge, openConfirm, kindOf}
 use Rattle.datagram.specs.Kind.{Part, channelPart, sequencePart, timeoutPart, digestPart, packetPart, verdictPart}
-use Rattle.datagram.specs.Kind.{isPart, bodyOf, placeOf, sizeOf}
+use Rattle.datagram.specs.Kind.{portPart, counterpartyPart, orderPart, endVerdictPart, versionPart}
+use Rattle.datagram.specs.Kind.{isPart, bodyOf, placeOf, isSized}
 use Rattle.datagram.specs.Claim.{claimOf}
 
 -- THE PARTS by their bytes
@@ -56,6 +62,17 @@ verdictIn i d =
       digest = part (i + 48) digestSize d;
     }
 
+-- the channel record of the other end: its kind, and what it says
+unfoldable pub endVerdictIn : (from : ℕ) → List ℕ → EndVerdict
+endVerdictIn i d =
+    record {
+      claim = field i 2 d;
+      height = otherHeight (field (i + 2) 8 d);
+      time = field (i + 10) 8 d;
+      kind = field (i + 18) 2 d;
+      end = channelIn (part (i + 18) slotSize d);
+    }
+
 -- EACH at its place in the datagrams of a kind
 unfoldable pub packetFrom : Option Kind → List ℕ → Packet
 packetFrom k d = packetIn (placeOf packetPart k) d
@@ -72,7 +89,21 @@ sequenceFrom k d = field (placeOf sequencePart k) 8 d
 unfoldable pub digestFrom : Option Kind → List ℕ → List ℕ
 digestFrom k d = part (placeOf digestPart k) digestSize d
 
--- THE CHANNEL that it is about: its own part, or the packet's destination for a receive, its source for the others
+unfoldable pub endVerdictFrom : Option Kind → List ℕ → EndVerdict
+endVerdictFrom k d = endVerdictIn (placeOf endVerdictPart k) d
+
+unfoldable pub counterpartyFrom : Option Kind → List ℕ → PortChannel
+counterpartyFrom k d =
+    record { port = field (placeOf portPart k) 2 d; channel = field (placeOf counterpartyPart k) 4 d }
+
+unfoldable pub orderFrom : Option Kind → List ℕ → ℕ
+orderFrom k d = getD d (placeOf orderPart k) 0
+
+unfoldable pub versionFrom : Option Kind → List ℕ → List ℕ
+versionFrom k d = drop (placeOf versionPart k) d
+
+-- THE CHANNEL that it is about: its own part, or the packet's destination for a receive, its source for the others. An
+-- open init and an open try make an end, and are about none
 abbrev pub ownChannel : Kind → List ℕ → ℕ
 ownChannel k d = field (placeOf channelPart (some k)) 4 d
 
@@ -83,6 +114,10 @@ channelFrom (some receive) d = packetFrom (some receive) d .destination .channel
 channelFrom (some write) d = ownChannel write d
 channelFrom (some acknowledge) d = packetFrom (some acknowledge) d .source .channel
 channelFrom (some timeOut) d = packetFrom (some timeOut) d .source .channel
+channelFrom (some openInit) d = 0
+channelFrom (some openTry) d = 0
+channelFrom (some openAcknowledge) d = ownChannel openAcknowledge d
+channelFrom (some openConfirm) d = ownChannel openConfirm d
 
 -- A DATAGRAM as the rules see it. A part that its kind lacks is read all the same, and no rule looks at it
 pub record Datagram : Type 0 where
@@ -94,6 +129,10 @@ pub record Datagram : Type 0 where
   pub packet : Packet
   pub digest : List ℕ
   pub verdict : Verdict
+  pub endVerdict : EndVerdict
+  pub counterparty : PortChannel
+  pub order : ℕ
+  pub version : List ℕ
 
 abbrev pub datagramOf : Option Kind → List ℕ → Datagram
 datagramOf k d =
@@ -106,31 +145,40 @@ datagramOf k d =
       packet = packetFrom k d;
       digest = digestFrom k d;
       verdict = verdictFrom k d;
+      endVerdict = endVerdictFrom k d;
+      counterparty = counterpartyFrom k d;
+      order = orderFrom k d;
+      version = versionFrom k d;
     }
 
 unfoldable pub datagramIn : List ℕ → Datagram
 datagramIn d = datagramOf (kindOf (kindIn d)) d
 
--- ITS VERDICTS, each about a block of the other ledger
+-- ITS VERDICTS, of either form, each about a block of the other ledger
 pub data AnyVerdict : Type 0 where
   onPacket : Verdict → AnyVerdict
+  onEnd : EndVerdict → AnyVerdict
 
 abbrev pub blockHeight : AnyVerdict → OtherHeight
 blockHeight (onPacket v) = v .height
+blockHeight (onEnd v) = v .height
 
 abbrev pub blockTime : AnyVerdict → ℕ
 blockTime (onPacket v) = v .time
+blockTime (onEnd v) = v .time
 
 unfoldable pub verdictsIn : Datagram → List Part → List AnyVerdict
 verdictsIn d [] = []
-verdictsIn d (p ∷ ps) = pick (isPart verdictPart p) (onPacket (d .verdict) ∷ verdictsIn d ps) (verdictsIn d ps)
+verdictsIn d (p ∷ ps) =
+    pick (isPart verdictPart p) (onPacket (d .verdict) ∷ verdictsIn d ps)
+    (pick (isPart endVerdictPart p) (onEnd (d .endVerdict) ∷ verdictsIn d ps) (verdictsIn d ps))
 
 abbrev pub verdictsOf : Datagram → List AnyVerdict
 verdictsOf d = verdictsIn d (bodyOf (d .kind))
 
 -- WELL FORMED: at least 6 bytes, the length field is the slice's length, a known kind of the right length, zero bytes
 -- zero, connection 0 or 1, own height not 0, and each part sound: a sequence, in a packet or by itself, is not 0, and a
--- claim is known
+-- claim and an order are known
 unfoldable pub isPartSound : Datagram → Part → Bool
 isPartSound d channelPart = true
 isPartSound d sequencePart = ltb 0 (d .sequence)
@@ -138,6 +186,11 @@ isPartSound d timeoutPart = true
 isPartSound d digestPart = true
 isPartSound d packetPart = ltb 0 (d .packet .sequence)
 isPartSound d verdictPart = isSome (claimOf (d .verdict .claim))
+isPartSound d portPart = true
+isPartSound d counterpartyPart = true
+isPartSound d orderPart = isOrder (d .order)
+isPartSound d endVerdictPart = isSome (claimOf (d .endVerdict .claim))
+isPartSound d versionPart = true
 
 unfoldable pub arePartsSound : Datagram → List Part → Bool
 arePartsSound d [] = true
@@ -149,5 +202,5 @@ isContextSound d = areZero (part 33 5 d) and leb (getD d 32 9) 1 and ltb 0 (cont
 unfoldable pub isSound : List ℕ → Bool
 isSound d =
     leb frameSize (length d) and eqb (field 0 4 d) (length d) and isSome (kindOf (kindIn d)) and
-    eqb (length d) (sizeOf (kindOf (kindIn d))) and isContextSound d and
+    isSized (kindOf (kindIn d)) (length d) and isContextSound d and
     arePartsSound (datagramIn d) (bodyOf (kindOf (kindIn d)))

@@ -1,14 +1,21 @@
-// What a datagram holds, read into structs by value. The sizes stand here once: behind the frame lies the context,
-// and behind it the body. A longer context is another CONTEXT, and what `context_in` reads and `sound` tests of it.
+// What a datagram holds, read into structs by value. A part that lies at one place in every kind that has it is read
+// there; of another the kind tells the place.
 use super::Context;
+use super::EndVerdict;
 use super::Packet;
 use super::Verdict;
+use super::place::BODY;
+use super::place::counterparty_place;
+use super::place::digest_place;
+use super::place::end_verdict_place;
+use super::place::order_place;
+use super::place::verdict_place;
 use slots::OtherHeight;
 use slots::OwnHeight;
 use slots::Timeout;
 use slots::part::port_channel_at;
 use slots::part::timeout_at;
-use wire::DIGEST;
+use slots::slot::channel_at;
 use wire::FRAME;
 use wire::digest_at;
 use wire::u16_at;
@@ -21,18 +28,12 @@ ghost use lib.ListN.{length};
 ghost use Rattle.wire.specs.Bytes.{field};
 ghost use Rattle.slots.specs.Part.{timeoutIn};
 ghost use Rattle.wire.specs.Frame.{frameSize};
-ghost use Rattle.datagram.specs.Kind.{kindOf, bodyFrom, packetSize, verdictSize};
-ghost use Rattle.datagram.specs.Kind.{digestPart, verdictPart, bodyOf, hasPart, placeOf, sizeOf};
-ghost use Rattle.datagram.specs.Datagram.{kindIn, contextIn, packetIn, verdictIn};
-ghost use Rattle.datagram.specs.Datagram.{digestFrom, verdictFrom, channelFrom};
-
-const CONTEXT: usize = 32;
-
-pub const BODY: usize = FRAME + CONTEXT;
-
-pub const PACKET: usize = 68;
-
-pub const VERDICT: usize = 80;
+ghost use Rattle.datagram.specs.Kind.{kindOf, bodyFrom, packetSize, verdictSize, endVerdictSize};
+ghost use Rattle.datagram.specs.Kind.{digestPart, verdictPart, counterpartyPart, orderPart, endVerdictPart};
+ghost use Rattle.datagram.specs.Kind.{bodyOf, hasPart, sizeOf};
+ghost use Rattle.datagram.specs.Datagram.{kindIn, contextIn, packetIn, verdictIn, endVerdictIn};
+ghost use Rattle.datagram.specs.Datagram.{digestFrom, verdictFrom, endVerdictFrom, counterpartyFrom, orderFrom};
+ghost use Rattle.datagram.specs.Datagram.{channelFrom};
 
 pub fn context_in(d: &[u8]) -> Context
     requires { ⌜ bodyFrom ≤ length (now d) ⌝ }
@@ -44,19 +45,6 @@ pub fn context_in(d: &[u8]) -> Context
         client: OtherHeight(u64_at(d, FRAME + 16)),
         port: u16_at(d, FRAME + 24),
         connected: d[FRAME + 26] == 1,
-    }
-}
-
-fn packet_at(d: &[u8], at: usize) -> Packet
-    requires { ⌜ at + packetSize ≤ length (now d) ⌝ }
-    ensures { λ r. ⌜ r ≡ packetIn at (now (d .entry)) ⌝ }
-{
-    Packet {
-        sequence: u64_at(d, at),
-        timeout: timeout_at(d, at + 8),
-        source: port_channel_at(d, at + 24),
-        destination: port_channel_at(d, at + 30),
-        digest: digest_at(d, at + 36),
     }
 }
 
@@ -75,6 +63,20 @@ fn verdict_at(d: &[u8], at: usize) -> Verdict
     }
 }
 
+// The end's record is read as a store's is.
+fn end_verdict_at(d: &[u8], at: usize) -> EndVerdict
+    requires { ⌜ at + endVerdictSize ≤ length (now d) ⌝ }
+    ensures { λ r. ⌜ r ≡ endVerdictIn at (now (d .entry)) ⌝ }
+{
+    EndVerdict {
+        claim: u16_at(d, at),
+        height: OtherHeight(u64_at(d, at + 2)),
+        time: u64_at(d, at + 10),
+        kind: u16_at(d, at + 18),
+        end: channel_at(d, at + 18),
+    }
+}
+
 pub fn kind_in(d: &[u8]) -> u16
     requires { ⌜ frameSize ≤ length (now d) ⌝ }
     ensures { λ r. ⌜ r ≡ kindIn (now (d .entry)) ⌝ }
@@ -82,8 +84,6 @@ pub fn kind_in(d: &[u8]) -> u16
     u16_at(d, 4)
 }
 
-// THE BODY by kind. 1: channel, timeouts, digest. 2 and 5: packet, verdict. 3: channel, sequence, digest.
-// 4: packet, digest, verdict.
 pub fn timeout_in(d: &[u8]) -> Timeout
     requires { ⌜ bodyFrom + 20 ≤ length (now d) ⌝ }
     ensures { λ r. ⌜ r ≡ timeoutIn (bodyFrom + 4) (now (d .entry)) ⌝ }
@@ -102,21 +102,24 @@ pub fn packet_in(d: &[u8]) -> Packet
     requires { ⌜ bodyFrom + packetSize ≤ length (now d) ⌝ }
     ensures { λ r. ⌜ r ≡ packetIn bodyFrom (now (d .entry)) ⌝ }
 {
-    packet_at(d, BODY)
-}
-
-fn digest_place(kind: u16) -> usize
-    requires { ⌜ hasPart digestPart (bodyOf (kindOf kind)) ≡ true ⌝ }
-    ensures { λ r. ⌜ r ≡ placeOf digestPart (kindOf kind) ⌝ }
-{
-    match kind {
-        1 => BODY + 20,
-        3 => BODY + 12,
-        _ => BODY + PACKET,
+    Packet {
+        sequence: u64_at(d, BODY),
+        timeout: timeout_at(d, BODY + 8),
+        source: port_channel_at(d, BODY + 24),
+        destination: port_channel_at(d, BODY + 30),
+        digest: digest_at(d, BODY + 36),
     }
 }
 
-// The digest of the kinds 1, 3 and 4; the others have none.
+// The port of the counterparty, in the kinds 6 and 7.
+pub fn counterparty_port_in(d: &[u8]) -> u16
+    requires { ⌜ bodyFrom + 2 ≤ length (now d) ⌝ }
+    ensures { λ r. ⌜ r ≡ field bodyFrom 2 (now (d .entry)) ⌝ }
+{
+    u16_at(d, BODY)
+}
+
+// BY KIND, each for the kinds that have the part: the digest of 1, 3 and 4.
 pub fn digest_in(d: &[u8], kind: u16) -> [u8; 32]
     requires { ⌜
         (hasPart digestPart (bodyOf (kindOf kind)) ≡ true) × (sizeOf (kindOf kind) ≤ length (now d))
@@ -126,17 +129,7 @@ pub fn digest_in(d: &[u8], kind: u16) -> [u8; 32]
     digest_at(d, digest_place(kind))
 }
 
-pub fn verdict_place(kind: u16) -> usize
-    requires { ⌜ hasPart verdictPart (bodyOf (kindOf kind)) ≡ true ⌝ }
-    ensures { λ r. ⌜ r ≡ placeOf verdictPart (kindOf kind) ⌝ }
-{
-    match kind {
-        4 => BODY + PACKET + DIGEST,
-        _ => BODY + PACKET,
-    }
-}
-
-// The verdict of the kinds 2, 4 and 5; the others have none.
+// The verdict of 2, 4 and 5.
 pub fn verdict_in(d: &[u8], kind: u16) -> Verdict
     requires { ⌜
         (hasPart verdictPart (bodyOf (kindOf kind)) ≡ true) × (sizeOf (kindOf kind) ≤ length (now d))
@@ -146,16 +139,46 @@ pub fn verdict_in(d: &[u8], kind: u16) -> Verdict
     verdict_at(d, verdict_place(kind))
 }
 
-// The channel that it is about: its own for 1 and 3, the destination for 2, the source for 4 and 5; unknown kinds are
-// about none.
+// The end verdict of 7, 8 and 9.
+pub fn end_verdict_in(d: &[u8], kind: u16) -> EndVerdict
+    requires { ⌜
+        (hasPart endVerdictPart (bodyOf (kindOf kind)) ≡ true) × (sizeOf (kindOf kind) ≤ length (now d))
+        ⌝ }
+    ensures { λ r. ⌜ r ≡ endVerdictFrom (kindOf kind) (now (d .entry)) ⌝ }
+{
+    end_verdict_at(d, end_verdict_place(kind))
+}
+
+// The channel of the counterparty, in 7 and 8.
+pub fn counterparty_channel_in(d: &[u8], kind: u16) -> u32
+    requires { ⌜
+        (hasPart counterpartyPart (bodyOf (kindOf kind)) ≡ true) × (sizeOf (kindOf kind) ≤ length (now d))
+        ⌝ }
+    ensures { λ r. ⌜ r ≡ counterpartyFrom (kindOf kind) (now (d .entry)) .channel ⌝ }
+{
+    u32_at(d, counterparty_place(kind))
+}
+
+// The order of 6 and 7.
+pub fn order_in(d: &[u8], kind: u16) -> u8
+    requires { ⌜
+        (hasPart orderPart (bodyOf (kindOf kind)) ≡ true) × (sizeOf (kindOf kind) ≤ length (now d))
+        ⌝ }
+    ensures { λ r. ⌜ r ≡ orderFrom (kindOf kind) (now (d .entry)) ⌝ }
+{
+    d[order_place(kind)]
+}
+
+// The channel that it is about: its own for 1, 3, 8 and 9, the destination for 2, the source for 4 and 5. The others
+// make an end, or are unknown, and are about none.
 pub fn channel_in(d: &[u8], kind: u16) -> u32
     requires { ⌜ sizeOf (kindOf kind) ≤ length (now d) ⌝ }
     ensures { λ r. ⌜ r ≡ channelFrom (kindOf kind) (now (d .entry)) ⌝ }
 {
     match kind {
-        0 | 6..=65535 => 0,
-        1 | 3 => u32_at(d, BODY),
+        1 | 3 | 8 | 9 => u32_at(d, BODY),
         2 => u32_at(d, BODY + 32),
         4 | 5 => u32_at(d, BODY + 26),
+        _ => 0,
     }
 }

@@ -1,6 +1,8 @@
 // The records that are handed out, written at the front of the lent output. Each writer returns the record's length.
 use datagram::Packet;
-use datagram::read::PACKET;
+use datagram::place::PACKET;
+use slots::PortChannel;
+use slots::Timeout;
 use slots::part::put_port_channel;
 use wire::DIGEST;
 use wire::FRAME;
@@ -9,20 +11,25 @@ use wire::put_frame;
 use wire::put_three;
 use wire::put_u64;
 ghost use mathlib.Core.Path.{_≡_};
+ghost use mathlib.Core.List.{[]};
 ghost use Prim.Native.Nat.{_+_, _≤_};
 ghost use lib.ListN.{length};
 ghost use Rattle.wire.specs.Bytes.{patch};
 ghost use Rattle.slots.specs.Limits.{outputLimit};
 ghost use Rattle.datagram.specs.Kind.{packetSize};
 ghost use Rattle.datagram.specs.Emitted.{packetBytes};
-ghost use Rattle.emit.specs.Output.{atFront, packetRecord, writtenRecord, acknowledgedRecord, emittedBy};
+ghost use Rattle.emit.specs.Output.{atFront, packetRecord, writtenRecord, acknowledgedRecord, madeRecord};
+ghost use Rattle.emit.specs.Output.{emittedBy};
 
-// The records by their whole lengths: a packet; a port, a channel, a sequence and a digest; a packet and a digest.
+// The records by their whole lengths: a packet; a port, a channel, a sequence and a digest; a packet and a digest; a
+// port and a channel.
 const PACKET_SIZE: u32 = (FRAME + PACKET) as u32;
 
 const WRITTEN_SIZE: u32 = (FRAME + 14 + DIGEST) as u32;
 
 const ACKNOWLEDGED_SIZE: u32 = (FRAME + PACKET + DIGEST) as u32;
+
+const MADE_SIZE: u32 = (FRAME + 6) as u32;
 
 // The kinds of the records.
 pub const SENT: u16 = 0x0101;
@@ -35,18 +42,58 @@ const ACKNOWLEDGED: u16 = 0x0104;
 
 pub const TIMED_OUT: u16 = 0x0105;
 
-// What is emitted: a packet alone under one of its kinds, a written acknowledgement, an acknowledged packet.
+const MADE: u16 = 0x0107;
+
+// What is emitted: a packet alone under one of its kinds, a written acknowledgement, an acknowledged packet, a new end,
+// or nothing.
 pub enum Form {
     PacketOnly(u16),
     Written,
     Acknowledged,
+    Made(PortChannel),
+    Nothing,
 }
 
-// A record that is emitted. Of a written acknowledgement's packet the destination and the sequence matter alone.
+// A record that is emitted. Of a written acknowledgement's packet the destination and the sequence matter alone. A new
+// end and nothing have no packet and no digest: `made` and `nothing` have zeros there.
 pub struct Emission {
     pub form: Form,
     pub packet: Packet,
     pub digest: [u8; 32],
+}
+
+pub fn nothing() -> Emission
+    ensures { λ r. ⌜ emittedBy r ≡ [] ⌝ }
+{
+    Emission {
+        form: Form::Nothing,
+        packet: Packet {
+            sequence: 0,
+            timeout: Timeout { height: 0, time: 0 },
+            source: PortChannel {
+                port: 0,
+                channel: 0,
+            },
+            destination: PortChannel {
+                port: 0,
+                channel: 0,
+            },
+            digest: [0; 32],
+        },
+        digest: [0; 32],
+    }
+}
+
+pub fn made(end: PortChannel) -> Emission
+    ensures { λ r. ⌜ emittedBy r ≡ madeRecord end ⌝ }
+{
+    let none = nothing();
+    let packet = none.packet;
+    Emission {
+        form: Form::Made(end),
+        packet: packet,
+        digest: [0; 32],
+    }
 }
 
 fn put_packet(out: &mut [u8], at: usize, p: Packet)
@@ -96,6 +143,16 @@ fn emit_acknowledged(out: &mut [u8], p: Packet, digest: [u8; 32]) -> u32
     ACKNOWLEDGED_SIZE
 }
 
+fn emit_made(out: &mut [u8], e: PortChannel) -> u32
+    requires { ⌜ outputLimit ≤ length (now out) ⌝ }
+    ensures output { λ _. ⌜ now (out .exit) ≡ atFront (madeRecord e) (now (out .entry)) ⌝ }
+    ensures size { λ r. ⌜ r ≡ length (madeRecord e) ⌝ }
+{
+    put_frame(out, MADE_SIZE, MADE);
+    put_port_channel(out, FRAME, e.port, e.channel);
+    MADE_SIZE
+}
+
 pub fn emit_record(out: &mut [u8], e: Emission) -> u32
     requires { ⌜ outputLimit ≤ length (now out) ⌝ }
     ensures output { λ _. ⌜ now (out .exit) ≡ atFront (emittedBy e) (now (out .entry)) ⌝ }
@@ -108,5 +165,7 @@ pub fn emit_record(out: &mut [u8], e: Emission) -> u32
         Form::PacketOnly(kind) => emit_packet(out, kind, packet),
         Form::Written => emit_written(out, packet, digest),
         Form::Acknowledged => emit_acknowledged(out, packet, digest),
+        Form::Made(end) => emit_made(out, end),
+        Form::Nothing => 0,
     }
 }

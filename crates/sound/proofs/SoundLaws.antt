@@ -13,7 +13,7 @@ use Rattle.wire.specs.declared.Frame.the-variants.{Whole, Malformed}
 use Rattle.wire.specs.Frame.{frameIn}
 use Rattle.wire.proofs.ChoiceLaws.{and-both, and-assoc, and-false, clash, cases}
 use Rattle.wire.specs.Frame.{frameSize}
-use Rattle.datagram.specs.Kind.{kindOf, sizeOf}
+use Rattle.datagram.specs.Kind.{kindOf, isSized}
 use Rattle.datagram.specs.Claim.{claimOf}
 use Rattle.datagram.specs.Datagram.{kindIn, datagramIn, isContextSound, isSound}
 use Rattle.sound.specs.Sound.{isBodySound}
@@ -24,8 +24,8 @@ getD-there [] i x y h = absurd (omega arith)
 getD-there (b ∷ bs) zero x y h = refl
 getD-there (b ∷ bs) (suc i) x y h = getD-there bs i x y (omega arith)
 
--- the claims are those from 1 to 4
-above : (n : ℕ) → 5 ≤ n → isSome (claimOf n) ≡ isIn 1 4 n
+-- the claims are those from 1 to 5
+above : (n : ℕ) → 6 ≤ n → isSome (claimOf n) ≡ isIn 1 5 n
 unfolding withNumber _and_
 above n h =
     rw (
@@ -33,18 +33,20 @@ above n h =
       ne-eqb n 2 (λ e. omega arith),
       ne-eqb n 3 (λ e. omega arith),
       ne-eqb n 4 (λ e. omega arith),
+      ne-eqb n 5 (λ e. omega arith),
       le-leb 1 n (omega arith),
-      lt-leb n 4 (omega arith),
+      lt-leb n 5 (omega arith),
     )
 
-pub claim-known : (n : ℕ) → isSome (claimOf n) ≡ isIn 1 4 n
+pub claim-known : (n : ℕ) → isSome (claimOf n) ≡ isIn 1 5 n
 unfolding withNumber _and_
 claim-known zero = refl
 claim-known (suc zero) = refl
 claim-known (suc (suc zero)) = refl
 claim-known (suc (suc (suc zero))) = refl
 claim-known (suc (suc (suc (suc zero)))) = refl
-claim-known (suc (suc (suc (suc (suc n))))) = above (suc (suc (suc (suc (suc n))))) (omega arith)
+claim-known (suc (suc (suc (suc (suc zero))))) = refl
+claim-known (suc (suc (suc (suc (suc (suc n)))))) = above (suc (suc (suc (suc (suc (suc n)))))) (omega arith)
 
 -- THE TESTS in the order of the code: whether the kind is known comes last, with the body
 arranged : (framed known size context parts : Bool) → framed ≡ true →
@@ -71,19 +73,19 @@ module _ (d : List ℕ) where
 
   by-parts : framed ≡ true →
       isSound d ≡
-      (eqb (length d) (sizeOf (kindOf (kindIn d))) and (isContextSound d and isBodySound (kindOf (kindIn d)) d))
+      (isSized (kindOf (kindIn d)) (length d) and (isContextSound d and isBodySound (kindOf (kindIn d)) d))
   unfolding isSound isBodySound datagramIn
   by-parts e = arranged framed _ _ _ _ e
 
   -- a frame of some kind and length
   pub whole : {k n : ℕ} → frameIn d ≡ Whole k n →
       (n ≡ length d) ×
-      (isSound d ≡ (eqb n (sizeOf (kindOf k)) and (isContextSound d and isBodySound (kindOf k) d)))
+      (isSound d ≡ (isSized (kindOf k) n and (isContextSound d and isBodySound (kindOf k) d)))
   unfolding frameIn kindIn
   whole {k} {n} h = cases framed (λ e. by-frame e (rw e at h)) (λ e. clash-frame (sym (rw e at h))) where
     by-frame : framed ≡ true → Whole (kindIn d) (field 0 4 d) ≡ Whole k n →
         (n ≡ length d) ×
-        (isSound d ≡ (eqb n (sizeOf (kindOf k)) and (isContextSound d and isBodySound (kindOf k) d)))
+        (isSound d ≡ (isSized (kindOf k) n and (isContextSound d and isBodySound (kindOf k) d)))
     by-frame e same =
         let size : field 0 4 d ≡ length d = eqb-true (field 0 4 d) (length d) (and-both e .1) in
         let kind : k ≡ kindIn d = cc in

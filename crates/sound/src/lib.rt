@@ -1,9 +1,13 @@
 // Whether a datagram whose frame is whole is well formed.
-use datagram::read::BODY;
-use datagram::read::PACKET;
-use datagram::read::VERDICT;
+use datagram::place::BODY;
+use datagram::place::END_VERDICT;
+use datagram::place::PACKET;
+use datagram::place::VERDICT;
+use datagram::place::end_verdict_place;
+use datagram::place::verdict_place;
+use datagram::read::order_in;
 use datagram::read::sequence_in;
-use datagram::read::verdict_place;
+use slots::Channel;
 use wire::DIGEST;
 use wire::FRAME;
 use wire::are_zero;
@@ -13,22 +17,47 @@ ghost use mathlib.Core.Path.{_≡_};
 ghost use mathlib.Core.Bool.{true};
 ghost use Prim.Native.Nat.{_≤_};
 ghost use lib.ListN.{length};
+ghost use Rattle.wire.specs.Choice.{isSome};
 ghost use Rattle.wire.specs.Frame.{frameIn};
 ghost use Rattle.wire.specs.declared.Frame.the-variants.{Whole};
-ghost use Rattle.datagram.specs.Kind.{kindOf, bodyFrom, verdictPart, bodyOf, hasPart, sizeOf};
-ghost use Rattle.datagram.specs.Datagram.{isContextSound, isSound};
+ghost use Rattle.slots.specs.Codes.{isOrder};
+ghost use Rattle.datagram.specs.Kind.{kindOf, bodyFrom, verdictPart, orderPart, endVerdictPart, bodyOf, hasPart};
+ghost use Rattle.datagram.specs.Kind.{sizeOf, isSized};
+ghost use Rattle.datagram.specs.Claim.{claimOf};
+ghost use Rattle.datagram.specs.Datagram.{endVerdictFrom, orderFrom, isContextSound, isSound};
 ghost use Rattle.sound.specs.Sound.{isPacketSound, isBodySound};
 
-// Kinds 2 and 5 have a packet and a verdict, 4 a digest besides. Unknown kinds have no body.
-fn size_of(kind: u16) -> usize
-    ensures { λ r. ⌜ r ≡ sizeOf (kindOf kind) ⌝ }
+// The lengths of datagrams, without the version that may end an open init and an open try.
+const SEND: usize = BODY + 20 + DIGEST;
+
+const RECEIVE: usize = BODY + PACKET + VERDICT;
+
+const WRITE: usize = BODY + 12 + DIGEST;
+
+const ACKNOWLEDGE: usize = BODY + PACKET + DIGEST + VERDICT;
+
+const OPEN_INIT: usize = BODY + 3;
+
+const OPEN_TRY: usize = BODY + 7 + END_VERDICT;
+
+const OPEN_ACKNOWLEDGE: usize = BODY + 8 + END_VERDICT;
+
+const OPEN_CONFIRM: usize = BODY + 4 + END_VERDICT;
+
+// A time-out is as long as a receive. Unknown kinds have no body.
+fn is_sized(kind: u16, size: usize) -> bool
+    ensures { λ r. ⌜ r ≡ isSized (kindOf kind) size ⌝ }
 {
     match kind {
-        0 | 6..=65535 => BODY,
-        1 => BODY + 20 + DIGEST,
-        2 | 5 => BODY + PACKET + VERDICT,
-        3 => BODY + 12 + DIGEST,
-        4 => BODY + PACKET + DIGEST + VERDICT,
+        1 => size == SEND,
+        2 | 5 => size == RECEIVE,
+        3 => size == WRITE,
+        4 => size == ACKNOWLEDGE,
+        6 => OPEN_INIT <= size,
+        7 => OPEN_TRY <= size,
+        8 => size == OPEN_ACKNOWLEDGE,
+        9 => size == OPEN_CONFIRM,
+        _ => size == BODY,
     }
 }
 
@@ -40,7 +69,14 @@ fn is_context_sound(d: &[u8]) -> bool
     are_zero(d, FRAME + 27, 5) & (d[FRAME + 26] <= 1) & (0 < u64_at(d, FRAME))
 }
 
-// A packet's sequence is not 0, and its verdict makes one of the four claims.
+// The claims, in either form of verdict, are those from 1 to 5.
+fn is_claim(claim: u16) -> bool
+    ensures { λ r. ⌜ r ≡ isSome (claimOf claim) ⌝ }
+{
+    (1 <= claim) & (claim <= 5)
+}
+
+// A packet's sequence is not 0, and its verdict's claim is known.
 fn is_packet_sound(d: &[u8], kind: u16) -> bool
     requires { ⌜
         (hasPart verdictPart (bodyOf (kindOf kind)) ≡ true) × (sizeOf (kindOf kind) ≤ length (now d))
@@ -48,7 +84,26 @@ fn is_packet_sound(d: &[u8], kind: u16) -> bool
     ensures { λ r. ⌜ r ≡ isPacketSound (kindOf kind) (now (d .entry)) ⌝ }
 {
     let claim = u16_at(d, verdict_place(kind));
-    (0 < u64_at(d, BODY)) & ((1 <= claim) & (claim <= 4))
+    (0 < u64_at(d, BODY)) & is_claim(claim)
+}
+
+fn is_end_verdict_sound(d: &[u8], kind: u16) -> bool
+    requires { ⌜
+        (hasPart endVerdictPart (bodyOf (kindOf kind)) ≡ true) × (sizeOf (kindOf kind) ≤ length (now d))
+        ⌝ }
+    ensures { λ r. ⌜ r ≡ isSome (claimOf (endVerdictFrom (kindOf kind) (now (d .entry)) .claim)) ⌝ }
+{
+    is_claim(u16_at(d, end_verdict_place(kind)))
+}
+
+fn is_order_sound(d: &[u8], kind: u16) -> bool
+    requires { ⌜
+        (hasPart orderPart (bodyOf (kindOf kind)) ≡ true) × (sizeOf (kindOf kind) ≤ length (now d))
+        ⌝ }
+    ensures { λ r. ⌜ r ≡ isOrder (orderFrom (kindOf kind) (now (d .entry))) ⌝ }
+{
+    let order = order_in(d, kind);
+    (Channel::ORDERED <= order) & (order <= Channel::UNORDERED)
 }
 
 // Unknown kinds have no body that is sound.
@@ -57,10 +112,13 @@ fn is_body_sound(d: &[u8], kind: u16) -> bool
     ensures { λ r. ⌜ r ≡ isBodySound (kindOf kind) (now (d .entry)) ⌝ }
 {
     match kind {
-        0 | 6..=65535 => false,
         1 => true,
-        3 => 0 < sequence_in(d),
         2 | 4 | 5 => is_packet_sound(d, kind),
+        3 => 0 < sequence_in(d),
+        6 => is_order_sound(d, 6),
+        7 => is_order_sound(d, 7) & is_end_verdict_sound(d, 7),
+        8 | 9 => is_end_verdict_sound(d, kind),
+        _ => false,
     }
 }
 
@@ -69,7 +127,7 @@ pub fn is_sound(d: &[u8], kind: u16, length: u32) -> bool
     requires { ⌜ frameIn (now d) ≡ Whole kind length ⌝ }
     ensures { λ r. ⌜ r ≡ isSound (now (d .entry)) ⌝ }
 {
-    if length as usize != size_of(kind) {
+    if !is_sized(kind, length as usize) {
         return false;
     }
     is_context_sound(d) & is_body_sound(d, kind)

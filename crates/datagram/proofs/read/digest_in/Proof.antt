@@ -3,7 +3,7 @@ use native.Mathlib.Omega.{arith}
 use borrow.Author.Needs.{needs}
 use Rattle.datagram.specs.Kind.{digestPart, bodyOf, kindOf}
 use Rattle.datagram.specs.Datagram.{digestFrom}
-use Rattle.datagram.proofs.DatagramLaws.{part-room}
+use Rattle.datagram.proofs.KindLaws.{part-room}
 use Rattle.datagram.proofs.read.digest_in.Statement.{statement}
 use Rattle.datagram.proofs.read.digest_in.Tie as tie
 

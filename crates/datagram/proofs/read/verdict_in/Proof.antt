@@ -3,7 +3,7 @@ use native.Mathlib.Omega.{arith}
 use borrow.Author.Needs.{needs}
 use Rattle.datagram.specs.Kind.{verdictPart, bodyOf, kindOf}
 use Rattle.datagram.specs.Datagram.{verdictFrom}
-use Rattle.datagram.proofs.DatagramLaws.{part-room}
+use Rattle.datagram.proofs.KindLaws.{part-room}
 use Rattle.datagram.proofs.read.verdict_in.Statement.{statement}
 use Rattle.datagram.proofs.read.verdict_in.Tie as tie
 

@@ -1,8 +1,8 @@
 -- Each field is read. Assumes nothing.
 use Rattle.datagram.specs.Datagram.{packetIn}
 use borrow.Author.Needs.{needs}
-use Rattle.datagram.proofs.read.packet_at.Statement.{statement}
-use Rattle.datagram.proofs.read.packet_at.Tie as tie
+use Rattle.datagram.proofs.read.packet_in.Statement.{statement}
+use Rattle.datagram.proofs.read.packet_in.Tie as tie
 
 returns : tie.Need-returns
 unfolding packetIn
@@ -16,8 +16,8 @@ returns c =
       digest = c .digest-at .ensures i;
     }
 
-pub packet-at-spec : {M : Type 1} → statement M
-packet-at-spec =
+pub packet-in-spec : {M : Type 1} → statement M
+packet-in-spec =
     tie.close
     (tie.spec
     (λ c κs. search needs) (λ c. search needs) (λ c κs. search needs) (λ c. search needs) (λ c κs. search needs)

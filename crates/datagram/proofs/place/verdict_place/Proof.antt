@@ -1,0 +1,21 @@
+-- By the kind. Assumes nothing.
+use mathlib.Core.Path.{_≡_, refl}
+use Prim.Native.Nat.{ℕ, _+_}
+use borrow.Author.Needs.{needs}
+use Rattle.wire.specs.Choice.{_or_, withNumber}
+use Rattle.datagram.specs.Kind.{bodyFrom, packetSize, verdictPart, body, hasPart, sizeBefore, kindOf, placeOf}
+use Rattle.datagram.proofs.KindLaws.{having, by-part}
+use Rattle.datagram.proofs.place.verdict_place.Statement.{statement}
+use Rattle.datagram.proofs.place.verdict_place.Tie as tie
+
+-- of the kinds that have a verdict, all but an acknowledge have it behind the packet
+last : tie.Need-returns-2
+unfolding withNumber body hasPart sizeBefore _or_ having
+last c =
+    by-part verdictPart (λ (n : ℕ). (n ≡ 4 → ⊥) → bodyFrom + packetSize ≡ placeOf verdictPart (kindOf n))
+    (λ p. refl) (λ p. absurd (p refl)) (λ p. refl) (c .before .args .kind) (c .before .pre) (c .match .rest .1)
+
+pub verdict-place-spec : {M : Type 1} → statement M
+unfolding withNumber body sizeBefore
+verdict-place-spec =
+    tie.close (tie.spec (λ c. search needs) (λ c. search needs) (λ c. search needs) (λ c. rw (c .match .keys1)) last)
