@@ -1,20 +1,28 @@
 -- What an accepted datagram of each kind tells: the one place that opens the table of answers. Assumes nothing.
-use Rattle.wire.proofs.Prelude.{_≡_, true, false, not, List, some, ℕ, not-false}
-use Rattle.wire.specs.Names.{_and_, _or_}
+use Rattle.wire.proofs.Prelude.{_≡_, refl, sym, subst, _∙_, Bool, true, not, false, List, [], _∷_, Option, some, ℕ, _≤_}
+use Rattle.wire.proofs.Prelude.{_<_, arith, eqb-true, ltb-false, not-false}
+use Rattle.wire.specs.Names.{_and_, _or_, pick, isSome, Every}
+use Rattle.wire.proofs.Laws.{or-neither}
+use Rattle.slots.specs.declared.PortChannel.{PortChannel}
 use Rattle.slots.specs.declared.Channel.{Channel}
-use Rattle.slots.specs.Names.{hasFree, Store, isReceived}
-use Rattle.datagram.specs.Names.{Kind, send, receive, write, acknowledge, timeOut, only, Datagram}
-use Rattle.rules.specs.Names.{receivesInOrder, isReceiptThere, timesOutInOrder, isSendAtTop, isReceiveAtTop}
-use Rattle.rules.specs.Names.{isAcknowledgeAtTop, needsReceipt, Line, lowest, table, fitsDestination, fitsSource}
+use Rattle.slots.specs.Names.{topChannel, stateInit, stateTryOpen, stateOpen, versionFits, hasFree, Store, isReceived}
+use Rattle.datagram.specs.Names.{only, Kind, send, receive, write, acknowledge, timeOut, openInit, openTry}
+use Rattle.datagram.specs.Names.{openAcknowledge, openConfirm, Datagram}
+use Rattle.rules.specs.Names.{moved, receivesInOrder, isReceiptThere, timesOutInOrder, isSendAtTop}
+use Rattle.rules.specs.Names.{isReceiveAtTop, isAcknowledgeAtTop, needsReceipt, isFull, neededEnd, neededInit}
+use Rattle.rules.specs.Names.{answering, neededTryOpen, neededPeer, lowest, fitsDestination, fitsSource}
 use Rattle.rules.specs.Names.{isLateAtReceiver, isProvedLate, isCommitted, commitmentDifference}
-use Rattle.rules.specs.Names.{absenceDifference, isAcknowledgementThere}
+use Rattle.rules.specs.Names.{absenceDifference, table, Line, makesEnd, endFor, isAcknowledgementThere}
 use Rattle.rules.proofs.RefusalLaws.{givenAt, silent, not-given, no-difference}
+use Rattle.rules.proofs.VerdictLaws.{Alike, Partners, shows}
 
 pub record SendOk (s : Store) (c : Channel) : Type 0 where
+  pub state : c .state ≡ stateOpen
   pub below : isSendAtTop c ≡ false
   pub room : hasFree (s .records) ≡ true
 
 pub record ReceiveOk (s : Store) (d : Datagram) (c : Channel) : Type 0 where
+  pub state : c .state ≡ stateOpen
   pub fits : fitsDestination c (d .packet) ≡ true
   pub early : isLateAtReceiver (d .context) (d .packet .timeout) ≡ false
   pub about : commitmentDifference (d .packet) (d .verdict) ≡ 0
@@ -39,59 +47,143 @@ pub record TimeoutOk (s : Store) (d : Datagram) (c : Channel) : Type 0 where
   pub about : absenceDifference c (d .packet) (d .verdict) ≡ 0
   pub inOrder : timesOutInOrder c (d .packet .sequence) (d .verdict .sequence) ≡ true
 
+-- a new end: there is room for it and a number, and its version fits
+pub record MakeOk (s : Store) (d : Datagram) : Type 0 where
+  pub room : hasFree (s .channels) ≡ true
+  pub number : s .next ≤ topChannel
+  pub version : versionFits (d .version) ≡ true
+
+-- an end that opens was not open and keeps a counterparty that it knows, and the verdict shows its partner
+pub record OpenOk (d : Datagram) (c : Channel) (e : PortChannel) : Type 0 where
+  pub unopened : c .state < stateOpen
+  pub port : e .port ≡ c .counterparty .port
+  pub known : (c .state ≡ stateInit → ⊥) → e ≡ c .counterparty
+  pub partner : Partners (moved stateOpen e c) (d .endVerdict .end)
+
+-- what is told of a new end
+not-full : (s : Store) (d : Datagram) → isFull s ≡ false → versionFits (d .version) ≡ true → MakeOk s d
+unfolding isFull
+not-full s d h v =
+    let n = or-neither h in
+    record {
+      room = not-false (hasFree (s .channels)) (n .0);
+      number = ltb-false topChannel (s .next) (n .1);
+      version = v;
+    }
+
 module _ (bs : List ℕ) (room : ℕ) (b : List ℕ) (s : Store) (d : Datagram) (c : Channel) where
   abbrev lines : List Line
   lines = table bs room b s d c
 
-  -- from acceptance of a kind, what its line of a number gave
-  abbrev quiet : (n : ℕ) (k : Kind) → lowest (some k) lines ≡ 0 → givenAt n (some k) lines ≡ 0
+  -- from acceptance of a kind, what its lines of a number gave
+  abbrev quiet : (n : ℕ) (k : Kind) → lowest (some k) lines ≡ 0 → Every (λ m. m ≡ 0) (givenAt n (some k) lines)
   quiet n k h = silent n (some k) lines h
+
+  -- a datagram that makes no end is about one that is there
+  pub end-there : (k : Option Kind) → lowest k lines ≡ 0 → makesEnd k ≡ false → isSome (endFor s d) ≡ true
+  unfolding givenAt table
+  end-there k h n =
+      let given : Bool → List ℕ = λ b. pick (not b) (pick (not (isSome (endFor s d))) 5 0 ∷ []) [] in
+      not-false _ (not-given _ 4 ((subst (λ (b : Bool). Every (λ m. m ≡ 0) (given b)) n (silent 5 k lines h)) .0))
 
   pub send-ok : lowest (some send) lines ≡ 0 → SendOk s c
   unfolding givenAt table only _or_
   send-ok h =
       record {
-        below = not-given _ 18 (quiet 19 send h);
-        room = not-false (hasFree (s .records)) (not-given _ 19 (quiet 20 send h));
+        state = eqb-true (c .state) stateOpen (not-false _ (not-given _ 5 (quiet 6 send h .0)));
+        below = not-given _ 18 (quiet 19 send h .0);
+        room = not-false (hasFree (s .records)) (not-given _ 19 (quiet 20 send h .0));
       }
 
   pub receive-ok : lowest (some receive) lines ≡ 0 → ReceiveOk s d c
   unfolding givenAt table only _or_
   receive-ok h =
       record {
-        fits = not-false _ (not-given _ 8 (quiet 9 receive h));
-        early = not-given _ 10 (quiet 11 receive h);
-        about = no-difference _ (quiet 14 receive h);
-        inOrder = not-false _ (not-given _ 14 (quiet 15 receive h));
-        new = not-given _ 15 (quiet 16 receive h);
-        below = not-given _ 18 (quiet 19 receive h);
-        room = not-given _ 19 (quiet 20 receive h);
+        state = eqb-true (c .state) stateOpen (not-false _ (not-given _ 5 (quiet 6 receive h .0)));
+        fits = not-false _ (not-given _ 8 (quiet 9 receive h .0));
+        early = not-given _ 10 (quiet 11 receive h .0);
+        about = no-difference _ (quiet 14 receive h .0);
+        inOrder = not-false _ (not-given _ 14 (quiet 15 receive h .0));
+        new = not-given _ 15 (quiet 16 receive h .0);
+        below = not-given _ 18 (quiet 19 receive h .0);
+        room = not-given _ 19 (quiet 20 receive h .0);
       }
 
   pub write-ok : lowest (some write) lines ≡ 0 → WriteOk s d c
   unfolding givenAt table only _or_
   write-ok h =
       record {
-        new = not-given _ 15 (quiet 16 write h);
-        received = not-false _ (not-given _ 16 (quiet 17 write h));
-        room = not-false (hasFree (s .records)) (not-given _ 19 (quiet 20 write h));
+        new = not-given _ 15 (quiet 16 write h .0);
+        received = not-false _ (not-given _ 16 (quiet 17 write h .0));
+        room = not-false (hasFree (s .records)) (not-given _ 19 (quiet 20 write h .0));
       }
 
   pub acknowledge-ok : lowest (some acknowledge) lines ≡ 0 → AcknowledgeOk s d c
   unfolding givenAt table only _or_
   acknowledge-ok h =
       record {
-        committed = not-false _ (not-given _ 12 (quiet 13 acknowledge h));
-        below = not-given _ 18 (quiet 19 acknowledge h);
+        committed = not-false _ (not-given _ 12 (quiet 13 acknowledge h .0));
+        below = not-given _ 18 (quiet 19 acknowledge h .0);
       }
 
   pub timeout-ok : lowest (some timeOut) lines ≡ 0 → TimeoutOk s d c
   unfolding givenAt table only _or_
   timeout-ok h =
       record {
-        fits = not-false _ (not-given _ 8 (quiet 9 timeOut h));
-        late = not-false _ (not-given _ 11 (quiet 12 timeOut h));
-        committed = not-false _ (not-given _ 12 (quiet 13 timeOut h));
-        about = no-difference _ (quiet 14 timeOut h);
-        inOrder = not-false _ (not-given _ 14 (quiet 15 timeOut h));
+        fits = not-false _ (not-given _ 8 (quiet 9 timeOut h .0));
+        late = not-false _ (not-given _ 11 (quiet 12 timeOut h .0));
+        committed = not-false _ (not-given _ 12 (quiet 13 timeOut h .0));
+        about = no-difference _ (quiet 14 timeOut h .0);
+        inOrder = not-false _ (not-given _ 14 (quiet 15 timeOut h .0));
+      }
+
+  pub init-ok : lowest (some openInit) lines ≡ 0 → MakeOk s d
+  unfolding givenAt table only _or_
+  init-ok h =
+      not-full s d (not-given _ 24 (quiet 25 openInit h .0)) (not-false _ (not-given _ 26 (quiet 27 openInit h .0)))
+
+  pub try-ok : lowest (some openTry) lines ≡ 0 → MakeOk s d × Alike (d .endVerdict .end) (neededInit d)
+  unfolding givenAt table only _or_
+  try-ok h = (
+    not-full s d (not-given _ 24 (quiet 25 openTry h .0)) (not-false _ (not-given _ 26 (quiet 27 openTry h .0))),
+    shows (d .endVerdict) (neededInit d) (no-difference _ (quiet 14 openTry h .0))
+        (not-false _ (not-given _ 26 (quiet 27 openTry h .1 .0))),
+  )
+
+  -- the record that a verdict must show for an end to open is its partner's
+  shows-partner : (n : ℕ) (e : PortChannel) → (n ≡ stateInit → ⊥) →
+      Alike (d .endVerdict .end) (neededEnd n (c .order) e (c .own) (c .version)) →
+      Partners (moved stateOpen e c) (d .endVerdict .end)
+  unfolding neededEnd moved
+  shows-partner n e h a =
+      record {
+        peers = record { own = a .one .own; counterparty = a .one .counterparty; order = a .one .order };
+        version = a .one .version;
+        begun = λ q. h (sym (a .state) ∙ q);
+      }
+
+  pub open-acknowledge-ok : lowest (some openAcknowledge) lines ≡ 0 → OpenOk d c (answering c d)
+  unfolding givenAt table only _or_ neededTryOpen answering
+  open-acknowledge-ok h =
+      let k = eqb-true (c .state) stateInit (not-false _ (not-given _ 25 (quiet 26 openAcknowledge h .0))) in
+      record {
+        unopened = omega arith;
+        port = refl;
+        known = λ n. absurd (n k);
+        partner = shows-partner stateTryOpen (answering c d) (λ q. omega arith)
+            (shows (d .endVerdict) (neededTryOpen c d) (no-difference _ (quiet 14 openAcknowledge h .0))
+            (not-false _ (not-given _ 26 (quiet 27 openAcknowledge h .0))));
+      }
+
+  pub open-confirm-ok : lowest (some openConfirm) lines ≡ 0 → OpenOk d c (c .counterparty)
+  unfolding givenAt table only _or_ neededPeer
+  open-confirm-ok h =
+      let k = eqb-true (c .state) stateTryOpen (not-false _ (not-given _ 25 (quiet 26 openConfirm h .0))) in
+      record {
+        unopened = omega arith;
+        port = refl;
+        known = λ n. refl;
+        partner = shows-partner stateOpen (c .counterparty) (λ q. omega arith)
+            (shows (d .endVerdict) (neededPeer stateOpen c) (no-difference _ (quiet 14 openConfirm h .0))
+            (not-false _ (not-given _ 26 (quiet 27 openConfirm h .0))));
       }

@@ -1,21 +1,27 @@
 -- Demand 3, for every pair of made stores and every list of calls. Assumes nothing.
-use Rattle.wire.proofs.Prelude.{_≡_, sym, ap, _∙_, List, Option, ℕ, eqb, length, eqb-true}
-use Rattle.wire.specs.Names.{Bytes}
+use Rattle.wire.proofs.Prelude.{_≡_, refl, sym, ap, _∙_, List, [], _++_, Option, ℕ, eqb, length, eqb-true}
+use Rattle.wire.specs.Names.{_or_, little, Bytes}
 use Rattle.wire.proofs.Laws.{cases}
 use Rattle.slots.specs.declared.Channel.{Channel}
-use Rattle.datagram.specs.Names.{Kind}
+use Rattle.slots.specs.Names.{storeIn}
+use Rattle.datagram.specs.Names.{only, Kind, Datagram, framed, madeKind}
 use Rattle.rules.specs.declared.Told.{Told}
-use Rattle.rules.specs.Names.{orNone, refusals, sentPacket, effectOf, effectFor, answerTo, effectIn, called, Call}
-use Rattle.rules.specs.Names.{datagramGot, Met, endOf, Recorded, Answered, Demand3Holds}
+use Rattle.rules.specs.Names.{newEnd, makesEnd, opensEnd, orNone, refusals, sentPacket, makes, moves, effectOf}
+use Rattle.rules.specs.Names.{effectFor, answerTo, effectIn, called, Call, datagramGot, Met, endOf, Recorded}
+use Rattle.rules.specs.Names.{Answered, Demand3Holds}
 use Rattle.rules.proofs.RefusalLaws.{lowest-zero}
-use Rattle.rules.proofs.Acted.{acted, acted-number, acted-sent, acted-carried, accepted-store, accepted-record}
-use Rattle.rules.proofs.Acted.{accepted-size}
-use Rattle.rules.proofs.Acted.{accepted-rest, refused-call}
+use Rattle.rules.proofs.KindLaws.{those, of-kinds, packets-record, recordOf}
+use Rattle.rules.proofs.Acted.{accepted-store, accepted-size, accepted-record, accepted-rest, refused-call}
+use Rattle.rules.proofs.Acted.{acted, acted-sent, acted-carried}
 use Rattle.rules.proofs.History.{World, got-bytes}
 use Rattle.rules.proofs.Sums.{sums}
 use Rattle.rules.proofs.Once.{finished-once}
+use Rattle.rules.proofs.Ends.{ends-stay, numbers-rise}
+use Rattle.rules.proofs.Tries.{tries-answer}
+use Rattle.rules.proofs.Pairing.{stay-paired, opens-once}
 use Rattle.rules.proofs.Delivery.{delivered-once, in-order}
-use Rattle.rules.proofs.Truth.{as-sent, not-both}
+use Rattle.rules.proofs.Truth.{as-sent}
+use Rattle.rules.proofs.Timeouts.{not-both}
 
 -- the number is the table's, whichever way the call went
 number : (bs o b : List ℕ) → called bs o b .told .number ≡ answerTo bs o b
@@ -23,15 +29,22 @@ unfolding called
 number bs o b = cases (eqb (answerTo bs o b) 0) (λ e. let q = eqb-true (answerTo bs o b) 0 e in cc) (λ e. cc)
 
 recorded : (c : Call) (m : Met c) → Bytes (c .store) → Bytes (c .datagram) → c .told .number ≡ 0 → Recorded c
-unfolding effectIn effectFor effectOf
+unfolding effectIn effectFor effectOf makes moves newEnd those only _or_
 recorded c m p q t =
     let a = acted c m p q t in
+    let d : Datagram = datagramGot c in
+    let n : ℕ = storeIn (c .store) .next in
+    let e = accepted-record c m t in
     record {
-      kind = acted-number a;
-      sent = λ k. acted-sent a k ∙ ap (λ (e : Channel). sentPacket e (datagramGot c))
-          (sym (ap orNone (a .step .found)));
+      kind = λ k h o. a .kind ∙ ap recordOf h ∙ packets-record k o;
+      sent = λ k. acted-sent a k ∙ ap (λ (e : Channel). sentPacket e d)
+          (sym (ap orNone (a .step .found (ap makesEnd k))));
       carried = acted-carried a;
-      written = λ k. accepted-record c m t ∙ ap (λ (x : Option Kind). effectFor x (endOf c) (datagramGot c) .emitted) k;
+      written = λ k. e ∙ ap (λ (x : Option Kind). effectFor x n (endOf c) d .emitted) k;
+      made = λ k. e ∙ of-kinds (λ x. effectFor x n (endOf c) d .emitted ≡
+          framed madeKind (little 2 (d .context .port) ++ little 4 n)) makesEnd refl (d .kind) (refl, (refl, tt)) k;
+      nothing = λ k. e ∙ of-kinds (λ x. effectFor x n (endOf c) d .emitted ≡ []) opensEnd refl (d .kind)
+          (refl, (refl, tt)) k;
     }
 
 answered : (c : Call) → Met c → Bytes (c .store) → Bytes (c .datagram) → Answered c
@@ -59,6 +72,11 @@ demand3 start cs made run =
       sums = sums w;
       finishedOnce = finished-once w;
       inOrder = in-order w;
+      endsStay = ends-stay w;
+      numbersRise = numbers-rise w;
+      triesAnswer = tries-answer w;
+      stayPaired = stay-paired w;
+      opensOnce = opens-once w;
       deliveredOnce = delivered-once w;
       asSent = λ p h. as-sent w h p;
       notBoth = λ p h. not-both w h p;

@@ -1,130 +1,120 @@
--- Ends and their peers: an end is the made one, grown; and the end that it names is the only one that names it back.
--- Pairing is used here and nowhere else. Assumes nothing.
-use Rattle.wire.proofs.Prelude.{_≡_, refl, sym, ap, subst, _∙_, true, _⊎_, inl, inr, Option, none, some, ℕ, arith}
-use Rattle.wire.proofs.Prelude.{eqb-true}
+-- With paired openings and true verdicts of the steps by which ends open, each end that has opened names an end that
+-- names it, and two that name one end are one. Pairing is used here and nowhere else. Assumes nothing.
+use Rattle.wire.proofs.Prelude.{_≡_, refl, sym, ap, _∙_, true, inl, inr, ⊎-elim, some, ℕ, _≤_, suc, arith, leb-true}
+use Rattle.wire.proofs.Prelude.{eq-eqb}
 use Rattle.wire.specs.Names.{_or_}
-use Rattle.wire.proofs.Laws.{and-both}
 use Rattle.slots.specs.declared.PortChannel.{PortChannel}
 use Rattle.slots.specs.declared.Channel.{Channel}
-use Rattle.slots.specs.Names.{channelAt, samePortChannel, Store, storeIn}
-use Rattle.slots.specs.Names.{stateClosed}
-use Rattle.datagram.specs.declared.Packet.{Packet}
-use Rattle.datagram.specs.Names.{receive, body, hasPart}
-use Rattle.rules.specs.Names.{fitsDestination, Side, across, Call, datagramGot, At, fold, Paired, Peers, packetOf}
-use Rattle.rules.specs.Names.{isDelivery}
-use Rattle.rules.proofs.Step.{Grown, Later, later, later-refl}
-use Rattle.rules.proofs.Receipt.{receive-of, receive-destination, receive-found}
-use Rattle.rules.proofs.History.{World, ledger, kept}
-use Rattle.rules.proofs.Once.{Did, did, did-packet}
-
-grown-trans : (a c e : Channel) → Grown a c → Grown c e → Grown a e
-grown-trans a c e g h =
-    let i = g .send in let j = h .send in let k = g .receive in let l = h .receive in let m = g .acknowledge in let n =
-    h .acknowledge in
-    record {
-      own = h .own ∙ g .own;
-      counterparty = h .counterparty ∙ g .counterparty;
-      order = h .order ∙ g .order;
-      send = omega arith;
-      receive = omega arith;
-      acknowledge = omega arith;
-      state = state (g .state) (h .state);
-    }
-  where
-    state : (c .state ≡ a .state) ⊎ (c .state ≡ stateClosed) → (e .state ≡ c .state) ⊎ (e .state ≡ stateClosed) →
-        (e .state ≡ a .state) ⊎ (e .state ≡ stateClosed)
-    state p (inr q) = inr q
-    state (inl p) (inl q) = inl (q ∙ p)
-    state (inr p) (inl q) = inr (q ∙ p)
-
-later-trans : (x y z : Option Channel) → Later x y → Later y z → Later x z
-later-trans none none z p q = q
-later-trans none (some c) z p q = absurd p
-later-trans (some a) none z p q = absurd p
-later-trans (some a) (some c) none p q = q
-later-trans (some a) (some c) (some e) p q = grown-trans a c e p q
-
-later-back : (x y : Option Channel) (e : Channel) → Later x y → y ≡ some e → (c : Channel) × (x ≡ some c) × Grown c e
-later-back x none e l h = let z : _≡_ {A = ℕ} 0 1 = cc in absurd (omega arith)
-later-back none (some c) e l h = absurd l
-later-back (some a) (some c) e l h = let z : c ≡ e = cc in (a, refl, subst (Grown a) z l)
+use Rattle.slots.specs.Names.{stateOpen, noVersion, channelAt, storeIn}
+use Rattle.slots.proofs.Laws.{channel-number}
+use Rattle.openings.specs.Opening.{openingOf}
+use Rattle.datagram.specs.Names.{only, body, hasPart, endVerdictPart, bodyOf}
+use Rattle.rules.specs.Names.{opensEnd, fold, Side, across, datagramGot, Paired, StayPaired, OpensOnce, Honest}
+use Rattle.rules.specs.Names.{NoneIsPaired}
+use Rattle.rules.proofs.KindLaws.{those, of-kinds}
+use Rattle.rules.proofs.VerdictLaws.{Partners, partners-one, one-refl}
+use Rattle.rules.proofs.Growth.{Grown, grown-one, grown-begun}
+use Rattle.rules.proofs.Opening.{Opens, opened-by}
+use Rattle.rules.proofs.History.{as-made, made-none, World, ledger, Turn}
+use Rattle.rules.proofs.Ends.{stays-there, one-end, sends-opened, holds-since}
+use Rattle.rules.proofs.Block.{seen}
 
 module _ (w : World) where
-  -- an end at any time is the made one, grown
-  pub made-end : (z : Side) (i n : ℕ) (c : Channel) → channelAt n (ledger w z i .channels) ≡ some c →
-      (b : Channel) × (channelAt n (storeIn (w .start z) .channels) ≡ some b) × Grown b c
-  unfolding fold
-  made-end z i n c h =
-      let start = channelAt n (storeIn (w .start z) .channels) in
-      later-back start (channelAt n (ledger w z i .channels)) c
-      (kept w (λ (s : Store). Later start (channelAt n (s .channels)))
-      (λ s t d st l. later-trans start (channelAt n (s .channels)) (channelAt n (t .channels)) l (later st n)) z 0 i
-      (omega arith) (later-refl start)) h
-
-  -- the end that it names, as it was made
-  pub peer : Paired (w .start) → (z : Side) (i n : ℕ) (c : Channel) → channelAt n (ledger w z i .channels) ≡ some c →
-      (d : Channel) × (channelAt (c .counterparty .channel) (storeIn (w .start (across z)) .channels) ≡ some d) ×
-      Peers c d
-  peer pairs z i n c h =
-      let b = made-end z i n c h in
-      let g = b .2 in
-      let q = pairs z n (b .0) (b .1) in
-      let r = q .2 in (
-        q .0,
-        ap (λ (e : PortChannel). channelAt (e .channel) (storeIn (w .start (across z)) .channels))
-            (g .counterparty) ∙ q .1,
-        record {
-          own = r .own ∙ sym (g .counterparty);
-          counterparty = r .counterparty ∙ sym (g .own);
-          order =
-              r .order ∙ sym (g .order);
-        },
-      )
-
-  -- A DELIVERY, on the end that its packet names
-  pub record Delivered (i : ℕ) (c : Call) : Type 0 where
-    pub did : Did w receive i c
-    pub packet : packetOf c ≡ datagramGot c .packet
+  -- THE PARTNER of an end: the end that it names is there, is not INIT and names it
+  pub record Partner (z : Side) (i : ℕ) (c : Channel) : Type 0 where
     pub end : Channel
-    pub found : channelAt (packetOf c .destination .channel) (ledger w (c .side) i .channels) ≡ some end
-    pub source : packetOf c .source ≡ end .counterparty
-    pub destination : packetOf c .destination ≡ end .own
+    pub found : channelAt (c .counterparty .channel) (ledger w (across z) i .channels) ≡ some end
+    pub partners : Partners c end
 
-  pub same-port-channel : (a b : PortChannel) → samePortChannel a b ≡ true → a ≡ b
-  unfolding samePortChannel
-  same-port-channel a b h =
-      let p = eqb-true (a .port) (b .port) (and-both h .0) in
-      let q = eqb-true (a .channel) (b .channel) (and-both h .1) in
-      λ i. record { port = p i; channel = q i }
-
-  pub delivered : (i : ℕ) (c : Call) → At (w .calls) i c → isDelivery c ≡ true → Delivered i c
-  unfolding fitsDestination body hasPart _or_
-  delivered i c h e =
-      let d = did w receive i c h e in
-      let st = d .acts .acted .step in
-      let q = did-packet w receive i c d refl in
-      let f = and-both (receive-of st (d .kind) .0 .fits) in
-      let port = eqb-true (datagramGot c .packet .destination .port) (st .channel .own .port) (f .0) in
-      let number = sym (receive-destination st (d .kind)) in
-      let own : datagramGot c .packet .destination ≡ st .channel .own =
-      λ j. record { port = port j; channel = number j } in
+  -- it stays, and so it does for the end as it grows
+  partner-later : (z : Side) (i j : ℕ) (c : Channel) → i ≤ j → Partner z i c → Partner z j c
+  partner-later z i j c l p =
+      let a = stays-there w (across z) i j _ (p .end) l (p .found) in
+      let b = p .partners .begun in
       record {
-        did = d;
-        packet = q;
-        end = st .channel;
-        found = rw q (receive-found st (d .kind));
-        source = ap (λ (p : Packet). p .source) q ∙ same-port-channel _ _ (f .1);
-        destination = ap (λ (p : Packet). p .destination) q ∙ own;
+        end = a .0;
+        found = a .1;
+        partners = partners-one (p .partners) (one-refl c) (grown-one (a .2) b) (grown-begun (a .2) b);
       }
 
-  -- the sender's end of a delivery, as it was made
-  pub sender-end : Paired (w .start) → (i : ℕ) (c : Call) (d : Delivered i c) →
-      (b : Channel) × (channelAt (packetOf c .source .channel)
-      (storeIn (w .start (across (c .side))) .channels) ≡ some b) × Peers (d .end) b
-  sender-end pairs i c d =
-      let q = peer pairs (c .side) i (packetOf c .destination .channel) (d .end) (d .found) in (
-        q .0,
-        ap (λ (e : PortChannel). channelAt (e .channel) (storeIn (w .start (across (c .side))) .channels)) (d .source) ∙
-            q .1,
-        q .2,
-      )
+  partner-grown : (z : Side) (i : ℕ) (c e : Channel) → Grown c e → stateOpen ≤ c .state → Partner z i c →
+      Partner z (suc i) e
+  partner-grown z i c e g l p =
+      let m = grown-one g (λ q. omega arith) in
+      partner-later z i (suc i) e (omega arith) (record {
+        end = p .end;
+        found = ap (λ (x : PortChannel). channelAt (x .channel) (ledger w (across z) i .channels))
+            (sym (m .counterparty)) ∙ p .found;
+        partners = partners-one (p .partners) m (one-refl (p .end)) (p .partners .begun);
+      })
+
+  module _ (pairs : Paired (w .start)) (honest : Honest opensEnd (w .start) (w .calls)) where
+    -- as the stores were made
+    partner-made : (z : Side) (n : ℕ) (c : Channel) → channelAt n (storeIn (w .start z) .channels) ≡ some c →
+        Partner z 0 c
+    unfolding fold openingOf
+    partner-made z n c h =
+        let q = pairs z n c h in
+        let made : Channel → Type 0 = λ e. (e .state ≡ stateOpen) × (e .version ≡ noVersion) in
+        let a = as-made (w .start z) (w .made z) made (λ o. (refl, refl)) n c h in
+        let b = as-made (w .start (across z)) (w .made (across z)) made (λ o. (refl, refl)) _ (q .0) (q .1) in
+        let k = b .0 in
+        record {
+          end = q .0;
+          found = q .1;
+          partners = record { peers = q .2; version = b .1 ∙ sym (a .1); begun = λ e. omega arith };
+        }
+
+    -- as the step's verdict shows it
+    partner-shown : (z : Side) (i : ℕ) (u : Turn w z i) (c : Channel) → Opens (u .acts .acted .step) c → Partner z i c
+    unfolding those body hasPart only _or_
+    partner-shown z i u c o =
+        let a = u .acts in
+        let d = datagramGot (u .call) in
+        let p = o .partner in
+        let x = seen w z i u (honest i (u .call) (a .at) (eq-eqb (u .call .told .number) 0 (a .told)) (o .kind))
+        (of-kinds (λ y. hasPart endVerdictPart (bodyOf y) ≡ true) opensEnd refl (d .kind) (refl, (refl, tt))
+        (o .kind)) in
+        partner-later z (x .time) i c (x .earlier) (record {
+          end = x .end;
+          found =
+              ap (λ (e : PortChannel). channelAt (e .channel) (ledger w (across z) (x .time) .channels))
+              (sym (p .peers .own)) ∙ x .found;
+          partners = partners-one p (one-refl c) (x .alike .one) (λ e. p .begun (x .alike .state ∙ e));
+        })
+
+    -- EVERY END THAT HAS OPENED has its partner
+    pub partner : (z : Side) (i n : ℕ) (c : Channel) → channelAt n (ledger w z i .channels) ≡ some c →
+        stateOpen ≤ c .state → Partner z i c
+    partner =
+        holds-since w (λ c. stateOpen ≤ c .state) Partner (λ z n c f l. partner-made z n c f) partner-grown
+        (λ z i u n e h l. ⊎-elim (λ x. inl x)
+        (λ o. inr (partner-later z i (suc i) e (omega arith) (partner-shown z i u e o)))
+        (opened-by (u .acts .acted .step) (sends-opened w z i) n e h l))
+
+    pub stay-paired : StayPaired (w .start) (w .calls)
+    stay-paired z i n c h o =
+        let p = partner z i n c h (leb-true stateOpen (c .state) o) in
+        (p .end, p .found, p .partners .peers, p .partners .version)
+
+    -- TWO ENDS THAT NAME ONE END are one
+    pub one-names : (z : Side) (i j n m : ℕ) (c e : Channel) → channelAt n (ledger w z i .channels) ≡ some c →
+        channelAt m (ledger w z j .channels) ≡ some e →
+        stateOpen ≤ c .state → stateOpen ≤ e .state → c .counterparty .channel ≡ e .counterparty .channel →
+        c .own ≡ e .own
+    one-names z i j n m c e f g k l q =
+        let p = partner z i n c f k in
+        let r = partner z j m e g l in
+        let a = one-end w (across z) i j (c .counterparty .channel) (p .end) (r .end) (p .found)
+        (ap (λ (x : ℕ). channelAt x (ledger w (across z) j .channels)) q ∙ r .found) (p .partners .begun)
+        (r .partners .begun) in
+        sym (p .partners .peers .counterparty) ∙ a .counterparty ∙ r .partners .peers .counterparty
+
+    pub opens-once : OpensOnce (w .start) (w .calls)
+    opens-once z i j n m c e f g k l q =
+        let o = one-names z i j n m c e f g (leb-true stateOpen (c .state) k) (leb-true stateOpen (e .state) l) q in
+        sym (channel-number n _ c f) ∙ ap (λ (x : PortChannel). x .channel) o ∙ channel-number m _ e g
+
+-- STORES WITH NO OPENINGS are paired
+pub none-is-paired : NoneIsPaired
+none-is-paired start made empty z n c h = absurd (made-none (start z) (made z) (empty z) n c h)

@@ -1,22 +1,24 @@
 -- One accepted call and what is received: it stays received, and a delivery was not received before and is afterwards.
 -- Assumes nothing.
-use Rattle.wire.proofs.Prelude.{_≡_, refl, sym, ap, subst, _∙_, true, List, Option, some, ℕ, suc, arith, eqb, eqb-true}
-use Rattle.wire.proofs.Prelude.{eqb-false}
-use Rattle.wire.proofs.Laws.{clash, cases, of-pick}
+use Rattle.wire.proofs.Prelude.{_≡_, refl, sym, ap, subst, _∙_, true, false, List, Option, none, some, ℕ, suc, arith}
+use Rattle.wire.proofs.Prelude.{eqb}
+use Rattle.wire.specs.Names.{_or_}
+use Rattle.wire.proofs.Laws.{clash, of-pick}
 use Rattle.slots.specs.declared.Channel.{Channel}
 use Rattle.slots.specs.declared.Record.{Record}
-use Rattle.slots.specs.Names.{receiptKey, channelAt, hasFree, Store, isOrdered, isReceived}
-use Rattle.slots.specs.Names.{orderOrdered}
-use Rattle.datagram.specs.Names.{send, receive, write, acknowledge, timeOut, Datagram}
+use Rattle.slots.specs.Names.{orderOrdered, hasFree, channelAt, receiptKey, Store, isOrdered, isReceived}
+use Rattle.slots.proofs.Laws.{channel-number}
+use Rattle.datagram.specs.Names.{only, send, receive, write, acknowledge, timeOut, Datagram}
 use Rattle.datagram.proofs.Laws.{kinds-apart}
-use Rattle.rules.specs.Names.{counted, closed, receivedEnd, receivedEdit, raisesAcknowledge, raisedAcknowledge}
-use Rattle.rules.specs.Names.{acknowledgedEnd, timedOutEnd, Effect, sends, receives}
-use Rattle.rules.specs.Names.{writesAcknowledgement, acknowledges, timesOut, edited}
+use Rattle.rules.specs.Names.{counted, moved, receivedEnd, receivedEdit, raisesAcknowledge, acknowledgedEnd}
+use Rattle.rules.specs.Names.{timedOutEnd, raisedAcknowledge, closed, makesEnd, opensEnd, sends, receives}
+use Rattle.rules.specs.Names.{writesAcknowledgement, acknowledges, timesOut, makes, moves, edited, Effect}
 use Rattle.rules.proofs.Accepted.{ReceiveOk}
-use Rattle.rules.proofs.Step.{How, sending, receiving, writing, acknowledging, timing, Step, single, later}
-use Rattle.rules.proofs.Step.{record-stays, records-left, own-number, own-found, own-grown, own-after}
-use Rattle.rules.proofs.Step.{other-after, endLeft, ownLeft}
-use Rattle.rules.proofs.Commitment.{later-some}
+use Rattle.rules.proofs.Growth.{Grown}
+use Rattle.rules.proofs.Step.{How, sending, receiving, writing, acknowledging, timing, making, moving, Step}
+use Rattle.rules.proofs.Step.{makes-fresh, endLeft, Change, unchanged, changed, added, later-some, leftEnd}
+use Rattle.rules.proofs.Step.{own-number, own-found, own-grown, own-after, change, later}
+use Rattle.rules.proofs.Records.{single, records-left, record-stays}
 use Rattle.rules.proofs.OrderingLaws as ordering
 
 pub record Received (s : Store) (n m : ℕ) : Type 0 where
@@ -26,7 +28,7 @@ pub record Received (s : Store) (n m : ℕ) : Type 0 where
 
 pub received-stays : {s t : Store} {d : Datagram} {n m : ℕ} → Step s d t → Received s n m → Received t n m
 received-stays {s} {t} {n = n} {m} st r =
-    let l = later-some (channelAt n (s .channels)) (channelAt n (t .channels)) (r .channel) (later st n) (r .found) in
+    let l = later-some (s .next) _ _ (r .channel) (later st n) (r .found) in
     let g = l .2 in
     record {
       channel = l .0;
@@ -39,6 +41,7 @@ received-stays {s} {t} {n = n} {m} st r =
 -- A DELIVERY
 module _ {s t : Store} {d : Datagram} (st : Step s d t) (k : d .kind ≡ some receive) where
   pub receive-of : ReceiveOk s d (st .channel) × (st .effect ≡ receives (st .channel) (d .packet))
+  unfolding only _or_
   receive-of = go (st .effect) (st .how)
     where
       go : (e : Effect) → How s d (st .channel) e → ReceiveOk s d (st .channel) ×
@@ -48,12 +51,18 @@ module _ {s t : Store} {d : Datagram} (st : Step s d t) (k : d .kind ≡ some re
       go e (writing q ok) = kinds-apart write receive q k refl
       go e (acknowledging q ok) = kinds-apart acknowledge receive q k refl
       go e (timing q ok) = kinds-apart timeOut receive q k refl
+      go e (making q ok m) = clash q (ap makesEnd k)
+      go e (moving q ok) = clash q (ap opensEnd k)
+
+  receive-old : makesEnd (d .kind) ≡ false
+  unfolding only _or_
+  receive-old = ap makesEnd k
 
   pub receive-destination : st .channel .own .channel ≡ d .packet .destination .channel
-  receive-destination = own-number st ∙ st .shape .toDestination k
+  receive-destination = own-number st receive-old ∙ st .shape .toDestination k
 
   pub receive-found : channelAt (d .packet .destination .channel) (s .channels) ≡ some (st .channel)
-  receive-found = ap (λ (n : ℕ). channelAt n (s .channels)) (sym receive-destination) ∙ own-found st
+  receive-found = ap (λ (n : ℕ). channelAt n (s .channels)) (sym receive-destination) ∙ own-found st receive-old
 
   pub receive-first : Received s (d .packet .destination .channel) (d .packet .sequence) → ⊥
   receive-first r =
@@ -64,9 +73,14 @@ module _ {s t : Store} {d : Datagram} (st : Step s d t) (k : d .kind ≡ some re
       clash (subst (λ (c : Channel). isReceived (s .records) c (d .packet .sequence) ≡ true) e (r .received))
       (ordering.receive-new (s .records) (st .channel) (d .packet .sequence) (ok .inOrder) (ok .new))
 
-  pub receive-end : ownLeft st ≡ receivedEnd (st .channel)
+  receive-end : leftEnd st ≡ receivedEnd (st .channel)
   unfolding receives
-  receive-end = ap (λ (e : Effect). endLeft (e .ends) (st .channel)) (receive-of .1)
+  receive-end = ap (λ (e : Effect). endLeft (st .channel) (e .ends)) (receive-of .1)
+
+  receive-after : channelAt (d .packet .destination .channel) (t .channels) ≡ some (receivedEnd (st .channel))
+  receive-after =
+      ap (λ (n : ℕ). channelAt n (t .channels)) (sym receive-destination) ∙ own-after st receive-old ∙
+      ap some receive-end
 
   pub receive-makes : Received t (d .packet .destination .channel) (d .packet .sequence)
   unfolding receives
@@ -78,22 +92,19 @@ module _ {s t : Store} {d : Datagram} (st : Step s d t) (k : d .kind ≡ some re
       records-left st ∙ ap (λ (e : Effect). edited (e .edit) (s .records)) (receive-of .1) in
       record {
         channel = receivedEnd (st .channel);
-        found = ap (λ (n : ℕ). channelAt n (t .channels)) (sym receive-destination) ∙ own-after st ∙
-            ap some receive-end;
+        found = receive-after;
         received = ap (λ (rs : List (Option Record)). isReceived rs (receivedEnd (st .channel)) (d .packet .sequence))
             w ∙ q;
       }
 
--- AN ORDERED END and the sequence that it waits for
-pub record Waits (s : Store) (n m : ℕ) : Type 0 where
-  pub channel : Channel
-  pub found : channelAt n (s .channels) ≡ some channel
-  pub ordered : isOrdered channel ≡ true
-  pub next : channel .next .receive ≡ m
+-- AN ORDERED END after so many deliveries waits for the next sequence; where no end is there was no delivery
+abbrev pub Waits : (deliveries : ℕ) → Option Channel → Type 0
+Waits m none = m ≡ 0
+Waits m (some c) = isOrdered c ≡ true → c .next .receive ≡ suc m
 
 receive-kept : {s : Store} {d : Datagram} {c : Channel} {e : Effect} → How s d c e → (d .kind ≡ some receive → ⊥) →
-    endLeft (e .ends) c .next .receive ≡ c .next .receive
-unfolding sends writesAcknowledgement acknowledges timesOut acknowledgedEnd timedOutEnd counted closed
+    endLeft c (e .ends) .next .receive ≡ c .next .receive
+unfolding sends writesAcknowledgement acknowledges timesOut makes moves acknowledgedEnd timedOutEnd counted moved
 receive-kept {c = c} (sending q ok) k = refl
 receive-kept {c = c} (receiving q ok) k = absurd (k q)
 receive-kept {c = c} (writing q ok) k = refl
@@ -102,50 +113,48 @@ receive-kept {c = c} (acknowledging q ok) k =
     (counted c (raisedAcknowledge (c .next))) c (λ q. refl) (λ q. refl)
 receive-kept {c = c} (timing q ok) k =
     of-pick (λ (x : Channel). x .next .receive ≡ c .next .receive) (isOrdered c) (closed c) c (λ q. refl) (λ q. refl)
+receive-kept {c = c} (making q ok m) k = refl
+receive-kept {c = c} (moving q ok) k = refl
 
-module _ {s t : Store} {d : Datagram} {n m : ℕ} (st : Step s d t) (w : Waits s n m) where
-  own-waits : st .channel .own .channel ≡ n → st .channel ≡ w .channel
-  own-waits q =
-      let f = w .found in
-      let g : channelAt n (s .channels) ≡ some (st .channel) = ap (λ (k : ℕ). channelAt k (s .channels)) (sym q) ∙
-      own-found st in
-      cc
+-- an end is ordered if it was
+still-ordered : {c e : Channel} → Grown c e → isOrdered e ≡ true → isOrdered c ≡ true
+unfolding isOrdered
+still-ordered g o = ap (λ (k : ℕ). eqb k orderOrdered) (sym (g .order)) ∙ o
 
-  own-order : st .channel .own .channel ≡ n → isOrdered (ownLeft st) ≡ true
-  unfolding isOrdered
-  own-order q =
-      ap (λ (k : ℕ). eqb k orderOrdered) (own-grown st .order) ∙
-      ap (λ (c : Channel). eqb (c .order) orderOrdered) (own-waits q) ∙ w .ordered
-
-  waits-own : st .channel .own .channel ≡ n → (j : ℕ) → ownLeft st .next .receive ≡ j → Waits t n j
-  waits-own q j h =
-      record {
-        channel = ownLeft st;
-        found = ap (λ (k : ℕ). channelAt k (t .channels)) (sym q) ∙ own-after st;
-        ordered = own-order q;
-        next = h;
-      }
-
+module _ {s t : Store} {d : Datagram} (st : Step s d t) (n m : ℕ) (w : Waits m (channelAt n (s .channels))) where
   -- a call that delivers nothing there leaves it waiting
-  pub waits-on : (d .kind ≡ some receive → d .packet .destination .channel ≡ n → ⊥) → Waits t n m
-  waits-on h =
-      cases (eqb (st .channel .own .channel) n)
-      (λ q.
-      let e = eqb-true (st .channel .own .channel) n q in
-      waits-own e m (receive-kept (st .how) (λ k. h k (sym (receive-destination st k) ∙ e)) ∙
-      ap (λ (c : Channel). c .next .receive) (own-waits e) ∙ w .next)) (λ q. record {
-        channel = w .channel;
-        found = other-after st n (eqb-false (st .channel .own .channel) n q) ∙ w .found;
-        ordered = w .ordered;
-        next = w .next;
-      })
+  pub waits-on : (d .kind ≡ some receive → d .packet .destination .channel ≡ n → ⊥) →
+      Waits m (channelAt n (t .channels))
+  waits-on h = go (change st n)
+    where
+      go : Change s d t (st .channel) (leftEnd st) n → Waits m (channelAt n (t .channels))
+      go (unchanged q) = subst (Waits m) (sym q) w
+      go (changed f g) =
+          let v : Waits m (some (st .channel)) = subst (Waits m) f w in
+          let e = channel-number n (s .channels) (st .channel) f in
+          subst (Waits m) (sym g) (λ o. receive-kept (st .how) (λ k. h k (sym (receive-destination st k) ∙ e)) ∙
+          v (still-ordered (own-grown st) o))
+      go (added x f g) =
+          let z : m ≡ 0 = subst (Waits m) f w in
+          subst (Waits m) (sym g) (λ o. makes-fresh x .receive ∙ ap suc (sym z))
 
   -- a delivery there is the one that it waits for
-  pub waits-next : d .kind ≡ some receive → d .packet .destination .channel ≡ n →
-      (d .packet .sequence ≡ m) × Waits t n (suc m)
-  waits-next k q =
-      let e : st .channel .own .channel ≡ n = receive-destination st k ∙ q in
-      let o : isOrdered (st .channel) ≡ true = ap isOrdered (own-waits e) ∙ w .ordered in
-      let r = ordering.ordered-next (st .channel) (d .packet .sequence) o (receive-of st k .0 .inOrder) in
-      let x : d .packet .sequence ≡ m = r .0 ∙ ap (λ (c : Channel). c .next .receive) (own-waits e) ∙ w .next in
-      (x, waits-own e (suc m) (ap (λ (c : Channel). c .next .receive) (receive-end st k) ∙ r .1 ∙ ap suc x))
+  module _ (k : d .kind ≡ some receive) (q : d .packet .destination .channel ≡ n) where
+    in-turn : isOrdered (st .channel) ≡ true →
+        (d .packet .sequence ≡ suc m) × (receivedEnd (st .channel) .next .receive ≡ suc (suc m))
+    in-turn o =
+        let v : Waits m (some (st .channel)) =
+        subst (Waits m) (ap (λ (x : ℕ). channelAt x (s .channels)) (sym q) ∙ receive-found st k) w in
+        let r = ordering.ordered-next (st .channel) (d .packet .sequence) o (receive-of st k .0 .inOrder) in
+        let x : d .packet .sequence ≡ suc m = r .0 ∙ v o in
+        (x, r .1 ∙ ap suc x)
+
+    pub waits-first : isOrdered (st .channel) ≡ true → d .packet .sequence ≡ suc m
+    waits-first o = in-turn o .0
+
+    pub waits-next : Waits (suc m) (channelAt n (t .channels))
+    waits-next =
+        let a : channelAt n (t .channels) ≡ some (receivedEnd (st .channel)) =
+        ap (λ (x : ℕ). channelAt x (t .channels)) (sym q) ∙ receive-after st k in
+        let g = subst (Grown (st .channel)) (receive-end st k) (own-grown st) in
+        subst (Waits (suc m)) (sym a) (λ o. in-turn (still-ordered g o) .1)

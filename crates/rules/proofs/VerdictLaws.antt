@@ -1,27 +1,20 @@
--- The verdict of a datagram that carries one, what a verdict that matches is about, and what a claim that holds says.
--- Assumes nothing.
-use Rattle.wire.proofs.Prelude.{_≡_, refl, sym, ap, _∙_, Bool, true, false, not, List, [], _∷_, Option, none, some, ℕ}
-use Rattle.wire.proofs.Prelude.{suc, arith, eqb, eqb-true, not-true}
-use Rattle.wire.specs.Names.{_or_, pick, isSome, withNumber, same, Every}
-use Rattle.wire.proofs.Laws.{and-both, clash, cases, same-eq}
+-- What a verdict that matches is about, and what a claim that holds says. Assumes nothing.
+use Rattle.wire.proofs.Prelude.{_≡_, refl, sym, ap, _∙_, Bool, true, not, false, List, Option, none, some, ℕ, suc}
+use Rattle.wire.proofs.Prelude.{arith, eqb, eqb-true, not-true}
+use Rattle.wire.specs.Names.{_and_, withNumber, pick, isSome, same}
+use Rattle.wire.proofs.Laws.{and-both, clash, same-eq}
 use Rattle.slots.specs.declared.PortChannel.{PortChannel}
 use Rattle.slots.specs.declared.Timeout.{Timeout}
 use Rattle.slots.specs.declared.Channel.{Channel}
 use Rattle.slots.specs.declared.Record.{Record}
-use Rattle.slots.specs.Names.{sameTimeout, commitmentKey, receiptKey, lookup, channelAt, Store}
+use Rattle.slots.specs.Names.{stateInit, channelKind, sameTimeout, samePortChannel, channelAt, commitmentKey}
+use Rattle.slots.specs.Names.{receiptKey, lookup, Store}
 use Rattle.datagram.specs.declared.Verdict.{Verdict}
-use Rattle.datagram.specs.Names.{Part, verdictPart, isPart, hasPart, Datagram, AnyVerdict, onPacket, verdictsIn}
-use Rattle.datagram.specs.Names.{Claim, commitmentPresent, acknowledgementPresent, receiptAbsent}
-use Rattle.datagram.specs.Names.{nextReceiveIs, claimNumber, claimOf}
-use Rattle.rules.specs.Names.{firstDifference, hasValues, isAsStated, holdsOn, claimHolds}
-
--- where a body has a verdict about a packet, it is one of the datagram's
-pub packet-verdict : (P : AnyVerdict → Type 0) (d : Datagram) (ps : List Part) → hasPart verdictPart ps ≡ true →
-    Every P (verdictsIn d ps) → P (onPacket (d .verdict))
-unfolding hasPart verdictsIn _or_
-packet-verdict P d [] h e = clash {b = false} h refl
-packet-verdict P d (p ∷ ps) h e =
-    cases (isPart verdictPart p) (λ q. (rw q at e) .0) (λ q. packet-verdict P d ps (rw q at h) (rw q at e))
+use Rattle.datagram.specs.declared.EndVerdict.{EndVerdict}
+use Rattle.datagram.specs.Names.{Claim, commitmentPresent, acknowledgementPresent, receiptAbsent, nextReceiveIs, endIs}
+use Rattle.datagram.specs.Names.{claimNumber, claimOf, onPacket, onEnd}
+use Rattle.rules.specs.Names.{firstDifference, shown, sameButVersion, firstEndDifference, hasVersion, hasValues}
+use Rattle.rules.specs.Names.{isAsStated, holdsOn, endHolds, claimHolds, Peers}
 
 pub record About (v : Verdict) (k : ℕ) (e : PortChannel) (n : ℕ) (t : Timeout) (d : List ℕ) : Type 0 where
   pub claim : v .claim ≡ k
@@ -89,6 +82,7 @@ claim-of commitmentPresent = refl
 claim-of acknowledgementPresent = refl
 claim-of receiptAbsent = refl
 claim-of nextReceiveIs = refl
+claim-of endIs = refl
 
 module _ (v : Verdict) (s : Store) (h : claimHolds (onPacket v) s ≡ true) where
   stated : (k : Claim) → v .claim ≡ claimNumber k → (x : Option Channel) →
@@ -124,3 +118,112 @@ module _ (v : Verdict) (s : Store) (h : claimHolds (onPacket v) s ≡ true) wher
     pub claim-next : v .claim ≡ claimNumber nextReceiveIs → c .next .receive ≡ v .sequence
     unfolding isAsStated
     claim-next k = eqb-true (c .next .receive) (v .sequence) (stated-on nextReceiveIs k)
+
+-- ONE END, as it is known by its record: the same but for its state and its counters
+pub record OneEnd (c e : Channel) : Type 0 where
+  pub own : c .own ≡ e .own
+  pub counterparty : c .counterparty ≡ e .counterparty
+  pub order : c .order ≡ e .order
+  pub version : c .version ≡ e .version
+
+-- in the same state too: counters are what an end verdict does not show
+pub record Alike (c e : Channel) : Type 0 where
+  pub one : OneEnd c e
+  pub state : c .state ≡ e .state
+
+-- PARTNERS: peers with one version, the second of them not INIT, so that its counterparty is known
+pub record Partners (c e : Channel) : Type 0 where
+  pub peers : Peers c e
+  pub version : e .version ≡ c .version
+  pub begun : e .state ≡ stateInit → ⊥
+
+-- either of them may be seen at another time
+pub partners-one : {a c x e : Channel} → Partners a x → OneEnd a c → OneEnd x e → (e .state ≡ stateInit → ⊥) →
+    Partners c e
+partners-one p l m b =
+    let q = p .peers in
+    record {
+      peers = record {
+        own = sym (m .own) ∙ q .own ∙ l .counterparty;
+        counterparty = sym (m .counterparty) ∙ q .counterparty ∙ l .own;
+        order = sym (m .order) ∙ q .order ∙ l .order;
+      };
+      version = sym (m .version) ∙ p .version ∙ l .version;
+      begun = b;
+    }
+
+-- AN INITIATOR'S END, as an end that answers it needs it: INIT, and it names that one's port
+pub record Begins (c e : Channel) : Type 0 where
+  pub init : e .state ≡ stateInit
+  pub own : e .own ≡ c .counterparty
+  pub port : e .counterparty .port ≡ c .own .port
+  pub order : e .order ≡ c .order
+  pub version : e .version ≡ c .version
+
+pub one-refl : (c : Channel) → OneEnd c c
+one-refl c = record { own = refl; counterparty = refl; order = refl; version = refl }
+
+pub one-sym : {c e : Channel} → OneEnd c e → OneEnd e c
+one-sym l =
+    record {
+      own = sym (l .own);
+      counterparty = sym (l .counterparty);
+      order = sym (l .order);
+      version = sym (l .version);
+    }
+
+pub same-port-channel : (a b : PortChannel) → samePortChannel a b ≡ true → a ≡ b
+unfolding samePortChannel
+same-port-channel a b h =
+    let p = eqb-true (a .port) (b .port) (and-both h .0) in
+    let q = eqb-true (a .channel) (b .channel) (and-both h .1) in
+    λ i. record { port = p i; channel = q i }
+
+alike : (c e : Channel) → sameButVersion c e ≡ true → same (c .version) (e .version) ≡ true → Alike c e
+unfolding sameButVersion
+alike c e h v =
+    let a = and-both (and-both h .0) in
+    let b = and-both (a .0) in
+    let d = and-both (b .0) in
+    record {
+      one = record {
+        own = same-port-channel (c .own) (e .own) (b .1);
+        counterparty = same-port-channel (c .counterparty) (e .counterparty) (a .1);
+        order = eqb-true (c .order) (e .order) (d .1);
+        version = same-eq (c .version) (e .version) v;
+      };
+      state = eqb-true (c .state) (e .state) (d .0);
+    }
+
+-- an end verdict that matches shows the end that is needed
+pub shows : (v : EndVerdict) (e : Channel) → firstEndDifference v e ≡ 0 → hasVersion v e ≡ true → Alike (v .end) e
+unfolding firstEndDifference hasVersion
+shows v e h k =
+    let a = passed (eqb (v .claim) (claimNumber endIs)) 0 _ h in
+    let b = passed (eqb (v .kind) channelKind and sameButVersion (v .end) e) 5 _ (a .1) in
+    alike (v .end) e (and-both (b .0) .1) k
+
+-- and where its claim holds, the end that is shown is there
+pub claim-end : (v : EndVerdict) (s : Store) → claimHolds (onEnd v) s ≡ true →
+    (c : Channel) × (channelAt (v .end .own .channel) (s .channels) ≡ some c) × Alike (v .end) c
+unfolding claimHolds endHolds shown hasVersion
+claim-end v s h = go (channelAt (v .end .own .channel) (s .channels)) h
+  where
+    go : (x : Option Channel) → endHolds v x ≡ true → (c : Channel) × (x ≡ some c) × Alike (v .end) c
+    go none k = clash {b = false} k refl
+    go (some c) k =
+        let a = and-both k in
+        let l = shows v (shown c) (eqb-true (firstEndDifference v (shown c)) 0 (a .0)) (a .1) in
+        let m = l .one in (
+          c,
+          refl,
+          record {
+            one = record {
+              own = m .own;
+              counterparty = m .counterparty;
+              order = m .order;
+              version = m .version;
+            };
+            state = l .state;
+          },
+        )

@@ -1,11 +1,12 @@
 -- Openings, packets and datagrams for the worked cases and the worked history, by their bytes. Kinds, claims and orders
 -- are written as numbers here, so that a wrong number in the definitions is refused.
 use mathlib.Core.List.{List, [], _∷_, _++_}
-use Prim.Native.Nat.{ℕ}
-use lib.ListN.{replicate}
+use Prim.Native.Nat.{ℕ, _-_}
+use lib.ListN.{length, replicate}
 use Rattle.wire.specs.Bytes.{little, noDigest}
 use Rattle.slots.specs.Limits.{outputLimit}
 use Rattle.slots.specs.Layout.{sizeFor}
+use Rattle.store.specs.Maker.{makeStore}
 use Rattle.datagram.specs.declared.Packet.{Packet}
 use Rattle.datagram.specs.Emitted.{framed, packetBytes}
 
@@ -20,6 +21,10 @@ anOpening p c q e o =
 -- port 5 owns channel 7 (ordered, to 6/9) and 8 (unordered, to 6/10)
 unfoldable pub openings : List ℕ
 openings = anOpening 5 7 6 9 1 ++ anOpening 5 8 6 10 2
+
+-- and none: a store with no channels
+unfoldable pub empty : List ℕ
+empty = makeStore aSlice []
 
 -- PARTS OF DATAGRAMS
 unfoldable pub aContext : (height time port connection : ℕ) → List ℕ
@@ -51,6 +56,20 @@ unfoldable pub aVerdict : (claim : ℕ) → (block : List ℕ) → (port channel
 aVerdict k b p c n h t d =
     little 2 k ++ b ++ little 2 p ++ little 4 c ++ little 8 n ++ little 8 h ++ little 8 t ++ d
 
+-- a channel record: all its counters alike, and a version with zeros behind it
+unfoldable pub aVersion : (size : ℕ) → List ℕ
+aVersion n = replicate n 118
+
+unfoldable pub endRecord : (state port channel otherPort otherChannel order counter : ℕ) → (version : List ℕ) → List ℕ
+endRecord s p c q e o n v =
+    little 2 1 ++ (s ∷ o ∷ []) ++ little 4 c ++ little 2 p ++ little 2 q ++ little 4 e ++ little 8 n ++ little 8 n ++
+    little 8 n ++ v ++ replicate (24 - length v) 0
+
+-- of an end, whose counters are shown as zero
+unfoldable pub anEndVerdict : (block : List ℕ) → (state port channel otherPort otherChannel order : ℕ) →
+    (version : List ℕ) → List ℕ
+anEndVerdict b s p c q e o v = little 2 5 ++ b ++ endRecord s p c q e o 0 v
+
 -- DATAGRAMS
 unfoldable pub aSend : (context : List ℕ) → (channel height time : ℕ) → List ℕ
 aSend x c h t = framed 1 (x ++ little 4 c ++ little 8 h ++ little 8 t ++ aDigest)
@@ -81,6 +100,33 @@ timeoutBy x p v = framed 5 (x ++ packetBytes p ++ v)
 abbrev pub timeoutOf : (context block : List ℕ) → Packet → (claim sequence : ℕ) → List ℕ
 timeoutOf x b p k n =
     timeoutBy x p (aVerdict k b (p .destination .port) (p .destination .channel) n 0 0 noDigest)
+
+unfoldable pub anOpenInit : (context : List ℕ) → (otherPort order : ℕ) → (version : List ℕ) → List ℕ
+anOpenInit x q o v = framed 6 (x ++ little 2 q ++ (o ∷ []) ++ v)
+
+unfoldable pub openTryBy : (context : List ℕ) → (otherPort otherChannel order : ℕ) → (verdict version : List ℕ) →
+    List ℕ
+openTryBy x q e o w v = framed 7 (x ++ little 2 q ++ little 4 e ++ (o ∷ []) ++ w ++ v)
+
+-- with a verdict of a block: the other end is INIT, and names this port
+abbrev pub openTryOf : (context block : List ℕ) → (port otherPort otherChannel order : ℕ) → (version : List ℕ) → List ℕ
+openTryOf x b p q e o v = openTryBy x q e o (anEndVerdict b 1 q e p 0 o v) v
+
+unfoldable pub openAcknowledgeBy : (context : List ℕ) → (channel otherChannel : ℕ) → (verdict : List ℕ) → List ℕ
+openAcknowledgeBy x c e w = framed 8 (x ++ little 4 c ++ little 4 e ++ w)
+
+-- it is TRYOPEN, and names this end
+abbrev pub openAcknowledgeOf : (context block : List ℕ) → (port channel otherPort otherChannel order : ℕ) →
+    (version : List ℕ) → List ℕ
+openAcknowledgeOf x b p c q e o v = openAcknowledgeBy x c e (anEndVerdict b 2 q e p c o v)
+
+unfoldable pub openConfirmBy : (context : List ℕ) → (channel : ℕ) → (verdict : List ℕ) → List ℕ
+openConfirmBy x c w = framed 9 (x ++ little 4 c ++ w)
+
+-- it is OPEN, and names this end
+abbrev pub openConfirmOf : (context block : List ℕ) → (port channel otherPort otherChannel order : ℕ) →
+    (version : List ℕ) → List ℕ
+openConfirmOf x b p c q e o v = openConfirmBy x c (anEndVerdict b 3 q e p c o v)
 
 -- an output buffer that is just long enough
 unfoldable pub anOutput : List ℕ

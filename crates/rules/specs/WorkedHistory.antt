@@ -1,36 +1,26 @@
--- A worked history: two made stores with paired ends, and a list of calls in which each kind of datagram is accepted
--- and one call is refused, with true verdicts. So the premises of demand 3 can be met, all of them together.
+-- A worked history: two made stores with no channels, and a list of calls that opens an ordered and an unordered
+-- channel and carries packets over them. Each kind of datagram is accepted and two calls are refused, with true
+-- verdicts. So the premises of demand 3 can be met, all of them together.
 use mathlib.Core.Path.{_≡_}
 use mathlib.Core.List.{List, [], _∷_, _++_, map}
 use Prim.Native.Nat.{ℕ}
+use lib.ListN.{length, replicate}
 use Rattle.store.specs.Maker.{makeStore}
 use Rattle.datagram.specs.declared.Packet.{Packet}
-use Rattle.datagram.specs.Emitted.{writtenKind}
-use Rattle.rules.specs.Refusals.{every}
+use Rattle.datagram.specs.Emitted.{writtenKind, madeKind}
+use Rattle.rules.specs.Refusals.{every, orNone}
 use Rattle.rules.specs.Calls.{Side, first, second, Call, Run, Made, Paired, howMany, hasEmitted, isSend}
 use Rattle.rules.specs.Calls.{isDelivery, isAcknowledgement, isTimeout}
+use Rattle.rules.specs.Ends.{endAt}
 use Rattle.rules.specs.Truth.{Honest}
 use Rattle.rules.specs.Statements.{Request, calls}
-use Rattle.rules.specs.Examples.{aSlice, anOpening, openings, aContext, aDigest, anAnswer, aPacket}
-use Rattle.rules.specs.Examples.{aBlock, aSend, receiveOf, aWrite, acknowledgeOf, timeoutOf, anOutput}
+use Rattle.rules.specs.Examples.{aSlice, anOpening, openings, empty, aContext, aDigest, anAnswer, aPacket, aBlock}
+use Rattle.rules.specs.Examples.{aVersion, anEndVerdict, aSend, receiveOf, aWrite, acknowledgeOf, timeoutOf}
+use Rattle.rules.specs.Examples.{anOpenInit, openTryOf, openAcknowledgeOf, openConfirmBy, openConfirmOf, anOutput}
 
--- THE STORES: on the second ledger port 6 owns channel 9 (ordered, to 5/7) and 10 (unordered, to 5/8)
-unfoldable pub openingsOn : Side → List ℕ
-openingsOn first = openings
-openingsOn second = anOpening 6 9 5 7 1 ++ anOpening 6 10 5 8 2
-
+-- THE STORES: each ledger starts with no channels
 unfoldable pub stores : Side → List ℕ
-stores z = makeStore aSlice (openingsOn z)
-
--- THE CALLS: three packets, one on the ordered channel, one in each direction on the unordered one
-abbrev pub acknowledgedOne : Packet
-acknowledgedOne = aPacket 1 300 0 5 7 6 9
-
-abbrev pub timedOutOne : Packet
-timedOutOne = aPacket 1 205 0 5 8 6 10
-
-abbrev pub deliveredOne : Packet
-deliveredOne = aPacket 1 0 2000 6 10 5 8
+stores z = empty
 
 -- a call on a ledger, in a context of its port at a height and time
 abbrev pub atFirst : (height time : ℕ) → (List ℕ → List ℕ) → Request
@@ -39,35 +29,84 @@ atFirst h t d = record { side = first; output = anOutput; datagram = d (aContext
 abbrev pub atSecond : (height time : ℕ) → (List ℕ → List ℕ) → Request
 atSecond h t d = record { side = second; output = anOutput; datagram = d (aContext h t 6 1) }
 
-unfoldable pub requests : List Request
-requests =
-    atFirst 100 1000 (λ x. aSend x 7 300 0) ∷
-    atFirst 100 1000 (λ x. aSend x 8 205 0) ∷
-    atSecond 200 1000 (λ x. receiveOf x (aBlock 100 1000) acknowledgedOne aDigest) ∷
-    atSecond 200 1000 (λ x. aWrite x 9 1 anAnswer) ∷
+-- THE HANDSHAKES: 5/1 and 6/3 open an ordered channel with a version, 6/1 and 5/2 an unordered one without. 6/2 answers
+-- 5/1 too and never opens: its confirm is refused, since 5/1 names 6/3
+unfoldable pub handshakes : List Request
+handshakes =
+    atFirst 100 1000 (λ x. anOpenInit x 6 1 (aVersion 4)) ∷
+    atSecond 200 1000 (λ x. anOpenInit x 5 2 []) ∷
+    atSecond 200 1000 (λ x. openTryOf x (aBlock 100 1000) 6 5 1 1 (aVersion 4)) ∷
+    atSecond 200 1000 (λ x. openTryOf x (aBlock 100 1000) 6 5 1 1 (aVersion 4)) ∷
+    atFirst 101 1010 (λ x. openTryOf x (aBlock 200 1000) 5 6 1 2 []) ∷
+    atFirst 101 1010 (λ x. openAcknowledgeOf x (aBlock 200 1000) 5 1 6 3 1 (aVersion 4)) ∷
+    atSecond 201 1010 (λ x. openAcknowledgeOf x (aBlock 101 1010) 6 1 5 2 2 []) ∷
+    atSecond 201 1010 (λ x. openConfirmOf x (aBlock 101 1010) 6 3 5 1 1 (aVersion 4)) ∷
+    atSecond 201 1010 (λ x. openConfirmBy x 2 (anEndVerdict (aBlock 101 1010) 3 5 1 6 3 1 (aVersion 4))) ∷
+    atFirst 102 1020 (λ x. openConfirmOf x (aBlock 201 1010) 5 2 6 1 2 []) ∷ []
+
+-- THE PACKETS: three, one on the ordered channel, one in each direction on the unordered one
+abbrev pub acknowledgedOne : Packet
+acknowledgedOne = aPacket 1 300 0 5 1 6 3
+
+abbrev pub timedOutOne : Packet
+timedOutOne = aPacket 1 205 0 5 2 6 1
+
+abbrev pub deliveredOne : Packet
+deliveredOne = aPacket 1 0 2000 6 1 5 2
+
+unfoldable pub transfers : List Request
+transfers =
+    atFirst 102 1020 (λ x. aSend x 1 300 0) ∷
+    atFirst 102 1020 (λ x. aSend x 2 205 0) ∷
+    atSecond 202 1020 (λ x. receiveOf x (aBlock 102 1020) acknowledgedOne aDigest) ∷
+    atSecond 202 1020 (λ x. aWrite x 3 1 anAnswer) ∷
     -- it comes too late, and is refused; its verdict is not true, which is not asked of a refused call
-    atSecond 205 1005 (λ x. receiveOf x (aBlock 100 1000) timedOutOne anAnswer) ∷
-    atFirst 101 1010 (λ x. acknowledgeOf x (aBlock 200 1000) acknowledgedOne anAnswer) ∷
-    atFirst 101 1010 (λ x. timeoutOf x (aBlock 205 1005) timedOutOne 3 1) ∷
+    atSecond 205 1025 (λ x. receiveOf x (aBlock 102 1020) timedOutOne anAnswer) ∷
+    atFirst 103 1030 (λ x. acknowledgeOf x (aBlock 202 1020) acknowledgedOne anAnswer) ∷
+    atFirst 103 1030 (λ x. timeoutOf x (aBlock 205 1025) timedOutOne 3 1) ∷
     -- at the time of the block before
-    atSecond 206 1005 (λ x. aSend x 10 0 2000) ∷
-    atFirst 102 1020 (λ x. receiveOf x (aBlock 206 1005) deliveredOne aDigest) ∷ []
+    atSecond 206 1025 (λ x. aSend x 1 0 2000) ∷
+    atFirst 104 1040 (λ x. receiveOf x (aBlock 206 1025) deliveredOne aDigest) ∷ []
+
+unfoldable pub requests : List Request
+requests = handshakes ++ transfers
 
 abbrev pub history : List Call
 history = calls stores requests
 
 -- what was told, and what happened
+abbrev pub numbersTold : List ℕ
+numbersTold = replicate 8 0 ++ (14 ∷ replicate 5 0) ++ (11 ∷ replicate 4 0)
+
+-- the state of an end after all calls
+abbrev pub stateOn : Side → (channel : ℕ) → ℕ
+stateOn z n = orNone (endAt stores history z (length history) n) .state
+
 pub record Happened : Type 0 where
-  pub numbers : map (λ c. c .told .number) history ≡ 0 ∷ 0 ∷ 0 ∷ 0 ∷ 11 ∷ 0 ∷ 0 ∷ 0 ∷ 0 ∷ []
+  pub firstStates : map (stateOn first) (1 ∷ 2 ∷ []) ≡ 3 ∷ 3 ∷ []
+  pub secondStates : map (stateOn second) (1 ∷ 2 ∷ 3 ∷ []) ≡ 3 ∷ 2 ∷ 3 ∷ []
+  pub ends : howMany (hasEmitted madeKind) history ≡ 5
   pub sends : howMany isSend history ≡ 3
   pub deliveries : howMany isDelivery history ≡ 2
   pub writes : howMany (hasEmitted writtenKind) history ≡ 1
   pub acknowledgements : howMany isAcknowledgement history ≡ 1
   pub timeouts : howMany isTimeout history ≡ 1
 
+-- STORES WITH OPENINGS meet the premises too: on the second ledger port 6 owns channel 9 (ordered, to 5/7) and 10
+-- (unordered, to 5/8)
+unfoldable pub openingsOn : Side → List ℕ
+openingsOn first = openings
+openingsOn second = anOpening 6 9 5 7 1 ++ anOpening 6 10 5 8 2
+
+unfoldable pub openedStores : Side → List ℕ
+openedStores z = makeStore aSlice (openingsOn z)
+
 pub record WorkedHistory : Type 0 where
   pub made : (z : Side) → Made (stores z)
   pub paired : Paired stores
   pub run : Run stores history
   pub honest : Honest every stores history
+  pub numbers : map (λ c. c .told .number) history ≡ numbersTold
   pub happened : Happened
+  pub openedMade : (z : Side) → Made (openedStores z)
+  pub openedPaired : Paired openedStores
