@@ -1,5 +1,6 @@
-// The answer to each kind of datagram by the lines of the table that are for it, in their order: 0 where none applies.
-// Each function takes the parts of a datagram that its lines look at, and promises the answer for all that have them.
+// The answer to each kind of datagram about packets, by the lines of the table that are for it, in their order: 0 where
+// none applies. Each function takes the parts of a datagram that its lines look at, and promises the answer for all
+// that have them.
 use datagram::Context;
 use datagram::Packet;
 use datagram::Verdict;
@@ -25,9 +26,10 @@ use slots::Record;
 use slots::Timeout;
 use tables::ordering::is_received;
 use tables::scan::has_record;
-use verdicts::absence_number;
-use verdicts::acknowledgement_number;
-use verdicts::commitment_number;
+use verdicts::absence_difference;
+use verdicts::acknowledgement_difference;
+use verdicts::commitment_difference;
+use verdicts::verdict_number;
 use wire::is_zero_digest;
 ghost use mathlib.Core.Path.{_≡_};
 ghost use mathlib.Core.Bool.{not};
@@ -39,7 +41,7 @@ ghost use Rattle.slots.specs.Layout.{Store, sizeFor, storeIn};
 ghost use Rattle.datagram.specs.Kind.{send, receive, write, acknowledge, timeOut};
 ghost use Rattle.datagram.specs.Datagram.{Datagram};
 ghost use Rattle.rules.specs.Ordering.{needsReceipt};
-ghost use Rattle.rows.specs.Lines.{numberBehind};
+ghost use Rattle.verdicts.specs.Lines.{numberBehind};
 
 // Send (1): lines 10, 11, 19 and 20.
 pub fn send_row(store: &[u8], count: usize, x: Context, t: Timeout, c: Channel) -> u8
@@ -82,9 +84,9 @@ pub fn receive_row(store: &[u8], count: usize, x: Context, p: Packet, v: Verdict
     if is_late_at_receiver(x, timeout) {
         return 11;
     }
-    let wrong = commitment_number(p, v);
-    if wrong != 0 {
-        return wrong;
+    let number = verdict_number(commitment_difference(p, v));
+    if number != 0 {
+        return number;
     }
     delivery_row(store, count, p, c)
 }
@@ -177,9 +179,9 @@ pub fn acknowledge_row(
     if !is_committed(store, count, p) {
         return 13;
     }
-    let wrong = acknowledgement_number(p, digest, v);
-    if wrong != 0 {
-        return wrong;
+    let number = verdict_number(acknowledgement_difference(p, digest, v));
+    if number != 0 {
+        return number;
     }
     acknowledgement_row(p, c)
 }
@@ -215,9 +217,9 @@ pub fn time_out_row(store: &[u8], count: usize, p: Packet, v: Verdict, c: Channe
     if !is_committed(store, count, p) {
         return 13;
     }
-    let wrong = absence_number(c, p, v);
-    if wrong != 0 {
-        return wrong;
+    let number = verdict_number(absence_difference(c, p, v));
+    if number != 0 {
+        return number;
     }
     if !times_out_in_order(c, p.sequence, v.sequence) {
         return 15;

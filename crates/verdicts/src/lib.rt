@@ -1,4 +1,4 @@
-// A verdict against what is needed of it: the number that the part which differs first gives, 0 where none does.
+// A verdict against what is needed of it: the part that differs first, 0 where none does, and the number that it gives.
 use datagram::Packet;
 use datagram::Verdict;
 use heights::no_timeout;
@@ -47,40 +47,40 @@ fn first_difference(
     0
 }
 
-// The number that a difference gives at line 14's place.
-fn verdict_number(difference: u8) -> u8
+// 14, for 2: the commitment at the packet's source.
+pub fn commitment_difference(p: Packet, v: Verdict) -> u8
+    ensures { λ r. ⌜ r ≡ commitmentDifference p v ⌝ }
+{
+    let source = p.source;
+    let timeout = p.timeout;
+    let digest = p.digest;
+    first_difference(v, 1, source, p.sequence, timeout, digest)
+}
+
+// 14, for 4: the acknowledgement at the packet's destination.
+pub fn acknowledgement_difference(p: Packet, digest: [u8; 32], v: Verdict) -> u8
+    ensures { λ r. ⌜ r ≡ acknowledgementDifference p digest v ⌝ }
+{
+    let destination = p.destination;
+    first_difference(v, 2, destination, p.sequence, no_timeout(), digest)
+}
+
+// 14, for 5: at the packet's destination, that it was not received.
+pub fn absence_difference(c: Channel, p: Packet, v: Verdict) -> u8
+    ensures { λ r. ⌜ r ≡ absenceDifference c p v ⌝ }
+{
+    let claim = absence_claim(c);
+    let destination = p.destination;
+    let sequence = absence_sequence(c, p.sequence, v.sequence);
+    first_difference(v, claim, destination, sequence, no_timeout(), [0u8; 32])
+}
+
+// 14: one number for every difference.
+pub fn verdict_number(difference: u8) -> u8
     ensures { λ r. ⌜ r ≡ verdictNumber difference ⌝ }
 {
     if difference == 0 {
         return 0;
     }
     14
-}
-
-// 14, for 2: the commitment at the packet's source.
-pub fn commitment_number(p: Packet, v: Verdict) -> u8
-    ensures { λ r. ⌜ r ≡ verdictNumber (commitmentDifference p v) ⌝ }
-{
-    let source = p.source;
-    let timeout = p.timeout;
-    let digest = p.digest;
-    verdict_number(first_difference(v, 1, source, p.sequence, timeout, digest))
-}
-
-// 14, for 4: the acknowledgement at the packet's destination.
-pub fn acknowledgement_number(p: Packet, digest: [u8; 32], v: Verdict) -> u8
-    ensures { λ r. ⌜ r ≡ verdictNumber (acknowledgementDifference p digest v) ⌝ }
-{
-    let destination = p.destination;
-    verdict_number(first_difference(v, 2, destination, p.sequence, no_timeout(), digest))
-}
-
-// 14, for 5: at the packet's destination, that it was not received.
-pub fn absence_number(c: Channel, p: Packet, v: Verdict) -> u8
-    ensures { λ r. ⌜ r ≡ verdictNumber (absenceDifference c p v) ⌝ }
-{
-    let claim = absence_claim(c);
-    let destination = p.destination;
-    let sequence = absence_sequence(c, p.sequence, v.sequence);
-    verdict_number(first_difference(v, claim, destination, sequence, no_timeout(), [0u8; 32]))
 }

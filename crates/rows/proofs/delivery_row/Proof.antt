@@ -9,7 +9,7 @@ use Rattle.slots.specs.Layout.{storeIn}
 use Rattle.datagram.specs.Kind.{only, receive}
 use Rattle.datagram.specs.Datagram.{Datagram}
 use Rattle.rules.specs.Refusals.{lowest, table}
-use Rattle.rows.specs.Lines.{behind, numberBehind}
+use Rattle.verdicts.specs.Lines.{behind, numberBehind}
 use Rattle.verdicts.proofs.TestedLaws.{came, holds, fails}
 use Rattle.rows.proofs.delivery_row.Statement.{statement}
 use Rattle.rows.proofs.delivery_row.Tie as tie

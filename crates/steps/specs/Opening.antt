@@ -1,0 +1,15 @@
+-- The lines of the steps that open an end, by the record of the other end that a step needs and its prior state.
+use mathlib.Core.Bool.{Bool, not}
+use mathlib.Core.List.{List, [], _∷_}
+use Prim.Native.Nat.{ℕ}
+use Rattle.slots.specs.declared.Channel.{Channel}
+use Rattle.datagram.specs.declared.EndVerdict.{EndVerdict}
+use Rattle.rules.specs.Verdict.{firstEndDifference, hasVersion}
+use Rattle.rules.specs.Refusals.{Line, line, giving, every, isInState, verdictNumber}
+
+unfoldable pub openingLines : (connected : Bool) → EndVerdict → (needed : Channel) → (prior : ℕ) → Channel → List Line
+openingLines b v e n c =
+    line 8 every (not b) ∷
+    giving 14 every (verdictNumber (firstEndDifference v e)) ∷
+    line 26 every (not (isInState n c)) ∷
+    line 27 every (not (hasVersion v e)) ∷ []
