@@ -1,40 +1,54 @@
--- What an accepted call tells the plan and the output, and what is planned is what the rules say of the call.
--- Assumes nothing.
-use Rattle.wire.proofs.Prelude.{_≡_, refl, sym, ap, _∙_, false, List, Option, none, some, ℕ, _≤_, length, ltb-false}
-use Rattle.wire.proofs.Prelude.{not-false}
-use Rattle.wire.specs.Names.{isSome}
-use Rattle.wire.proofs.Laws.{of-pick}
+-- What an accepted call tells the plan and the output, what is planned is what the rules say of the call, and an end at
+-- its slot. Assumes nothing.
+use Rattle.wire.proofs.Prelude.{_≡_, refl, sym, ap, _∙_, List, Option, none, some, ℕ, _≤_, _<_, arith, length}
+use Rattle.wire.proofs.Prelude.{ltb-false, not-false}
+use Rattle.wire.specs.Names.{Every}
 use Rattle.slots.specs.declared.Channel.{Channel}
-use Rattle.slots.specs.declared.Found.the-variants.{At}
-use Rattle.slots.specs.Names.{outputLimit, storeIn, isFit, isNumbered, isOrdered}
-use Rattle.slots.specs.Scan.{firstThat}
-use Rattle.datagram.specs.Names.{Kind, send, receive, write, acknowledge, timeOut, kindOf, Datagram, datagramOf}
-use Rattle.datagram.specs.Names.{datagramIn, kindIn, isSound}
-use Rattle.rules.specs.Names.{counted, raisedReceive, raisedAcknowledge, raisesReceive, raisesAcknowledge, receivedEnd}
-use Rattle.rules.specs.Names.{acknowledgedEnd, closed, timedOutEnd, lowest, table, refusals, orNone, endFor, Effect}
-use Rattle.rules.specs.Names.{sends, receives, writesAcknowledgement, acknowledges, timesOut, effectOf, effectFor}
-use Rattle.rules.specs.Names.{puts, answerTo, effectIn}
+use Rattle.slots.specs.declared.Found.{Found}
+use Rattle.slots.specs.declared.Found.the-variants.{At, Nothing}
+use Rattle.slots.specs.Names.{channelLimit, outputLimit, top, isNumbered, Store, bytesOf, storeIn, isFit}
+use Rattle.slots.specs.Scan.{isFree, holds}
+use Rattle.slots.proofs.Laws.{ChannelFields}
+use Rattle.slots.proofs.HeldLaws.{Held, held-store, held-channel}
+use Rattle.slots.proofs.SlotTestLaws.{channel-index}
+use Rattle.slots.proofs.ScanLaws.{set-insert, set-replace, insert-nothing, replace-nothing}
+use Rattle.datagram.specs.Names.{Kind, send, receive, write, acknowledge, timeOut, openInit, openTry, openAcknowledge}
+use Rattle.datagram.specs.Names.{openConfirm, kindOf, Datagram, datagramOf, datagramIn, kindIn, isSound}
+use Rattle.rules.specs.Names.{lowest, table, refusals, orNone, endFor, Effect, sends}
+use Rattle.rules.specs.Names.{receives, writesAcknowledgement, acknowledges, timesOut, makes, moves, effectOf}
+use Rattle.rules.specs.Names.{effectFor, placed, numberAfter, answerTo, effectIn}
 use Rattle.rules.proofs.RefusalLaws.{givenAt, silent, not-given}
-use Rattle.rules.proofs.Accepted.{send-ok, receive-ok, acknowledge-ok}
-use Rattle.effects.specs.Decided.{isCounterAtTop}
-use Rattle.acceptance.specs.Planned.{Ready, IsEndAt}
+use Rattle.rules.proofs.Accepted.{send-ok, receive-ok, acknowledge-ok, init-ok, try-ok}
+use Rattle.effects.specs.declared.EndAction.{EndAction}
+use Rattle.effects.specs.declared.EndAction.the-variants.{Leaves, Puts, Adds}
+use Rattle.effects.specs.Decided.{endEditOf, Left}
+use Rattle.acceptance.specs.Planned.{Ready, endSlot, withEnd}
 
 -- AN ANSWER OF 0: no line of the table gave a number
 module _ (s o d : List ℕ) (accepted : answerTo s o d ≡ 0) where
   abbrev channel : Channel
   channel = orNone (endFor (storeIn s) (datagramIn d))
 
-  below : (k : Option Kind) → lowest k (refusals s (length o) d) ≡ 0 → isCounterAtTop k channel ≡ false
-  unfolding isCounterAtTop
-  below none h = refl
-  below (some send) h = send-ok s (length o) d (storeIn s) (datagramIn d) channel h .below
-  below (some receive) h = receive-ok s (length o) d (storeIn s) (datagramIn d) channel h .below
-  below (some write) h = refl
-  below (some acknowledge) h = acknowledge-ok s (length o) d (storeIn s) (datagramIn d) channel h .below
-  below (some timeOut) h = refl
+  left-for : (k : Option Kind) → lowest k (refusals s (length o) d) ≡ 0 →
+      Left k (storeIn s .next) channel (datagramIn d)
+  unfolding Left
+  left-for none h = tt
+  left-for (some send) h = send-ok s (length o) d (storeIn s) (datagramIn d) channel h .below
+  left-for (some receive) h = receive-ok s (length o) d (storeIn s) (datagramIn d) channel h .below
+  left-for (some write) h = tt
+  left-for (some acknowledge) h = acknowledge-ok s (length o) d (storeIn s) (datagramIn d) channel h .below
+  left-for (some timeOut) h = tt
+  left-for (some openInit) h =
+      let m = init-ok s (length o) d (storeIn s) (datagramIn d) channel h in
+      (m .number, m .version)
+  left-for (some openTry) h =
+      let m = try-ok s (length o) d (storeIn s) (datagramIn d) channel h .0 in
+      (m .number, m .version)
+  left-for (some openAcknowledge) h = tt
+  left-for (some openConfirm) h = tt
 
-  -- what the line of a number gave
-  quiet : (n : ℕ) → givenAt n (datagramIn d .kind) (refusals s (length o) d) ≡ 0
+  -- what the lines of a number gave
+  quiet : (n : ℕ) → Every (λ m. m ≡ 0) (givenAt n (datagramIn d .kind) (refusals s (length o) d))
   unfolding answerTo
   quiet n = silent n (datagramIn d .kind) (refusals s (length o) d) accepted
 
@@ -42,37 +56,74 @@ module _ (s o d : List ℕ) (accepted : answerTo s o d ≡ 0) where
   unfolding answerTo table givenAt
   ready =
       record {
-        fit = not-false (isFit s) (not-given _ 0 (quiet 1));
-        sound = not-false (isSound d) (not-given _ 2 (quiet 3));
-        there = not-false (isSome (endFor (storeIn s) (datagramIn d))) (not-given _ 4 (quiet 5));
-        below = below (datagramIn d .kind) accepted;
+        fit = not-false (isFit s) (not-given _ 0 (quiet 1 .0));
+        sound = not-false (isSound d) (not-given _ 2 (quiet 3 .0));
+        left = left-for (datagramIn d .kind) accepted;
       }
 
   pub output-room : outputLimit ≤ length o
   unfolding table givenAt
-  output-room = ltb-false (length o) outputLimit (not-given _ 1 (quiet 2))
+  output-room = ltb-false (length o) outputLimit (not-given _ 1 (quiet 2 .0))
 
--- THE END that is put has the number of the one that was there, and so its slot
-pub end-placed : (k : Option Kind) (c : Channel) (d : Datagram) (cs : List (Option Channel)) (j : ℕ) →
-    firstThat (isNumbered (c .own .channel)) cs ≡ At j → IsEndAt (effectFor k c d .ends) cs j
-unfolding effectFor effectOf sends receives writesAcknowledgement acknowledges timesOut receivedEnd acknowledgedEnd
-    timedOutEnd counted closed
-end-placed none c d cs j h = tt
-end-placed (some send) c d cs j h = h
-end-placed (some receive) c d cs j h =
-    of-pick (λ e. IsEndAt (puts e) cs j) (raisesReceive c) (counted c (raisedReceive (c .next))) c (λ q. h) (λ q. h)
-end-placed (some write) c d cs j h = tt
-end-placed (some acknowledge) c d cs j h =
-    of-pick (λ e. IsEndAt (puts e) cs j) (raisesAcknowledge c) (counted c (raisedAcknowledge (c .next))) c (λ q. h)
-    (λ q. h)
-end-placed (some timeOut) c d cs j h =
-    of-pick (λ e. IsEndAt (puts e) cs j) (isOrdered c) (closed c) c (λ q. h) (λ q. h)
+-- THE NEXT CHANNEL NUMBER can be raised where an end is added
+number-fits : (k : Option Kind) (n : ℕ) (c : Channel) (d : Datagram) → n ≤ top → Left k n c d →
+    numberAfter (effectFor k n c d .ends) n ≤ top
+unfolding effectFor effectOf sends receives writesAcknowledgement acknowledges timesOut makes moves numberAfter Left
+number-fits none n c d h l = h
+number-fits (some send) n c d h l = h
+number-fits (some receive) n c d h l = h
+number-fits (some write) n c d h l = h
+number-fits (some acknowledge) n c d h l = h
+number-fits (some timeOut) n c d h l = h
+number-fits (some openInit) n c d h l = omega (arith, l .0)
+number-fits (some openTry) n c d h l = omega (arith, l .0)
+number-fits (some openAcknowledge) n c d h l = h
+number-fits (some openConfirm) n c d h l = h
 
--- THE EFFECT that is decided on the end of the datagram's channel
-pub planned-effect : (s d : List ℕ) {e : Effect} {n : ℕ} {c : Channel} → n ≡ kindIn d →
-    endFor (storeIn s) (datagramIn d) ≡ some c → e ≡ effectFor (kindOf n) c (datagramOf (kindOf n) d) →
-    e ≡ effectIn (storeIn s) (datagramIn d)
-unfolding effectIn datagramIn
-planned-effect s d {e} {n} {c} q found h =
-    h ∙ ap (λ (m : ℕ). effectFor (kindOf m) c (datagramOf (kindOf m) d)) q ∙
-    ap (λ (x : Option Channel). effectFor (kindOf (kindIn d)) (orNone x) (datagramOf (kindOf (kindIn d)) d)) (sym found)
+-- WHAT IS READ: the kind, the next channel number and the end of the datagram's channel. What is left for the call is
+-- left for them, and the effect that is decided on them is the call's
+module _ (s d : List ℕ) {k n : ℕ} {c : Channel} (p : k ≡ kindIn d) (q : n ≡ storeIn s .next)
+    (r : c ≡ orNone (endFor (storeIn s) (datagramIn d))) where
+  pub planned-left : Ready s d → Left (kindOf k) n c (datagramOf (kindOf k) d)
+  unfolding datagramIn
+  planned-left h = rw (p, q, r) (h .left)
+
+  pub planned-number : {e : Effect} → e ≡ effectFor (kindOf k) n c (datagramOf (kindOf k) d) → n ≤ top → Ready s d →
+      numberAfter (e .ends) n ≤ top
+  planned-number h below o = rw h (number-fits (kindOf k) n c (datagramOf (kindOf k) d) below (planned-left o))
+
+  pub planned-effect : {e : Effect} → e ≡ effectFor (kindOf k) n c (datagramOf (kindOf k) d) →
+      e ≡ effectIn (storeIn s) (datagramIn d)
+  unfolding effectIn datagramIn
+  planned-effect h = rw (p, q, r) at h
+
+-- AN END AT ITS SLOT: the bytes hold it, and the ends are those that the rules place
+pub held-end : {s : Store} {bs : List ℕ} → Held s bs → (next : List ℕ) (at : Found) (c : Channel) → ChannelFields c →
+    next ≡ bytesOf (withEnd (storeIn bs) at c) →
+    Held (withEnd s at c) next
+held-end h next (At j) c f e = held-channel h next j (some c) (f, tt) e
+held-end h next Nothing c f e = record { bytes = e ∙ ap bytesOf (held-store h); fields = h .fields }
+
+abbrev pub withChannels : Store → List (Option Channel) → Store
+withChannels s cs =
+    record { height = s .height; time = s .time; next = s .next; channels = cs; records = s .records }
+
+pub placed-end : (s : Store) (x : EndAction) (c : Channel) (at : Found) → at ≡ endSlot (endEditOf x c) (s .channels) →
+    withEnd s at c ≡ withChannels s (placed (endEditOf x c) (s .channels))
+unfolding placed
+placed-end s Leaves c (At j) h = let z : _≡_ {A = ℕ} 0 1 = cc in absurd (omega arith)
+placed-end s Leaves c Nothing h = refl
+placed-end s Puts c (At j) h =
+    ap (withChannels s) (set-replace (isNumbered (c .own .channel)) (some c) j (s .channels) (sym h))
+placed-end s Puts c Nothing h =
+    ap (withChannels s) (sym (replace-nothing (isNumbered (c .own .channel)) (some c) 0 (s .channels) (sym h)))
+placed-end s Adds c (At j) h = ap (withChannels s) (set-insert c j (s .channels) (sym h))
+placed-end s Adds c Nothing h = ap (withChannels s) (sym (insert-nothing c 0 (s .channels) (sym h)))
+
+-- the slot is one of the store's
+pub end-below : (bs : List ℕ) (x : EndAction) (c : Channel) (j : ℕ) →
+    endSlot (endEditOf x c) (storeIn bs .channels) ≡ At j →
+    j < channelLimit
+end-below bs Leaves c j h = let z : _≡_ {A = ℕ} 0 1 = cc in absurd (omega arith)
+end-below bs Puts c j h = channel-index j bs (holds (isNumbered (c .own .channel))) h
+end-below bs Adds c j h = channel-index j bs isFree h

@@ -1,5 +1,6 @@
 // Carries out an accepted datagram: reads alone plan it; then the store is changed, and then the record is emitted.
 use changes::set_channel;
+use changes::set_next;
 use changes::set_times;
 use datagram::Context;
 use datagram::read::channel_in;
@@ -9,6 +10,7 @@ use effects::Decision;
 use effects::EndAction;
 use effects::decide;
 use emit::emit_record;
+use handshake::no_channel;
 use records::edit_records;
 use records::slot_of;
 use slots::Channel;
@@ -16,43 +18,69 @@ use slots::Found;
 use slots::slot::channel_at;
 use store::Store;
 use tables::scan::find_channel;
+use tables::scan::find_free_channel;
+use wire::u64_at;
 ghost use mathlib.Core.Path.{_≡_};
 ghost use mathlib.Core.Bool.{true};
-ghost use Prim.Native.Nat.{_≤_};
+ghost use Prim.Native.Nat.{ℕ, _≤_, _<_};
 ghost use lib.ListN.{length};
-ghost use Rattle.wire.specs.Choice.{isSome};
 ghost use Rattle.slots.specs.declared.Found.the-variants.{At};
-ghost use Rattle.slots.specs.Table.{isNumbered, channelAt};
+ghost use Rattle.slots.specs.Limits.{channelLimit, top};
+ghost use Rattle.slots.specs.Table.{channelAt};
 ghost use Rattle.slots.specs.Layout.{recordsFrom, bytesOf, storeIn};
-ghost use Rattle.slots.specs.Scan.{firstThat};
 ghost use Rattle.slots.specs.Effect.{Exact};
 ghost use Rattle.slots.specs.Fit.{isFit};
 ghost use Rattle.datagram.specs.Datagram.{datagramIn};
 ghost use Rattle.emit.specs.Output.{atFront};
-ghost use Rattle.rules.specs.Acceptance.{applied};
+ghost use Rattle.rules.specs.Refusals.{orNone};
+ghost use Rattle.rules.specs.Acceptance.{numberAfter, applied};
 ghost use Rattle.rules.specs.Call.{answerTo, effectIn, nextStore};
 ghost use Rattle.effects.specs.Decided.{endEditOf, effectBy};
-ghost use Rattle.acceptance.specs.Planned.{Ready, IsEndAt, Placed, withEnds};
+ghost use Rattle.acceptance.specs.Planned.{Ready, endSlot, withEnd, Placed};
 
-// What is carried out: the times, what the datagram does, and the slots of the end and of the packet record.
+// What is carried out: the times, what the datagram does, the next channel number, and the slots of the end (`at`) and
+// of the packet record.
 struct Plan {
     decision: Decision,
     context: Context,
-    index: usize,
+    next: u64,
+    at: Found,
     slot: Found,
 }
 
-// The index of the channel end of this number, which is there.
-fn channel_index(store: &[u8], number: u32) -> usize
-    requires { ⌜
-        (recordsFrom ≤ length (now store)) × (isSome (channelAt number (storeIn (now store) .channels)) ≡ true)
-        ⌝ }
-    ensures { λ r. ⌜ firstThat (isNumbered number) (storeIn (now (store .entry)) .channels) ≡ At r ⌝ }
+// The channel end of this number, or zeros: a datagram that makes an end is about none.
+fn end_of(store: &[u8], number: u32) -> Channel
+    requires { ⌜ recordsFrom ≤ length (now store) ⌝ }
+    ensures { λ r. ⌜ r ≡ orNone (channelAt number (storeIn (now (store .entry)) .channels)) ⌝ }
 {
     let Found::At(j) = find_channel(store, number) else {
-        return 0;
+        return no_channel();
     };
-    j
+    channel_at(store, Store::HEADER + Store::SLOT * j)
+}
+
+// The slot of the end that changes, or the free one of lowest index.
+fn end_slot(store: &[u8], ends: EndAction, end: Channel) -> Found
+    requires { ⌜ recordsFrom ≤ length (now store) ⌝ }
+    ensures { λ r. ⌜ r ≡ endSlot (endEditOf ends end) (storeIn (now (store .entry)) .channels) ⌝ }
+{
+    match ends {
+        EndAction::Leaves => Found::Nothing,
+        EndAction::Puts => find_channel(store, end.own.channel),
+        EndAction::Adds => find_free_channel(store),
+    }
+}
+
+// An end that is added takes the next channel number.
+fn number_after(ends: EndAction, end: Channel, next: u64) -> u64
+    requires { ⌜ numberAfter (endEditOf ends end) next ≤ top ⌝ }
+    ensures { λ r. ⌜ r ≡ numberAfter (endEditOf ends end) next ⌝ }
+{
+    match ends {
+        EndAction::Leaves => next,
+        EndAction::Puts => next,
+        EndAction::Adds => next + 1,
+    }
 }
 
 // All that is read of the store.
@@ -65,29 +93,29 @@ fn plan_for(store: &[u8], datagram: &[u8]) -> Plan
     ensures slots { λ r. ⌜ Placed (storeIn (now (store .entry))) r ⌝ }
 {
     let kind = kind_in(datagram);
-    let index = channel_index(store, channel_in(datagram, kind));
-    let c = channel_at(store, Store::HEADER + Store::SLOT * index);
-    let decision = decide(datagram, kind, c);
+    let c = end_of(store, channel_in(datagram, kind));
+    let next = u64_at(store, 28);
+    let decision = decide(datagram, kind, next, c);
+    let ends = decision.ends;
+    let end = decision.end;
     let edit = decision.edit;
-    let slot = slot_of(store, edit);
-    let context = context_in(datagram);
     Plan {
         decision: decision,
-        context: context,
-        index: index,
-        slot: slot,
+        context: context_in(datagram),
+        next: number_after(ends, end, next),
+        at: end_slot(store, ends, end),
+        slot: slot_of(store, edit),
     }
 }
 
-// An end is put only where the action says so.
-fn place_end(store: &mut [u8], index: usize, ends: EndAction, end: Channel)
-    requires { ⌜ Exact (now store) × IsEndAt (endEditOf ends end) (storeIn (now store) .channels) index ⌝ }
-    ensures { λ _. ⌜ now (store .exit) ≡ bytesOf (withEnds (storeIn (now (store .entry))) (endEditOf ends end)) ⌝ }
+fn put_end(store: &mut [u8], at: Found, c: Channel)
+    requires { ⌜ Exact (now store) × ((j : ℕ) → at ≡ At j → j < channelLimit) ⌝ }
+    ensures { λ _. ⌜ now (store .exit) ≡ bytesOf (withEnd (storeIn (now (store .entry))) at c) ⌝ }
 {
-    match ends {
-        EndAction::Leaves => {}
-        EndAction::Puts => set_channel(store, index, end),
-    }
+    let Found::At(j) = at else {
+        return;
+    };
+    set_channel(store, j, c);
 }
 
 // All that is written to the store.
@@ -99,12 +127,12 @@ fn carry_out(store: &mut [u8], p: Plan)
 {
     let height = p.context.height;
     set_times(store, height, p.context.time);
-    let decision = p.decision;
-    let ends = decision.ends;
-    let end = decision.end;
-    place_end(store, p.index, ends, end);
+    set_next(store, p.next);
+    let at = p.at;
+    let end = p.decision.end;
+    put_end(store, at, end);
     let slot = p.slot;
-    let edit = decision.edit;
+    let edit = p.decision.edit;
     edit_records(store, slot, edit);
 }
 

@@ -1,5 +1,7 @@
-// What acceptance does, decided by reads alone: for each kind of datagram the edit of the ends, the edit of the packet
-// records, and the record that is emitted. A new kind is one more such function, and a line of `decide`.
+// What acceptance does, decided by reads alone: for each kind of datagram what becomes of the ends, the edit of the
+// packet records, and the record that is emitted. A new kind is one more such function, and a line of `decide`.
+pub mod opening; // the steps of the opening handshake
+
 use datagram::Packet;
 use datagram::read::digest_in;
 use datagram::read::packet_in;
@@ -14,6 +16,10 @@ use ends::acknowledged_end;
 use ends::received_end;
 use ends::sent_end;
 use ends::timed_out_end;
+use opening::decide_init;
+use opening::decide_open_acknowledge;
+use opening::decide_open_confirm;
+use opening::decide_try;
 use records::Action;
 use records::RecordEdit;
 use records::freed_commitment;
@@ -29,17 +35,19 @@ ghost use Prim.Native.Nat.{_≤_};
 ghost use lib.ListN.{length};
 ghost use Rattle.wire.specs.Choice.{isSome};
 ghost use Rattle.datagram.specs.Kind.{send, receive, write, acknowledge, timeOut, kindOf, sizeOf};
-ghost use Rattle.datagram.specs.Datagram.{datagramOf};
+ghost use Rattle.datagram.specs.Datagram.{packetFrom, sequenceFrom, digestFrom, datagramOf};
 ghost use Rattle.rules.specs.Ordering.{isSendAtTop, isReceiveAtTop, isAcknowledgeAtTop};
-ghost use Rattle.rules.specs.Acceptance.{sentPacket, commitment, effectOf, effectFor};
-ghost use Rattle.effects.specs.Decided.{effectBy, isCounterAtTop};
+ghost use Rattle.rules.specs.Acceptance.{sentPacket, commitment, sends, receives};
+ghost use Rattle.rules.specs.Acceptance.{writesAcknowledgement, acknowledges, timesOut, effectFor};
+ghost use Rattle.effects.specs.Decided.{effectBy, Left};
 
+// The ends stay, the one of this number becomes this one, or a new one takes the next channel number.
 pub enum EndAction {
     Leaves,
     Puts,
+    Adds,
 }
 
-// The ends stay, or the end of its number becomes `end`.
 pub struct Decision {
     pub ends: EndAction,
     pub end: Channel,
@@ -81,7 +89,7 @@ fn commitment_of(p: Packet) -> Record
 
 fn decide_send(d: &[u8], c: Channel) -> Decision
     requires { ⌜ (sizeOf (some send) ≤ length (now d)) × (isSendAtTop c ≡ false) ⌝ }
-    ensures { λ r. ⌜ effectBy r ≡ effectOf send c (datagramOf (some send) (now (d .entry))) ⌝ }
+    ensures { λ r. ⌜ effectBy r ≡ sends c (datagramOf (some send) (now (d .entry))) ⌝ }
 {
     let packet = sent_packet(d, c);
     let committed = commitment_of(packet);
@@ -103,7 +111,7 @@ fn decide_send(d: &[u8], c: Channel) -> Decision
 
 fn decide_receive(d: &[u8], c: Channel) -> Decision
     requires { ⌜ (sizeOf (some receive) ≤ length (now d)) × (isReceiveAtTop c ≡ false) ⌝ }
-    ensures { λ r. ⌜ effectBy r ≡ effectOf receive c (datagramOf (some receive) (now (d .entry))) ⌝ }
+    ensures { λ r. ⌜ effectBy r ≡ receives c (packetFrom (some receive) (now (d .entry))) ⌝ }
 {
     let packet = packet_in(d);
     let edit = received_edit(c, packet.sequence);
@@ -123,7 +131,10 @@ fn decide_receive(d: &[u8], c: Channel) -> Decision
 // Of the packet that is acknowledged the channel end tells the ends, and the datagram the sequence.
 fn decide_write(d: &[u8], c: Channel) -> Decision
     requires { ⌜ sizeOf (some write) ≤ length (now d) ⌝ }
-    ensures { λ r. ⌜ effectBy r ≡ effectOf write c (datagramOf (some write) (now (d .entry))) ⌝ }
+    ensures { λ r. ⌜
+        effectBy r ≡
+        writesAcknowledgement c (sequenceFrom (some write) (now (d .entry))) (digestFrom (some write) (now (d .entry)))
+        ⌝ }
 {
     let sequence = sequence_in(d);
     let digest = digest_in(d, 3);
@@ -153,7 +164,11 @@ fn decide_write(d: &[u8], c: Channel) -> Decision
 
 fn decide_acknowledge(d: &[u8], c: Channel) -> Decision
     requires { ⌜ (sizeOf (some acknowledge) ≤ length (now d)) × (isAcknowledgeAtTop c ≡ false) ⌝ }
-    ensures { λ r. ⌜ effectBy r ≡ effectOf acknowledge c (datagramOf (some acknowledge) (now (d .entry))) ⌝ }
+    ensures { λ r. ⌜
+        effectBy r ≡
+        acknowledges c (packetFrom (some acknowledge) (now (d .entry)))
+        (digestFrom (some acknowledge) (now (d .entry)))
+        ⌝ }
 {
     let packet = packet_in(d);
     let digest = digest_in(d, 4);
@@ -173,7 +188,7 @@ fn decide_acknowledge(d: &[u8], c: Channel) -> Decision
 
 fn decide_time_out(d: &[u8], c: Channel) -> Decision
     requires { ⌜ sizeOf (some timeOut) ≤ length (now d) ⌝ }
-    ensures { λ r. ⌜ effectBy r ≡ effectOf timeOut c (datagramOf (some timeOut) (now (d .entry))) ⌝ }
+    ensures { λ r. ⌜ effectBy r ≡ timesOut c (packetFrom (some timeOut) (now (d .entry))) ⌝ }
 {
     let packet = packet_in(d);
     let edit = freed_commitment(c, packet.sequence);
@@ -190,19 +205,23 @@ fn decide_time_out(d: &[u8], c: Channel) -> Decision
     }
 }
 
-// An accepted datagram's kind is known, and the counter that it raises is below its top.
-pub fn decide(d: &[u8], kind: u16, c: Channel) -> Decision
+// An accepted datagram's kind is known, and what it needs is left: a counter below its top, or a channel number.
+pub fn decide(d: &[u8], kind: u16, next: u64, c: Channel) -> Decision
     requires { ⌜
         (isSome (kindOf kind) ≡ true) × (sizeOf (kindOf kind) ≤ length (now d)) ×
-        (isCounterAtTop (kindOf kind) c ≡ false)
+        Left (kindOf kind) next c (datagramOf (kindOf kind) (now d))
         ⌝ }
-    ensures { λ r. ⌜ effectBy r ≡ effectFor (kindOf kind) c (datagramOf (kindOf kind) (now (d .entry))) ⌝ }
+    ensures { λ r. ⌜ effectBy r ≡ effectFor (kindOf kind) next c (datagramOf (kindOf kind) (now (d .entry))) ⌝ }
 {
     match kind {
         1 => decide_send(d, c),
         2 => decide_receive(d, c),
         3 => decide_write(d, c),
         4 => decide_acknowledge(d, c),
-        _ => decide_time_out(d, c),
+        5 => decide_time_out(d, c),
+        6 => decide_init(d, next),
+        7 => decide_try(d, next),
+        8 => decide_open_acknowledge(d, c),
+        _ => decide_open_confirm(c),
     }
 }

@@ -1,4 +1,5 @@
-// The channel end that acceptance leaves, by the kind of datagram and the channel's ordering.
+// The channel end that acceptance of a packet leaves, by the kind of datagram and the channel's ordering.
+use handshake::moved;
 use ordering::raises_counter;
 use slots::Channel;
 use slots::Counters;
@@ -28,12 +29,14 @@ fn with_counters(c: Channel, next: Counters) -> Channel
 {
     let own = c.own;
     let counterparty = c.counterparty;
+    let version = c.version;
     Channel {
         state: c.state,
         order: c.order,
         own: own,
         counterparty: counterparty,
         next: next,
+        version: version,
     }
 }
 
@@ -82,14 +85,6 @@ pub fn timed_out_end(c: Channel) -> Channel
     if !is_ordered(c) {
         return c;
     }
-    let own = c.own;
     let counterparty = c.counterparty;
-    let next = c.next;
-    Channel {
-        state: Channel::CLOSED,
-        order: c.order,
-        own: own,
-        counterparty: counterparty,
-        next: next,
-    }
+    moved(Channel::CLOSED, counterparty, c)
 }

@@ -29,7 +29,8 @@ slotOf (frees k) rs = firstThat (hasKey k) rs
 
 -- a store whose packet records alone are others: those that an edit leaves
 abbrev pub withRecords : Store → List (Option Record) → Store
-withRecords s rs = record { height = s .height; time = s .time; channels = s .channels; records = rs }
+withRecords s rs =
+    record { height = s .height; time = s .time; next = s .next; channels = s .channels; records = rs }
 
 abbrev pub withEdit : Store → Edit → Store
 withEdit s e = withRecords s (edited e (s .records))

@@ -13,7 +13,7 @@ ghost use mathlib.Core.Path.{_≡_};
 ghost use Rattle.slots.specs.Table.{commitmentKey};
 ghost use Rattle.slots.specs.Layout.{bytesOf, storeIn};
 ghost use Rattle.slots.specs.Effect.{Exact};
-ghost use Rattle.rules.specs.Ordering.{frees, plainRecord, receivedEdit};
+ghost use Rattle.rules.specs.Ordering.{keeps, frees, plainRecord, receivedEdit};
 ghost use Rattle.records.specs.Edited.{withEdit, editBy, slotOf};
 
 pub enum Action {
@@ -38,6 +38,16 @@ pub fn plain_record(kind: u16, channel: u32, sequence: u64, digest: [u8; 32]) ->
         sequence: sequence,
         timeout: Timeout { height: 0, time: 0 },
         digest: digest,
+    }
+}
+
+// No record changes.
+pub fn no_edit() -> RecordEdit
+    ensures { λ r. ⌜ editBy r ≡ keeps ⌝ }
+{
+    RecordEdit {
+        action: Action::Keeps,
+        about: plain_record(Record::RECEIPT, 0, 0, [0; 32]),
     }
 }
 

@@ -1,30 +1,24 @@
--- The channel's end is found, and what is decided on it is the effect of the call. Assumes nothing.
-use mathlib.Core.Path.{_≡_, sym, ap, subst, _∙_}
+-- What is decided on the end of the datagram's channel is the effect of the call. Assumes nothing.
+use mathlib.Core.Path.{_≡_, ap, _∙_}
 use mathlib.Core.List.{List}
-use mathlib.Core.Option.{Option, some}
-use Prim.Native.Nat.{ℕ, _<_}
+use Prim.Native.Nat.{ℕ, _≤_}
 use native.Mathlib.Omega.{arith}
+use lib.ListN.{length}
 use denote.Ref.{now}
 use Rattle.wire.specs.Choice.{isSome}
-use Rattle.slots.specs.declared.Channel.{Channel}
-use Rattle.slots.specs.Limits.{channelLimit}
-use Rattle.slots.specs.Table.{isNumbered, channelAt}
-use Rattle.slots.specs.Layout.{storeIn}
-use Rattle.slots.specs.Scan.{holds, firstThat}
+use Rattle.slots.specs.Limits.{top}
+use Rattle.slots.specs.Table.{channelAt}
+use Rattle.slots.specs.Layout.{recordsFrom, storeIn}
 use Rattle.slots.specs.Effect.{Exact}
-use Rattle.slots.proofs.Laws.{channel-number}
 use Rattle.slots.proofs.EffectLaws.{exact-room}
 use Rattle.slots.proofs.HeldLaws.{fit-exact}
-use Rattle.slots.proofs.ScanLaws.{channel-found}
-use Rattle.slots.proofs.SlotTestLaws.{channel-index}
-use Rattle.datagram.specs.Kind.{Kind, kindOf}
-use Rattle.datagram.specs.Datagram.{kindIn, channelFrom, datagramIn, datagramOf}
+use Rattle.datagram.specs.Kind.{kindOf}
+use Rattle.datagram.specs.Datagram.{channelFrom, datagramIn}
 use Rattle.datagram.proofs.DatagramLaws.{Sound, sound-is}
 use Rattle.rules.specs.Refusals.{orNone, endFor}
-use Rattle.rules.specs.Acceptance.{Effect}
-use Rattle.effects.specs.Decided.{isCounterAtTop}
-use Rattle.acceptance.specs.Planned.{IsEndAt}
-use Rattle.acceptance.proofs.AcceptLaws.{end-placed, planned-effect}
+use Rattle.rules.specs.Acceptance.{numberAfter}
+use Rattle.effects.specs.Decided.{endsBy}
+use Rattle.acceptance.proofs.AcceptLaws.{planned-left, planned-number, planned-effect}
 use Rattle.acceptance.proofs.plan_for.Statement.{statement}
 use Rattle.acceptance.proofs.plan_for.Tie as tie
 
@@ -41,7 +35,10 @@ sound o = sound-is (datagramGot o) (o .pre .sound)
 exact : (o : tie.Start) → Exact (store o)
 exact o = fit-exact (store o) (o .pre .fit)
 
--- THE CHANNEL: its number, its index and its end
+room : (o : tie.Start) → recordsFrom ≤ length (store o)
+room o = omega (arith, exact-room (store o) (exact o))
+
+-- WHAT IS READ: the channel, its end, and the next channel number
 abbrev start : tie.After-channel-in → tie.Start
 start i = i .before .before .before .before
 
@@ -51,77 +48,60 @@ number i =
     i .channel-in .ensures ∙ ap (λ (k : ℕ). channelFrom (kindOf k) (datagramGot (start i)))
     (i .before .kind-in .ensures)
 
-below : (j : tie.After-channel-index) → j .channel-index .result < channelLimit
-below j =
-    let i = j .before in
-    channel-index (j .channel-index .result) (store (start i)) (holds (isNumbered (i .channel-in .result)))
-    (j .channel-index .ensures)
+end : (e : tie.After-end-of) → let o = start (e .before) in
+    e .end-of .result ≡ orNone (endFor (storeIn (store o)) (datagramIn (datagramGot o)))
+end e =
+    e .end-of .ensures ∙
+    ap (λ (n : ℕ). orNone (channelAt n (storeIn (store (start (e .before))) .channels))) (number (e .before))
 
-found : (x : tie.After-channel-at) → let o = start (x .before .before) in
-    endFor (storeIn (store o)) (datagramIn (datagramGot o)) ≡ some (x .channel-at .result)
-found x =
-    let j = x .before in
-    let i = j .before in
-    let o = start i in
-    ap (λ (n : ℕ). channelAt n (storeIn (store o) .channels)) (sym (number i)) ∙
-    channel-found (isNumbered (i .channel-in .result)) (j .channel-index .result) (store o)
-    (j .channel-index .ensures) ∙
-    ap (λ (c : Channel). some c) (sym (x .channel-at .ensures))
+next : (u : tie.After-u64-at) → u .u64-at .result ≡ storeIn (store (start (u .before .before))) .next
+unfolding storeIn
+next u = u .u64-at .ensures
 
 -- WHAT THE CALLS REQUIRE
 channel-in-requires : tie.Need-channel-in-requires
 channel-in-requires c κs = rw (c .kind-in .ensures) (omega (arith, sound (c .before .before .before) .size))
 
-channel-index-requires : tie.Need-channel-index-requires
-channel-index-requires c κs =
-    let o = start c in (
-      omega (arith, exact-room (store o) (exact o)),
-      ap (λ (n : ℕ). isSome (channelAt n (storeIn (store o) .channels))) (number c) ∙ o .pre .there,
-    )
-
-channel-at-requires : tie.Need-channel-at-requires
-channel-at-requires c κs =
-    let o = start (c .before) in
-    omega (arith, below c, exact-room (store o) (exact o))
-
 decide-requires : tie.Need-decide-requires
-unfolding datagramIn
 decide-requires c κs =
     let i = c .before .before in
     let o = start i in
-    let k = ap kindOf (i .before .kind-in .ensures) in
-    let s = sound o in (
+    let s = sound o in
+    let kind = i .before .kind-in .ensures in
+    let k = ap kindOf kind in (
       ap isSome k ∙ s .known,
       rw k (omega (arith, s .size)),
-      ap (λ (x : Option Kind). isCounterAtTop x (c .channel-at .result)) k ∙
-          ap (λ (x : Option Channel). isCounterAtTop (kindOf (kindIn (datagramGot o))) (orNone x)) (sym (found c)) ∙
-          o .pre .below,
+      planned-left (store o) (datagramGot o) kind (next c) (end (c .before)) (o .pre),
     )
+
+number-after-requires : tie.Need-number-after-requires
+number-after-requires c κs =
+    let decision = c .before .before .before in
+    let u = decision .before in
+    let i = u .before .before in
+    let o = start i in
+    let below : u .u64-at .result ≤ top = omega arith in
+    planned-number (store o) (datagramGot o) (i .before .kind-in .ensures) (next u) (end (u .before))
+    (decision .decide .ensures) below (o .pre)
 
 returns : tie.Need-returns
 unfolding datagramIn
 returns c =
-    let decision = c .before .before .before in
-    let x = decision .before in
-    let j = x .before in
-    let i = j .before in
-    let o = start i in
-    let k = kindOf (i .before .kind-in .result) in
-    let end = x .channel-at .result in
-    let decided = decision .decide .ensures in
-    let same : end .own .channel ≡ i .channel-in .result =
-    channel-number (datagramIn (datagramGot o) .channel) (storeIn (store o) .channels) end (found x) ∙
-    sym (number i) in
-    let cs = storeIn (store o) .channels in
-    let at = ap (λ (n : ℕ). firstThat (isNumbered n) cs) same ∙ j .channel-index .ensures in (
-      c .context-in .ensures,
+    let slot = c .before in
+    let after = slot .before in
+    let context = after .before in
+    let decision = context .before .before .before in
+    let u = decision .before in
+    let i = u .before .before in
+    let o = start i in (
+      context .context-in .ensures,
       (
-        planned-effect (store o) (datagramGot o) (i .before .kind-in .ensures) (found x) decided,
+        planned-effect (store o) (datagramGot o) (i .before .kind-in .ensures) (next u) (end (u .before))
+            (decision .decide .ensures),
         record {
-          end =
-              subst (λ (e : Effect). IsEndAt (e .ends) cs (j .channel-index .result)) (sym decided)
-              (end-placed k end (datagramOf k (datagramGot o)) cs (j .channel-index .result) at);
-          edit = c .before .slot-of .ensures;
+          end = slot .end-slot .ensures;
+          next = after .number-after .ensures ∙ ap (numberAfter (endsBy (decision .decide .result))) (next u);
+          edit = c .slot-of .ensures;
         },
       ),
     )
@@ -130,7 +110,8 @@ pub plan-for-spec : {M : Type 1} → statement M
 plan-for-spec =
     tie.close
     (tie.spec
-    (λ c κs. omega (arith, sound (c .before .before) .size)) channel-in-requires channel-index-requires
-    (λ c. omega (arith, below c)) (λ c. omega (arith, below c)) channel-at-requires decide-requires
-    (λ c κs. exact (start (c .before .before .before .before)))
-    (λ c κs. omega (arith, sound (start (c .before .before .before .before .before)) .size)) returns)
+    (λ c κs. omega (arith, sound (c .before .before) .size)) channel-in-requires (λ c κs. room (start c))
+    (λ c κs. omega (arith, room (start (c .before)))) decide-requires
+    (λ c κs. omega (arith, sound (start (c .before .before .before .before .before)) .size)) number-after-requires
+    (λ c κs. room (start (c .before .before .before .before .before .before .before)))
+    (λ c κs. exact (start (c .before .before .before .before .before .before .before .before))) returns)

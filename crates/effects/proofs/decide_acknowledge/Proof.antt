@@ -5,7 +5,7 @@ use borrow.Author.Needs.{needs}
 use Rattle.wire.specs.Choice.{_or_, withNumber}
 use Rattle.datagram.specs.Kind.{body, hasPart, partsSize, sizeBefore}
 use Rattle.datagram.specs.Datagram.{packetFrom}
-use Rattle.rules.specs.Acceptance.{acknowledges, effectOf}
+use Rattle.rules.specs.Acceptance.{acknowledges}
 use Rattle.effects.proofs.decide_acknowledge.Statement.{statement}
 use Rattle.effects.proofs.decide_acknowledge.Tie as tie
 
@@ -18,7 +18,7 @@ unfolding withNumber body hasPart _or_
 digest-in-requires c κs = (refl, c .before .before .pre .0)
 
 returns : tie.Need-returns
-unfolding effectOf acknowledges withNumber packetFrom body sizeBefore
+unfolding acknowledges withNumber packetFrom body sizeBefore
 returns c =
     let freed = c .before in
     let digest = freed .before in

@@ -3,7 +3,7 @@ use native.Mathlib.Omega.{arith}
 use borrow.Author.Needs.{needs}
 use Rattle.datagram.specs.Kind.{body, partsSize, sizeBefore}
 use Rattle.datagram.specs.Datagram.{packetFrom}
-use Rattle.rules.specs.Acceptance.{receives, effectOf}
+use Rattle.rules.specs.Acceptance.{receives}
 use Rattle.effects.proofs.decide_receive.Statement.{statement}
 use Rattle.effects.proofs.decide_receive.Tie as tie
 
@@ -12,7 +12,7 @@ unfolding body partsSize
 packet-in-requires c κs = omega (arith, c .before .pre .0)
 
 returns : tie.Need-returns
-unfolding effectOf receives packetFrom body sizeBefore
+unfolding receives packetFrom body sizeBefore
 returns c =
     rw (c .received-end .ensures, c .before .received-edit .ensures, c .before .before .packet-in .ensures)
 

@@ -3,7 +3,7 @@ use native.Mathlib.Omega.{arith}
 use borrow.Author.Needs.{needs}
 use Rattle.datagram.specs.Kind.{body, partsSize, sizeBefore}
 use Rattle.datagram.specs.Datagram.{packetFrom}
-use Rattle.rules.specs.Acceptance.{timesOut, effectOf}
+use Rattle.rules.specs.Acceptance.{timesOut}
 use Rattle.effects.proofs.decide_time_out.Statement.{statement}
 use Rattle.effects.proofs.decide_time_out.Tie as tie
 
@@ -12,7 +12,7 @@ unfolding body partsSize
 packet-in-requires c κs = omega (arith, c .before .pre)
 
 returns : tie.Need-returns
-unfolding effectOf timesOut packetFrom body sizeBefore
+unfolding timesOut packetFrom body sizeBefore
 returns c =
     rw (c .timed-out-end .ensures, c .before .freed-commitment .ensures, c .before .before .packet-in .ensures)
 

@@ -5,7 +5,7 @@ use borrow.Author.Needs.{needs}
 use Rattle.wire.specs.Choice.{_or_, withNumber}
 use Rattle.datagram.specs.Kind.{body, hasPart, partsSize, sizeBefore}
 use Rattle.datagram.specs.Datagram.{sequenceFrom}
-use Rattle.rules.specs.Acceptance.{writesAcknowledgement, effectOf}
+use Rattle.rules.specs.Acceptance.{writesAcknowledgement}
 use Rattle.effects.proofs.decide_write.Statement.{statement}
 use Rattle.effects.proofs.decide_write.Tie as tie
 
@@ -18,7 +18,7 @@ unfolding withNumber body hasPart _or_
 digest-in-requires c κs = (refl, c .before .before .pre)
 
 returns : tie.Need-returns
-unfolding effectOf writesAcknowledgement withNumber sequenceFrom body sizeBefore
+unfolding writesAcknowledgement withNumber sequenceFrom body sizeBefore
 returns c =
     let made = c .before .before in
     let digest = made .before in
