@@ -1,4 +1,4 @@
--- What is known behind line 5: the number of packet records, and the kind and context of a sound datagram.
+-- What is known behind line 4: the number of packet records, and the kind and context of a sound datagram.
 use mathlib.Core.Path.{_≡_}
 use mathlib.Core.Bool.{true}
 use mathlib.Core.List.{List}

@@ -1,15 +1,21 @@
-// The answer to a datagram: the number of the first line of the table that applies, 0 where none does. Lines 1 to 7 are
-// for every kind, but 6 not for a time-out, and stand here in their order.
+// The answer to a datagram: the number of the first line of the table that applies, 0 where none does. Lines 1 to 4 are
+// for every kind, 5 and 7 for those about an end, 6 for those that need it OPEN. They stand here in their order.
 use datagram::Context;
+use datagram::place::version_place;
 use datagram::read::channel_in;
 use datagram::read::context_in;
+use datagram::read::counterparty_channel_in;
+use datagram::read::counterparty_port_in;
 use datagram::read::digest_in;
+use datagram::read::end_verdict_in;
 use datagram::read::kind_in;
+use datagram::read::order_in;
 use datagram::read::packet_in;
 use datagram::read::sequence_in;
 use datagram::read::timeout_in;
 use datagram::read::verdict_in;
 use fit::is_fit;
+use handshake::no_channel;
 use heights::goes_back;
 use rows::acknowledge_row;
 use rows::receive_row;
@@ -19,24 +25,40 @@ use rows::write_row;
 use slots::Channel;
 use slots::Found;
 use slots::OwnHeight;
+use slots::PortChannel;
+use slots::VERSION;
 use slots::slot::channel_at;
 use sound::is_sound;
+use steps::open_acknowledge_row;
+use steps::open_confirm_row;
+use steps::open_init_row;
+use steps::open_try_row;
 use store::Store;
 use tables::scan::find_channel;
+use versions::version_fits;
+use versions::version_from;
 use wire::Frame;
 use wire::frame_in;
 use wire::u64_at;
 ghost use mathlib.Core.Path.{_≡_};
-ghost use mathlib.Core.Bool.{true};
-ghost use Rattle.slots.specs.Layout.{storeIn};
+ghost use mathlib.Core.Bool.{true, false};
+ghost use mathlib.Core.Option.{some};
+ghost use Prim.Native.Nat.{_≤_};
+ghost use lib.ListN.{length};
+ghost use Rattle.slots.specs.declared.Channel.{Channel};
+ghost use Rattle.slots.specs.Layout.{recordsFrom, storeIn};
 ghost use Rattle.slots.specs.Fit.{isFit};
-ghost use Rattle.datagram.specs.Kind.{kindOf};
-ghost use Rattle.datagram.specs.Datagram.{datagramIn, isSound};
-ghost use Rattle.rules.specs.Refusals.{lowest, refusals, orNone, endFor};
-ghost use Rattle.rows.specs.Lines.{numberBehind};
+ghost use Rattle.datagram.specs.Kind.{openTry, openAcknowledge, kindOf, sizeOf};
+ghost use Rattle.datagram.specs.Datagram.{contextIn, datagramOf, datagramIn, isSound};
+ghost use Rattle.rules.specs.Refusals.{lowest, makesEnd, refusals, orNone, endFor};
+ghost use Rattle.verdicts.specs.Lines.{numberBehind};
 ghost use Rattle.answer.specs.Known.{Known};
 
-const TIME_OUT: u16 = 5;
+const ACKNOWLEDGE: u16 = 4;
+
+const OPEN_INIT: u16 = 6;
+
+const OPEN_TRY: u16 = 7;
 
 // Lines 1 to 3: a fit store, room for every record that is emitted, a sound datagram.
 pub fn answer(store: &[u8], room: usize, datagram: &[u8]) -> u8
@@ -61,7 +83,7 @@ pub fn answer(store: &[u8], room: usize, datagram: &[u8]) -> u8
     answer_sound(store, datagram)
 }
 
-// Lines 4 and 5: the clock, and the channel end that the datagram is about.
+// Line 4: the clock. An open init (6) and an open try (7) make an end, and are about none.
 fn answer_sound(store: &[u8], datagram: &[u8]) -> u8
     requires { ⌜ (isFit (now store) ≡ true) × (isSound (now datagram) ≡ true) ⌝ }
     ensures { λ r. ⌜
@@ -76,22 +98,27 @@ fn answer_sound(store: &[u8], datagram: &[u8]) -> u8
         return 4;
     }
     let kind = kind_in(datagram);
+    let count = (store.len() - Store::RECORDS_FROM) / Store::SLOT;
+    if (kind == OPEN_INIT) | (kind == OPEN_TRY) {
+        return answer_by_kind(store, count, datagram, kind, x, no_channel());
+    }
+    answer_on(store, count, datagram, kind, x)
+}
+
+// Lines 5 to 7: the channel end that the datagram is about, in state OPEN for the kinds 1 to 4, and its port.
+fn answer_on(store: &[u8], count: usize, datagram: &[u8], kind: u16, x: Context) -> u8
+    requires { ⌜ Known (now store) count (now datagram) kind x × (makesEnd (kindOf kind) ≡ false) ⌝ }
+    ensures { λ r. ⌜
+        r ≡
+        numberBehind 4 (kindOf kind) (storeIn (now (store .entry))) (datagramIn (now (datagram .entry)))
+        (orNone (endFor (storeIn (now (store .entry))) (datagramIn (now (datagram .entry)))))
+        ⌝ }
+{
     let Found::At(j) = find_channel(store, channel_in(datagram, kind)) else {
         return 5;
     };
     let c = channel_at(store, Store::HEADER + Store::SLOT * j);
-    let count = (store.len() - Store::RECORDS_FROM) / Store::SLOT;
-    answer_on(store, count, datagram, kind, x, c)
-}
-
-// Lines 6 and 7: an open channel end, for all but a time-out, and its port.
-fn answer_on(store: &[u8], count: usize, datagram: &[u8], kind: u16, x: Context, c: Channel) -> u8
-    requires { ⌜ Known (now store) count (now datagram) kind x ⌝ }
-    ensures { λ r. ⌜
-        r ≡ numberBehind 5 (kindOf kind) (storeIn (now (store .entry))) (datagramIn (now (datagram .entry))) c
-        ⌝ }
-{
-    if (kind != TIME_OUT) & (c.state != Channel::OPEN) {
+    if (kind <= ACKNOWLEDGE) & (c.state != Channel::OPEN) {
         return 6;
     }
     if x.port != c.own.port {
@@ -100,7 +127,7 @@ fn answer_on(store: &[u8], count: usize, datagram: &[u8], kind: u16, x: Context,
     answer_by_kind(store, count, datagram, kind, x, c)
 }
 
-// Lines 8 to 20: those of the datagram's own kind. Unknown kinds were refused with 3.
+// Lines 8 to 27: those of the datagram's own kind. Unknown kinds were refused with 3.
 fn answer_by_kind(
     store: &[u8],
     count: usize,
@@ -115,7 +142,7 @@ fn answer_by_kind(
         ⌝ }
 {
     match kind {
-        0 | 6..=65535 => 3,
+        0 | 10..=65535 => 3,
         1 => send_row(store, count, x, timeout_in(datagram), c),
         2 => {
             let p = packet_in(datagram);
@@ -134,5 +161,55 @@ fn answer_by_kind(
             let p = packet_in(datagram);
             time_out_row(store, count, p, verdict_in(datagram, 5), c)
         }
+        6 => open_init_row(store, version_fits(datagram, version_place(6))),
+        7 => answer_try(store, datagram, x),
+        8 => answer_open_acknowledge(datagram, x, c),
+        9 => open_confirm_row(x, end_verdict_in(datagram, 9), c),
     }
+}
+
+// The row of an open try, on the parts that are read for it: its version where that fits.
+fn answer_try(store: &[u8], datagram: &[u8], x: Context) -> u8
+    requires { ⌜
+        (recordsFrom ≤ length (now store)) × (sizeOf (some openTry) ≤ length (now datagram)) ×
+        (contextIn (now datagram) ≡ x)
+        ⌝ }
+    ensures { λ r. ⌜
+        ((c : Channel) →
+        r ≡
+        numberBehind 7 (some openTry) (storeIn (now (store .entry)))
+        (datagramOf (some openTry) (now (datagram .entry))) c)
+        ⌝ }
+{
+    let order = order_in(datagram, OPEN_TRY);
+    let counterparty = PortChannel {
+        port: counterparty_port_in(datagram),
+        channel: counterparty_channel_in(datagram, OPEN_TRY),
+    };
+    let v = end_verdict_in(datagram, OPEN_TRY);
+    let at = version_place(OPEN_TRY);
+    if !version_fits(datagram, at) {
+        return open_try_row(store, x, order, counterparty, v, false, [0u8; VERSION]);
+    }
+    open_try_row(
+        store,
+        x,
+        order,
+        counterparty,
+        v,
+        true,
+        version_from(datagram, at),
+    )
+}
+
+fn answer_open_acknowledge(datagram: &[u8], x: Context, c: Channel) -> u8
+    requires { ⌜ (sizeOf (some openAcknowledge) ≤ length (now datagram)) × (contextIn (now datagram) ≡ x) ⌝ }
+    ensures { λ r. ⌜
+        ((s : Rattle.slots.specs.Layout.Store) →
+        r ≡
+        numberBehind 7 (some openAcknowledge) s (datagramOf (some openAcknowledge) (now (datagram .entry))) c)
+        ⌝ }
+{
+    let channel = counterparty_channel_in(datagram, 8);
+    open_acknowledge_row(x, channel, end_verdict_in(datagram, 8), c)
 }

@@ -7,7 +7,7 @@ use Rattle.slots.specs.Layout.{storeIn}
 use Rattle.datagram.specs.Datagram.{datagramIn}
 use Rattle.sound.proofs.SoundLaws.{malformed}
 use Rattle.rules.specs.Refusals.{lowest, table, refusals, orNone, endFor}
-use Rattle.rows.specs.Lines.{behind, numberBehind}
+use Rattle.verdicts.specs.Lines.{behind, numberBehind}
 use Rattle.verdicts.proofs.TestedLaws.{holds, fails}
 use Rattle.answer.proofs.answer.Statement.{statement}
 use Rattle.answer.proofs.answer.Tie as tie
