@@ -50,7 +50,7 @@ fn compare_call(subject: &Subject, call: &Call, index: u64, report: &mut Report)
         }
     };
     let applying = applying_to(call, &expected);
-    report.coverage.count(call, expected.number, &applying);
+    report.coverage.count(call, &expected, &applying);
     let found = differences(&expected, &given);
     if !found.is_empty() {
         note(report, call, index, found);

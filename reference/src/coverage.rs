@@ -1,6 +1,7 @@
 //! How often each answer came for each kind of datagram, and which cells were reached.
 
 pub mod cell;
+mod step;
 
 use std::collections::BTreeMap;
 use std::fmt;
@@ -10,14 +11,15 @@ use crate::datagram::{read, Body};
 use crate::generate::{Call, Origin, Row, Task};
 use crate::places::frame;
 use crate::refusal::*;
-use crate::store::find_channel;
+use crate::store::{find_channel, next_channel};
+use crate::subject::Left;
 use crate::table::own_channel;
 use cell::{Cell, KINDS, SORTS};
 
 const COLUMNS: usize = KINDS.len() + 2;
 const OTHER: usize = KINDS.len();
 const MAKER: usize = KINDS.len() + 1;
-const ANSWERS: usize = 25;
+const ANSWERS: usize = 28;
 
 /// A count for each answer and each kind of datagram.
 #[derive(Default)]
@@ -43,13 +45,23 @@ impl fmt::Display for Table {
         writeln!(out)?;
         for (number, row) in self.0.iter().enumerate().filter(|(_, row)| row.iter().any(|count| *count > 0)) {
             write!(out, "{number:>6}")?;
-            row.iter().try_for_each(|count| match count {
-                0 => write!(out, "{:>10}", "-"),
+            row.iter().enumerate().try_for_each(|(column, count)| match count {
+                0 if in_table(column, number as u8) => write!(out, "{:>10}", "-"),
+                0 => write!(out, "{:>10}", "."),
                 count => write!(out, "{count:>10}"),
             })?;
             writeln!(out)?;
         }
-        Ok(())
+        writeln!(out, "A dash: allowed and not met. A dot: never given there.")
+    }
+}
+
+/// Whether a column can have this answer.
+fn in_table(column: usize, number: u8) -> bool {
+    match column {
+        OTHER => (STORE_NOT_FIT..=MALFORMED).contains(&number),
+        MAKER => number == 0 || (STORE_LENGTH_UNFIT..=CHANNEL_TWICE).contains(&number),
+        _ => cell::answers(column as u16 + 1).contains(&number),
     }
 }
 
@@ -67,13 +79,15 @@ impl Coverage {
 
     /// Counts a call with its answer and all refusals that applied to it: what it was aimed at counts only where
     /// it was hit.
-    pub fn count(&mut self, call: &Call, number: u8, applying: &[u8]) {
+    pub fn count(&mut self, call: &Call, left: &Left, applying: &[u8]) {
+        let number = left.number;
         match &call.task {
             Task::Handle { store, datagram, .. } => {
                 let column = column_of(datagram);
                 self.answers.add(column, number);
-                if let Some(cell) = cell_of_end(store, datagram, applying) {
-                    self.reach(cell);
+                cells_of_store(store, datagram, applying).into_iter().for_each(|cell| self.reach(cell));
+                if number == 0 {
+                    self.reach(Cell::Emitted(if left.size == 0 { 0 } else { get_u16(&left.output, frame::KIND) }));
                 }
                 if column < OTHER {
                     self.reach(Cell::Answer(column as u16 + 1, number));
@@ -82,6 +96,9 @@ impl Coverage {
             _ => {
                 self.answers.add(MAKER, number);
                 self.reach(Cell::Maker(number));
+                if number == 0 {
+                    self.reach(Cell::Next(next_channel(&left.store)));
+                }
             }
         }
         match call.origin {
@@ -116,20 +133,28 @@ fn both_hit(applying: &[u8], low: u8, high: u8) -> bool {
     applying.contains(&low) && (hidden || applying.contains(&high))
 }
 
-/// The cell of a time-out that is accepted, and of a refusal that applies alone on a CLOSED end.
-fn cell_of_end(store: &[u8], bytes: &[u8], applying: &[u8]) -> Option<Cell> {
-    // Only in a fit store can the end be looked up.
-    if applying.contains(&STORE_NOT_FIT) {
-        return None;
-    }
-    let body = read(bytes)?.body;
-    let (_, end) = find_channel(store, own_channel(&body))?;
-    let (ordered, open) = (end.is_ordered(), end.is_open());
+/// The cells that a well-formed call on a fit store reaches by what the store holds.
+fn cells_of_store(store: &[u8], bytes: &[u8], applying: &[u8]) -> Vec<Cell> {
+    let Some(datagram) = read(bytes).filter(|_| !applying.contains(&STORE_NOT_FIT)) else {
+        return Vec::new();
+    };
+    let mut cells = step::reached(store, &datagram.body, applying);
+    cells.extend(cell_of_end(store, get_u16(bytes, frame::KIND), &datagram.body, applying));
+    cells
+}
+
+/// The cell of a time-out that is accepted, and of a refusal that applies alone on an end in another state than the
+/// one that the kind is for.
+fn cell_of_end(store: &[u8], kind: u16, body: &Body, applying: &[u8]) -> Option<Cell> {
+    let (_, end) = find_channel(store, own_channel(body)?)?;
+    let (ordered, state) = (end.is_ordered(), end.state);
     match (applying, body) {
         ([], Body::TimeOut { packet, verdict }) => {
-            Some(Cell::TimedOut { ordered, open, below: verdict.sequence < packet.sequence })
+            Some(Cell::TimedOut { ordered, state, below: verdict.sequence < packet.sequence })
         }
-        ([number], _) if !open => Some(Cell::Closed(Row { kind: get_u16(bytes, frame::KIND), ordered }, *number)),
+        ([number], _) if cell::state_for(kind) != Some(state) => {
+            Some(Cell::InState(Row { kind, ordered }, state, *number))
+        }
         _ => None,
     }
 }
@@ -139,7 +164,7 @@ fn column_of(datagram: &[u8]) -> usize {
         return OTHER;
     }
     match get_u16(datagram, frame::KIND) {
-        kind @ 1..=5 => usize::from(kind) - 1,
+        kind if (1..=OTHER).contains(&usize::from(kind)) => usize::from(kind) - 1,
         _ => OTHER,
     }
 }
@@ -155,7 +180,7 @@ impl fmt::Display for Coverage {
             writeln!(out, "{:>20}  {}; {pairs} pairs", row.to_string(), counts.join(" "))?;
         }
         writeln!(out, "\nCoverage")?;
-        for kind in 1..=5 {
+        for kind in cell::kinds() {
             let (met, unmet): (Vec<u8>, Vec<u8>) =
                 cell::answers(kind).iter().partition(|number| self.cells.contains_key(&Cell::Answer(kind, **number)));
             let missed = if unmet.is_empty() { "all of its row".to_string() } else { format!("NOT {}", list(&unmet)) };
@@ -165,6 +190,9 @@ impl fmt::Display for Coverage {
             let (reached, possible, rarest) = self.of_sort(sort);
             let rarest = rarest.map_or(String::new(), |(cell, count)| format!(", the rarest {count} times ({cell})"));
             writeln!(out, "{name:>20}  {reached} of {possible}{rarest}")?;
+        }
+        for (cell, reason) in cell::impossible() {
+            writeln!(out, "{:>20}  {cell}, as {reason}", "cannot be met")?;
         }
         Ok(())
     }

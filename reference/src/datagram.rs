@@ -1,13 +1,25 @@
 //! Datagrams as values. Reading one answers nothing where it is malformed.
 
 use crate::bytes::*;
-use crate::places::{context, frame, packet, send, verdict, write};
+use crate::places::{
+    context, frame, open_acknowledge, open_confirm, open_init, open_try, packet, send, verdict, write,
+};
+use crate::store::{ORDERED, UNORDERED};
+use crate::verdict::{EndVerdict, Verdict};
 
 pub const SEND: u16 = 1;
 pub const RECEIVE: u16 = 2;
 pub const WRITE: u16 = 3;
 pub const ACKNOWLEDGE: u16 = 4;
 pub const TIME_OUT: u16 = 5;
+pub const OPEN_INIT: u16 = 6;
+pub const OPEN_TRY: u16 = 7;
+pub const OPEN_ACKNOWLEDGE: u16 = 8;
+pub const OPEN_CONFIRM: u16 = 9;
+
+/// The five kinds that are about packets, and the four steps of the opening handshake.
+pub const PACKET_KINDS: [u16; 5] = [SEND, RECEIVE, WRITE, ACKNOWLEDGE, TIME_OUT];
+pub const HANDSHAKE_KINDS: [u16; 4] = [OPEN_INIT, OPEN_TRY, OPEN_ACKNOWLEDGE, OPEN_CONFIRM];
 
 /// What the host says about the moment of the call.
 #[derive(Clone, Copy, Debug, PartialEq, Eq)]
@@ -31,47 +43,37 @@ pub struct Packet {
     pub digest: Digest,
 }
 
-pub const COMMITMENT_PRESENT: u16 = 1;
-pub const ACKNOWLEDGEMENT_PRESENT: u16 = 2;
-pub const RECEIPT_ABSENT: u16 = 3;
-pub const NEXT_RECV_EQUALS: u16 = 4;
-
-/// What the host's light client has verified about the other ledger.
+/// The version in a step may have any length and any bytes: whether it is one is not a matter of form.
 #[derive(Clone, Copy, Debug, PartialEq, Eq)]
-pub struct Verdict {
-    pub claim: u16,
-    pub proof_height: u64,
-    pub proof_time: u64,
-    pub port: u16,
-    pub channel: u32,
-    pub sequence: u64,
-    pub timeout_height: u64,
-    pub timeout_timestamp: u64,
-    pub digest: Digest,
-}
-
-#[derive(Clone, Copy, Debug, PartialEq, Eq)]
-pub enum Body {
+pub enum Body<'a> {
     Send { channel: u32, timeout_height: u64, timeout_timestamp: u64, digest: Digest },
     Receive { packet: Packet, verdict: Verdict },
     Write { channel: u32, sequence: u64, digest: Digest },
     Acknowledge { packet: Packet, acknowledgement: Digest, verdict: Verdict },
     TimeOut { packet: Packet, verdict: Verdict },
+    OpenInit { counterparty_port: u16, order: u8, version: &'a [u8] },
+    OpenTry { counterparty_port: u16, counterparty_channel: u32, order: u8, verdict: EndVerdict, version: &'a [u8] },
+    OpenAcknowledge { channel: u32, counterparty_channel: u32, verdict: EndVerdict },
+    OpenConfirm { channel: u32, verdict: EndVerdict },
 }
 
 #[derive(Clone, Copy, Debug, PartialEq, Eq)]
-pub struct Datagram {
+pub struct Datagram<'a> {
     pub context: Context,
-    pub body: Body,
+    pub body: Body<'a>,
 }
 
-/// The whole length of a datagram of this kind, if the kind is known.
+/// The whole length of a datagram of this kind, with an empty version where it has one, if the kind is known.
 pub fn length_of(kind: u16) -> Option<usize> {
     let behind = match kind {
         SEND => send::LENGTH,
         RECEIVE | TIME_OUT => packet::LENGTH + verdict::LENGTH,
         WRITE => write::LENGTH,
         ACKNOWLEDGE => packet::LENGTH + DIGEST_LENGTH + verdict::LENGTH,
+        OPEN_INIT => open_init::VERSION,
+        OPEN_TRY => open_try::VERSION,
+        OPEN_ACKNOWLEDGE => open_acknowledge::LENGTH,
+        OPEN_CONFIRM => open_confirm::LENGTH,
         _ => return None,
     };
     Some(frame::BODY + context::LENGTH + behind)
@@ -79,13 +81,23 @@ pub fn length_of(kind: u16) -> Option<usize> {
 
 const DIGEST_LENGTH: usize = 32;
 
+/// Whether a datagram of this kind ends with a version, which takes all bytes that are left.
+pub fn has_version(kind: u16) -> bool {
+    matches!(kind, OPEN_INIT | OPEN_TRY)
+}
+
+/// Whether a datagram of this kind can have that length.
+pub fn can_have_length(kind: u16, length: usize) -> bool {
+    length_of(kind).is_some_and(|fixed| length == fixed || has_version(kind) && length > fixed)
+}
+
 /// The datagram that these bytes are, or nothing where they are malformed.
-pub fn read(bytes: &[u8]) -> Option<Datagram> {
+pub fn read(bytes: &[u8]) -> Option<Datagram<'_>> {
     if bytes.len() < frame::BODY || !says_length(get_u32(bytes, frame::LENGTH), bytes.len()) {
         return None;
     }
     let kind = get_u16(bytes, frame::KIND);
-    if length_of(kind)? != bytes.len() {
+    if !can_have_length(kind, bytes.len()) {
         return None;
     }
     let (front, behind) = bytes[frame::BODY..].split_at(context::LENGTH);
@@ -104,7 +116,7 @@ fn read_context(bytes: &[u8]) -> Option<Context> {
     well.then_some(context)
 }
 
-fn read_body(kind: u16, bytes: &[u8]) -> Option<Body> {
+fn read_body(kind: u16, bytes: &[u8]) -> Option<Body<'_>> {
     match kind {
         SEND => Some(Body::Send {
             channel: get_u32(bytes, send::CHANNEL),
@@ -113,22 +125,54 @@ fn read_body(kind: u16, bytes: &[u8]) -> Option<Body> {
             digest: get(bytes, send::DIGEST),
         }),
         RECEIVE => {
-            Some(Body::Receive { packet: read_packet(bytes)?, verdict: read_verdict(&bytes[packet::LENGTH..])? })
+            Some(Body::Receive { packet: read_packet(bytes)?, verdict: Verdict::read(&bytes[packet::LENGTH..])? })
         }
         WRITE => read_write(bytes),
         ACKNOWLEDGE => Some(Body::Acknowledge {
             packet: read_packet(bytes)?,
             acknowledgement: get(bytes, packet::LENGTH),
-            verdict: read_verdict(&bytes[packet::LENGTH + DIGEST_LENGTH..])?,
+            verdict: Verdict::read(&bytes[packet::LENGTH + DIGEST_LENGTH..])?,
         }),
         TIME_OUT => {
-            Some(Body::TimeOut { packet: read_packet(bytes)?, verdict: read_verdict(&bytes[packet::LENGTH..])? })
+            Some(Body::TimeOut { packet: read_packet(bytes)?, verdict: Verdict::read(&bytes[packet::LENGTH..])? })
         }
+        _ => read_step(kind, bytes),
+    }
+}
+
+/// The body of a step of the opening handshake.
+fn read_step(kind: u16, bytes: &[u8]) -> Option<Body<'_>> {
+    match kind {
+        OPEN_INIT => Some(Body::OpenInit {
+            counterparty_port: get_u16(bytes, open_init::COUNTERPARTY_PORT),
+            order: known_order(bytes[open_init::ORDER])?,
+            version: &bytes[open_init::VERSION..],
+        }),
+        OPEN_TRY => Some(Body::OpenTry {
+            counterparty_port: get_u16(bytes, open_try::COUNTERPARTY_PORT),
+            counterparty_channel: get_u32(bytes, open_try::COUNTERPARTY_CHANNEL),
+            order: known_order(bytes[open_try::ORDER])?,
+            verdict: EndVerdict::read(&bytes[open_try::VERDICT..])?,
+            version: &bytes[open_try::VERSION..],
+        }),
+        OPEN_ACKNOWLEDGE => Some(Body::OpenAcknowledge {
+            channel: get_u32(bytes, open_acknowledge::CHANNEL),
+            counterparty_channel: get_u32(bytes, open_acknowledge::COUNTERPARTY_CHANNEL),
+            verdict: EndVerdict::read(&bytes[open_acknowledge::VERDICT..])?,
+        }),
+        OPEN_CONFIRM => Some(Body::OpenConfirm {
+            channel: get_u32(bytes, open_confirm::CHANNEL),
+            verdict: EndVerdict::read(&bytes[open_confirm::VERDICT..])?,
+        }),
         _ => None,
     }
 }
 
-fn read_write(bytes: &[u8]) -> Option<Body> {
+fn known_order(order: u8) -> Option<u8> {
+    matches!(order, ORDERED | UNORDERED).then_some(order)
+}
+
+fn read_write(bytes: &[u8]) -> Option<Body<'_>> {
     let sequence = get_u64(bytes, write::SEQUENCE);
     let body = Body::Write { channel: get_u32(bytes, write::CHANNEL), sequence, digest: get(bytes, write::DIGEST) };
     (sequence != 0).then_some(body)
@@ -137,22 +181,6 @@ fn read_write(bytes: &[u8]) -> Option<Body> {
 fn read_packet(bytes: &[u8]) -> Option<Packet> {
     let packet = Packet::read(bytes);
     (packet.sequence != 0).then_some(packet)
-}
-
-/// A verdict's sequence may be 0: only a packet's may not.
-fn read_verdict(bytes: &[u8]) -> Option<Verdict> {
-    let verdict = Verdict {
-        claim: get_u16(bytes, verdict::CLAIM),
-        proof_height: get_u64(bytes, verdict::PROOF_HEIGHT),
-        proof_time: get_u64(bytes, verdict::PROOF_TIME),
-        port: get_u16(bytes, verdict::PORT),
-        channel: get_u32(bytes, verdict::CHANNEL),
-        sequence: get_u64(bytes, verdict::SEQUENCE),
-        timeout_height: get_u64(bytes, verdict::TIMEOUT_HEIGHT),
-        timeout_timestamp: get_u64(bytes, verdict::TIMEOUT_TIMESTAMP),
-        digest: get(bytes, verdict::DIGEST),
-    };
-    (COMMITMENT_PRESENT..=NEXT_RECV_EQUALS).contains(&verdict.claim).then_some(verdict)
 }
 
 impl Packet {

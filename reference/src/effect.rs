@@ -10,6 +10,7 @@ const DELIVERED: u16 = 0x0102;
 const WRITTEN: u16 = 0x0103;
 const ACKNOWLEDGED: u16 = 0x0104;
 const TIMED_OUT: u16 = 0x0105;
+const END_MADE: u16 = 0x0107;
 
 #[derive(Clone, Copy, Debug)]
 pub enum Emitted {
@@ -18,6 +19,7 @@ pub enum Emitted {
     Written { port: u16, channel: u32, sequence: u64, digest: Digest },
     Acknowledged { packet: Packet, acknowledgement: Digest },
     TimedOut(Packet),
+    EndMade { port: u16, channel: u32 },
 }
 
 impl Emitted {
@@ -34,6 +36,11 @@ impl Emitted {
                 put_u64(body, 6, *sequence);
                 put(body, 14, *digest);
                 (WRITTEN, 52)
+            }
+            Emitted::EndMade { port, channel } => {
+                put_u16(body, 0, *port);
+                put_u32(body, 2, *channel);
+                (END_MADE, 12)
             }
             Emitted::Acknowledged { packet, acknowledgement } => {
                 put(body, packet::LENGTH, *acknowledgement);
@@ -57,11 +64,14 @@ fn write_packet(packet: &Packet, body: &mut [u8]) -> u32 {
 pub struct Effect {
     pub height: u64,
     pub time: u64,
-    /// The end as it is afterwards, and its index.
+    /// The end as it is afterwards, and its index; a new one too.
     pub end: (usize, Channel),
+    /// The next channel number as it is afterwards, where an end was made.
+    pub next_channel: Option<u64>,
     /// The packet record as it is afterwards, and its index; receiving on an ordered channel touches none.
     pub record: Option<(usize, Record)>,
-    pub emitted: Emitted,
+    /// The two steps that open an end emit nothing.
+    pub emitted: Option<Emitted>,
 }
 
 impl Effect {
@@ -71,9 +81,12 @@ impl Effect {
         put_u64(store, header::LAST_TIME, self.time);
         let (index, end) = &self.end;
         end.write(&mut store[channel_place(*index)..]);
+        if let Some(number) = self.next_channel {
+            put_u64(store, header::NEXT_CHANNEL, number);
+        }
         if let Some((index, record)) = &self.record {
             record.write(&mut store[record_place(*index)..]);
         }
-        self.emitted.write(output)
+        self.emitted.map_or(0, |emitted| emitted.write(output))
     }
 }

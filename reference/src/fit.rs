@@ -20,22 +20,33 @@ fn header_fit(store: &[u8]) -> bool {
         && all_zero(&store[header::ZEROS..HEADER])
 }
 
+/// The next channel number is at least 1 and above the number of each end.
 fn channels_fit(store: &[u8]) -> bool {
-    (0..CHANNELS).all(|index| {
+    let next = next_channel(store);
+    let ends_fit = (0..CHANNELS).all(|index| {
         let bytes = &store[channel_place(index)..][..RECORD];
-        all_zero(bytes) || channel_fit(bytes) && channel_is_first(store, index)
-    })
+        all_zero(bytes) || channel_fit(bytes, next) && channel_is_first(store, index)
+    });
+    next >= 1 && ends_fit
 }
 
-fn channel_fit(bytes: &[u8]) -> bool {
+fn channel_fit(bytes: &[u8], next: u64) -> bool {
     let end = Channel::read(bytes);
     get_u16(bytes, channel::KIND) == CHANNEL_KIND
-        && matches!(end.state, OPEN | CLOSED)
+        && matches!(end.state, INIT | TRYOPEN | OPEN | CLOSED)
         && matches!(end.order, ORDERED | UNORDERED)
+        && u64::from(end.channel) < next
+        && (end.state != INIT || end.counterparty_channel == 0)
         && end.next_sequence_send >= 1
         && end.next_sequence_recv >= 1
         && end.next_sequence_ack >= 1
-        && all_zero(&bytes[channel::ZEROS..])
+        && is_padded(&end.version)
+}
+
+/// Behind the first zero byte stand only zeros.
+fn is_padded(version: &Version) -> bool {
+    let length = version.iter().position(|byte| *byte == 0).unwrap_or(version.len());
+    all_zero(&version[length..])
 }
 
 /// No record before this one has its channel number.

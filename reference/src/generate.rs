@@ -11,13 +11,14 @@ pub mod making;
 pub mod malform;
 pub mod rng;
 pub mod shape;
+pub mod step;
 pub mod trace;
 
 use crate::bytes::get_u16;
 use crate::datagram::*;
 use crate::places::{frame, OUTPUT};
 use crate::refusal::*;
-use crate::store::{Channel, CLOSED};
+use crate::store::{CLOSED, INIT, TRYOPEN};
 pub use call::{Call, Origin, Row, Task};
 use draft::Draft;
 use rng::Rng;
@@ -60,15 +61,17 @@ impl Generator {
     }
 
     /// A draft to be spoiled: it closes nothing, so all kinds come alike on channels of both orders. A time-out is as
-    /// good on a CLOSED end.
+    /// good on an end that is not OPEN.
     fn draft_to_spoil(&mut self) -> Option<Draft> {
-        let kind = self.rng.pick(&[SEND, RECEIVE, WRITE, ACKNOWLEDGE, TIME_OUT]);
+        let kind = if self.rng.one_in(4) { self.rng.pick(&HANDSHAKE_KINDS) } else { self.rng.pick(&PACKET_KINDS) };
         let ordered = self.rng.one_in(2);
-        let mut draft = (0..12).find_map(|_| {
-            accept::accepted(&mut self.rng, &self.store, kind).filter(|draft| draft.row().ordered == ordered)
+        let mut store = self.store.clone();
+        let mut draft = (0..30).find_map(|_| {
+            shape::make_ready(&mut self.rng, &mut store, kind);
+            accept::accepted(&mut self.rng, &store, kind).filter(|draft| draft.row().ordered == ordered)
         })?;
-        if kind == TIME_OUT && self.rng.one_in(4) {
-            draft.set_end(Channel { state: CLOSED, ..draft.end() });
+        if kind == TIME_OUT && self.rng.one_in(2) {
+            draft.set_state(self.rng.pick(&[INIT, TRYOPEN, CLOSED]));
         }
         Some(draft)
     }

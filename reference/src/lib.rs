@@ -22,6 +22,7 @@ pub mod rules;
 pub mod store;
 pub mod subject;
 pub mod table;
+pub mod verdict;
 pub mod workload;
 
 #[cfg(test)]

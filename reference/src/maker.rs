@@ -44,9 +44,16 @@ fn write_fresh(store: &mut [u8], records: usize, openings: &[u8]) {
     put_u16(store, frame::KIND, STORE_KIND);
     put_u16(store, header::CHANNEL_COUNT, CHANNELS as u16);
     put_u32(store, header::RECORD_COUNT, records as u32);
+    put_u64(store, header::NEXT_CHANNEL, least_next(openings));
     for (index, bytes) in openings.chunks_exact(opening::LENGTH).enumerate() {
         opened_end(bytes).write(&mut store[channel_place(index)..]);
     }
+}
+
+/// The least number that is at least 1 and above every channel's.
+fn least_next(openings: &[u8]) -> u64 {
+    let numbers = openings.chunks_exact(opening::LENGTH).map(|bytes| get_u32(bytes, opening::CHANNEL));
+    numbers.max().map_or(1, |highest| u64::from(highest) + 1)
 }
 
 fn opened_end(bytes: &[u8]) -> Channel {
@@ -60,5 +67,6 @@ fn opened_end(bytes: &[u8]) -> Channel {
         next_sequence_send: 1,
         next_sequence_recv: 1,
         next_sequence_ack: 1,
+        version: NO_VERSION,
     }
 }

@@ -27,7 +27,8 @@ pub mod header {
     pub const LAST_HEIGHT: usize = 8;
     pub const LAST_TIME: usize = 16;
     pub const RECORD_COUNT: usize = 24;
-    pub const ZEROS: usize = 28;
+    pub const NEXT_CHANNEL: usize = 28;
+    pub const ZEROS: usize = 36;
 }
 
 pub mod channel {
@@ -41,7 +42,8 @@ pub mod channel {
     pub const NEXT_SEND: usize = 16;
     pub const NEXT_RECV: usize = 24;
     pub const NEXT_ACK: usize = 32;
-    pub const ZEROS: usize = 40;
+    /// The last of its 64 bytes.
+    pub const VERSION: usize = 40;
 }
 
 pub mod record {
@@ -89,6 +91,15 @@ pub mod verdict {
     pub const DIGEST: usize = 48;
 }
 
+/// The verdict of a handshake's step, with the other end's whole channel record.
+pub mod end_verdict {
+    pub const LENGTH: usize = 82;
+    pub const CLAIM: usize = 0;
+    pub const PROOF_HEIGHT: usize = 2;
+    pub const PROOF_TIME: usize = 10;
+    pub const RECORD: usize = 18;
+}
+
 /// What stands behind the context of a send, counted from the context's end.
 pub mod send {
     pub const CHANNEL: usize = 0;
@@ -104,6 +115,37 @@ pub mod write {
     pub const SEQUENCE: usize = 4;
     pub const DIGEST: usize = 12;
     pub const LENGTH: usize = 44;
+}
+
+/// What stands behind the context of an open init; all bytes from the version's place on are the version.
+pub mod open_init {
+    pub const COUNTERPARTY_PORT: usize = 0;
+    pub const ORDER: usize = 2;
+    pub const VERSION: usize = 3;
+}
+
+/// What stands behind the context of an open try, the version as in an open init.
+pub mod open_try {
+    pub const COUNTERPARTY_PORT: usize = 0;
+    pub const COUNTERPARTY_CHANNEL: usize = 2;
+    pub const ORDER: usize = 6;
+    pub const VERDICT: usize = 7;
+    pub const VERSION: usize = VERDICT + super::end_verdict::LENGTH;
+}
+
+/// What stands behind the context of an open acknowledge.
+pub mod open_acknowledge {
+    pub const CHANNEL: usize = 0;
+    pub const COUNTERPARTY_CHANNEL: usize = 4;
+    pub const VERDICT: usize = 8;
+    pub const LENGTH: usize = VERDICT + super::end_verdict::LENGTH;
+}
+
+/// What stands behind the context of an open confirm.
+pub mod open_confirm {
+    pub const CHANNEL: usize = 0;
+    pub const VERDICT: usize = 4;
+    pub const LENGTH: usize = VERDICT + super::end_verdict::LENGTH;
 }
 
 pub mod opening {

@@ -24,6 +24,9 @@ pub const STORE_LENGTH_UNFIT: u8 = 21;
 pub const OPENINGS_MALFORMED: u8 = 22;
 pub const TOO_MANY_OPENINGS: u8 = 23;
 pub const CHANNEL_TWICE: u8 = 24;
+pub const NO_FREE_CHANNEL: u8 = 25;
+pub const NOT_PRIOR_STATE: u8 = 26;
+pub const WRONG_VERSION: u8 = 27;
 
 /// Refuses with `number` when it applies. Each handler asks in rising order, so the first refusal is the lowest.
 pub fn refuse_if(applies: bool, number: u8) -> Result<(), u8> {

@@ -1,4 +1,7 @@
-//! The five handlers. Each asks its row of refusals in rising order and answers the effect of the acceptance.
+//! The handlers of packets; those of the opening handshake stand beside. Each asks its row of refusals in rising order
+//! and answers the effect of the acceptance.
+
+mod handshake;
 
 use crate::bytes::*;
 use crate::datagram::*;
@@ -7,12 +10,16 @@ use crate::fit::fit;
 use crate::places::OUTPUT;
 use crate::refusal::*;
 use crate::store::*;
+use crate::verdict::*;
 
 /// Decides a call without changing anything: its effect, or the number of its refusal.
 pub fn decide(store: &[u8], output_length: usize, bytes: &[u8]) -> Result<Effect, u8> {
     refuse_if(!fit(store), STORE_NOT_FIT)?;
     refuse_if(output_length < OUTPUT, OUTPUT_SHORT)?;
     let Datagram { context, body } = read(bytes).ok_or(MALFORMED)?;
+    let (height, time) = (last_height(store), last_time(store));
+    let before = context.height < height || context.time < time;
+    refuse_if(before || context.height == height && context.time != time, BEFORE_LAST)?;
     match body {
         Body::Send { channel, timeout_height, timeout_timestamp, digest } => {
             let call = Call::enter(store, context, channel)?;
@@ -26,10 +33,20 @@ pub fn decide(store: &[u8], output_length: usize, bytes: &[u8]) -> Result<Effect
         Body::TimeOut { packet, verdict } => {
             Call::find(store, context, packet.source_channel)?.owned()?.time_out(packet, verdict)
         }
+        Body::OpenInit { counterparty_port, order, version } => {
+            handshake::open_init(store, context, counterparty_port, order, version)
+        }
+        Body::OpenTry { counterparty_port, counterparty_channel, order, verdict, version } => {
+            handshake::open_try(store, context, (counterparty_port, counterparty_channel), order, verdict, version)
+        }
+        Body::OpenAcknowledge { channel, counterparty_channel, verdict } => {
+            Call::find(store, context, channel)?.owned()?.open_acknowledge(counterparty_channel, verdict)
+        }
+        Body::OpenConfirm { channel, verdict } => Call::find(store, context, channel)?.owned()?.open_confirm(verdict),
     }
 }
 
-/// A call that has found its channel: what all five handlers work on.
+/// A call that has found its channel: what all handlers but those that make an end work on.
 struct Call<'a> {
     store: &'a [u8],
     context: Context,
@@ -38,18 +55,15 @@ struct Call<'a> {
 }
 
 impl Call<'_> {
-    /// The refusals 4 to 7, for every datagram but a time-out, which does not get 6.
+    /// The refusals 5 to 7, for the kinds that need an OPEN end.
     fn enter(store: &[u8], context: Context, channel: u32) -> Result<Call<'_>, u8> {
         let call = Call::find(store, context, channel)?;
         refuse_if(!call.end.is_open(), NOT_OPEN)?;
         call.owned()
     }
 
-    /// The refusals 4 and 5.
+    /// The refusal 5.
     fn find(store: &[u8], context: Context, channel: u32) -> Result<Call<'_>, u8> {
-        let (height, time) = (last_height(store), last_time(store));
-        let before = context.height < height || context.time < time;
-        refuse_if(before || context.height == height && context.time != time, BEFORE_LAST)?;
         let (index, end) = find_channel(store, channel).ok_or(NO_CHANNEL)?;
         Ok(Call { store, context, index, end })
     }
@@ -164,7 +178,7 @@ impl Call<'_> {
 
     fn effect(&self, end: Channel, record: Option<(usize, Record)>, emitted: Emitted) -> Effect {
         let Context { height, time, .. } = self.context;
-        Effect { height, time, end: (self.index, end), record, emitted }
+        Effect { height, time, end: (self.index, end), next_channel: None, record, emitted: Some(emitted) }
     }
 }
 

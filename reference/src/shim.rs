@@ -3,14 +3,15 @@
 use std::slice::{from_raw_parts, from_raw_parts_mut};
 
 use crate::bytes::*;
-use crate::datagram::{self, Body, Packet, Verdict, ACKNOWLEDGE, RECEIVE};
+use crate::datagram::{self, Body, Packet, ACKNOWLEDGE, RECEIVE};
 use crate::places::{frame, header, PACKET_RECORDS};
 use crate::store::*;
 use crate::subject::{Handle, Subject};
+use crate::verdict::Verdict;
 
 pub const RIGHT: Subject = with(right);
 
-/// Handlers that each break one rule.
+/// Handlers that each break one rule about packets.
 pub const WRONG: [(&str, Handle); 14] = [
     ("refuses always", refuses_always),
     ("answers 0 always", answers_zero),
@@ -67,6 +68,9 @@ macro_rules! behind_c {
         }
     };
 }
+
+// Behind the macro, which it uses.
+pub mod handshake;
 
 behind_c!(right, crate::handle);
 

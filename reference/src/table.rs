@@ -1,6 +1,8 @@
 //! The table of refusals line by line. `rules` stops at the first refusal; here each line is asked by itself, so
 //! that the comparison knows whether a call is refused for one reason alone or for several.
 
+mod handshake;
+
 use crate::bytes::*;
 use crate::datagram::*;
 use crate::fit::fit;
@@ -8,6 +10,7 @@ use crate::places::OUTPUT;
 use crate::refusal::*;
 use crate::rules::{reached, shows_acknowledgement, shows_commitment, shows_not_received};
 use crate::store::*;
+use crate::verdict::Verdict;
 
 /// Every refusal that applies, in rising order. Nothing is asked of an unfit store or of malformed bytes, and of a
 /// channel that is not there no more than that.
@@ -18,10 +21,11 @@ pub fn applying(store: &[u8], output_length: usize, bytes: &[u8]) -> Vec<u8> {
         vec![(STORE_NOT_FIT, !is_fit), (OUTPUT_SHORT, output_length < OUTPUT), (MALFORMED, datagram.is_none())];
     if let Some(datagram) = datagram.filter(|_| is_fit) {
         lines.push((BEFORE_LAST, goes_back(store, &datagram.context)));
-        match find_channel(store, own_channel(&datagram.body)) {
-            None => lines.push((NO_CHANNEL, true)),
-            Some((_, end)) => lines.extend(of_end(store, &datagram, &end)),
-        }
+        lines.extend(match own_channel(&datagram.body).map(|number| find_channel(store, number)) {
+            None => handshake::of_new_end(store, &datagram),
+            Some(None) => vec![(NO_CHANNEL, true)],
+            Some(Some((_, end))) => of_end(store, &datagram, &end),
+        });
     }
     lines.retain(|(_, applies)| *applies);
     lines.into_iter().map(|(number, _)| number).collect()
@@ -32,19 +36,22 @@ fn goes_back(store: &[u8], context: &Context) -> bool {
     context.height < height || context.time < time || context.height == height && context.time != time
 }
 
-/// The channel of this ledger that a datagram is about.
-pub fn own_channel(body: &Body) -> u32 {
+/// The channel of this ledger that a datagram is about; a datagram that makes an end is about none.
+pub fn own_channel(body: &Body) -> Option<u32> {
     match body {
-        Body::Send { channel, .. } | Body::Write { channel, .. } => *channel,
-        Body::Receive { packet, .. } => packet.dest_channel,
-        Body::Acknowledge { packet, .. } | Body::TimeOut { packet, .. } => packet.source_channel,
+        Body::Send { channel, .. } | Body::Write { channel, .. } => Some(*channel),
+        Body::Receive { packet, .. } => Some(packet.dest_channel),
+        Body::Acknowledge { packet, .. } | Body::TimeOut { packet, .. } => Some(packet.source_channel),
+        Body::OpenAcknowledge { channel, .. } | Body::OpenConfirm { channel, .. } => Some(*channel),
+        Body::OpenInit { .. } | Body::OpenTry { .. } => None,
     }
 }
 
-/// The lines behind 5: 6 for all kinds but a time-out, 7 for all, then those of the kind.
+/// The lines behind 5: 6 for packets but not for a time-out, 7 for all, then those of the kind.
 fn of_end(store: &[u8], datagram: &Datagram, end: &Channel) -> Vec<(u8, bool)> {
     let Datagram { context, body } = datagram;
-    let asks_open = !matches!(body, Body::TimeOut { .. });
+    let asks_open =
+        matches!(body, Body::Send { .. } | Body::Receive { .. } | Body::Write { .. } | Body::Acknowledge { .. });
     let mut lines = vec![(NOT_OPEN, asks_open && end.state != OPEN), (NOT_OWNER, context.port != end.port)];
     lines.extend(match body {
         Body::Send { timeout_height, timeout_timestamp, .. } => {
@@ -56,6 +63,7 @@ fn of_end(store: &[u8], datagram: &Datagram, end: &Channel) -> Vec<(u8, bool)> {
             of_acknowledge(store, context, end, packet, acknowledgement, verdict)
         }
         Body::TimeOut { packet, verdict } => of_time_out(store, end, packet, verdict),
+        _ => handshake::of_step(context, body, end),
     });
     lines
 }

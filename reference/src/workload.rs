@@ -23,7 +23,7 @@ pub struct Workload {
     pub store: Vec<u8>,
     pub datagrams: Vec<Vec<u8>>,
     /// How often each answer comes.
-    pub answers: [u64; 25],
+    pub answers: [u64; 28],
     /// Free records before each call, all calls together.
     pub free: u64,
 }
@@ -32,7 +32,7 @@ pub struct Workload {
 pub fn workload(seed: u64, records: usize, count: usize) -> Workload {
     let mut rng = Rng::new(seed);
     let store = full(&mut rng, records);
-    let mut workload = Workload { store, datagrams: Vec::new(), answers: [0; 25], free: 0 };
+    let mut workload = Workload { store, datagrams: Vec::new(), answers: [0; 28], free: 0 };
     while workload.datagrams.len() < count {
         let mut segment = Segment { store: workload.store.clone(), kept: 0 };
         for _ in 0..SEGMENT.min(count - workload.datagrams.len()) {

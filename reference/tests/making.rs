@@ -27,7 +27,8 @@ fn empty_list_makes_an_empty_store() {
     assert_eq!(number, 0);
     assert_eq!(store[..8], [0x80, 4, 0, 0, 1, 4, 16, 0]);
     assert_eq!(store[24..28], [1, 0, 0, 0]);
-    let others = store.iter().enumerate().filter(|(at, byte)| **byte != 0 && *at >= 8 && *at != 24);
+    assert_eq!(store[28..36], 1u64.to_le_bytes());
+    let others = store.iter().enumerate().filter(|(at, byte)| **byte != 0 && *at >= 8 && *at != 24 && *at != 28);
     assert_eq!(others.count(), 0);
 }
 
@@ -42,6 +43,23 @@ fn ends_stand_in_list_order() {
         assert_eq!(store[64 + 64 * usize::from(channel)..][..64], end);
     }
     assert!(store[1088..].iter().all(|byte| *byte == 0));
+}
+
+/// The least next channel number, wherever the highest channel stands in the list.
+#[test]
+fn next_channel_number() {
+    for (numbers, expected) in [
+        (vec![], 1u64),
+        (vec![0], 1),
+        (vec![1, 0], 2),
+        (vec![3, 40, 7], 41),
+        (vec![u32::MAX - 1], u64::from(u32::MAX)),
+        (vec![u32::MAX, 5], 1 << 32),
+    ] {
+        let list: Vec<u8> = numbers.iter().flat_map(|number| opening(*number, 1)).collect();
+        let (number, store) = made(1152, &list);
+        assert_eq!((number, store[28..36].to_vec()), (0, expected.to_le_bytes().to_vec()), "{numbers:?}");
+    }
 }
 
 #[test]

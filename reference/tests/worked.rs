@@ -1,52 +1,17 @@
 //! The worked cases. The bytes are written here field by field, and not by the code under test.
 
+mod bytes;
+
+use bytes::*;
+
 const ORDERED_END: u32 = 7;
 const UNORDERED_END: u32 = 8;
-
-/// Bytes in the order in which the rules name them.
-#[derive(Default, Clone)]
-struct Bytes(Vec<u8>);
-
-impl Bytes {
-    fn n8(mut self, value: u8) -> Self {
-        self.0.push(value);
-        self
-    }
-    fn n16(mut self, value: u16) -> Self {
-        self.0.extend(value.to_le_bytes());
-        self
-    }
-    fn n32(mut self, value: u32) -> Self {
-        self.0.extend(value.to_le_bytes());
-        self
-    }
-    fn n64(mut self, value: u64) -> Self {
-        self.0.extend(value.to_le_bytes());
-        self
-    }
-    fn digest(mut self, value: u8) -> Self {
-        self.0.extend([value; 32]);
-        self
-    }
-    fn zeros(mut self, count: usize) -> Self {
-        self.0.extend(vec![0; count]);
-        self
-    }
-}
-
-fn opening(port: u16, channel: u32, other_port: u16, other_channel: u32, order: u8) -> Vec<u8> {
-    Bytes::default().n32(20).n16(0x10).n16(port).n32(channel).n16(other_port).n32(other_channel).n8(order).n8(0).0
-}
 
 fn fresh() -> Vec<u8> {
     let mut store = vec![0xee; 1088 + 2 * 64];
     let openings = [opening(5, ORDERED_END, 6, 9, 1), opening(5, UNORDERED_END, 6, 10, 2)].concat();
     assert_eq!(reference::make_store(&mut store, &openings), 0);
     store
-}
-
-fn start(length: u32, kind: u16, caller: u16) -> Bytes {
-    Bytes::default().n32(length).n16(kind).n64(100).n64(1000).n64(50).n16(caller).n8(1).zeros(5)
 }
 
 fn send(caller: u16, timeout_height: u64) -> Vec<u8> {
@@ -82,31 +47,6 @@ fn time_out(sequence: u64, proof_height: u64, claimed: u64) -> Vec<u8> {
     sent.n16(4).n64(proof_height).n64(0).n16(6).n32(9).n64(claimed).n64(0).n64(0).digest(0).0
 }
 
-/// Handles it and checks that a refusal changes nothing and an acceptance nothing behind what it emits.
-fn answer(store: &mut [u8], datagram: &[u8]) -> (u8, Vec<u8>) {
-    let before = store.to_vec();
-    let mut output = vec![0xaa; 120];
-    let (number, length) = reference::handle(store, &mut output, datagram);
-    if number != 0 {
-        assert_eq!((store.to_vec(), length), (before, 0));
-    }
-    assert!(output[length as usize..].iter().all(|byte| *byte == 0xaa));
-    output.truncate(length as usize);
-    (number, output)
-}
-
-fn number(store: &mut [u8], datagram: &[u8]) -> u8 {
-    answer(store, datagram).0
-}
-
-fn record(store: &[u8], index: usize) -> &[u8] {
-    &store[1088 + 64 * index..][..64]
-}
-
-fn channel(store: &[u8], index: usize) -> &[u8] {
-    &store[64 + 64 * index..][..64]
-}
-
 fn after_case_1() -> Vec<u8> {
     let mut store = fresh();
     assert_eq!(number(&mut store, &send(5, 60)), 0);
@@ -124,7 +64,7 @@ fn case_01_send_accepted() {
     assert_eq!(record(&store, 1), [0; 64]);
     let end = Bytes::default().n16(1).n8(3).n8(1).n32(7).n16(5).n16(6).n32(9).n64(2).n64(1).n64(1).zeros(24).0;
     assert_eq!(channel(&store, 0), end);
-    let header = Bytes::default().n32(1216).n16(0x0401).n16(16).n64(100).n64(1000).n32(2).zeros(36).0;
+    let header = Bytes::default().n32(1216).n16(0x0401).n16(16).n64(100).n64(1000).n32(2).n64(9).zeros(28).0;
     assert_eq!(store[..64], header);
 }
 

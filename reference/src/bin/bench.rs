@@ -97,12 +97,13 @@ fn measure(records: usize, rounds: usize) {
 fn main() {
     let rounds = env::args().nth(1).and_then(|text| text.parse().ok()).unwrap_or(DEFAULT_ROUNDS).max(1);
     println!("Time of a call with one datagram, from the call to the answer: fitness of the whole store checked,");
-    println!("refusals asked, store and output written. Two thirds of the datagrams or more are accepted, of all five");
+    println!("refusals asked, store and output written. Two thirds of the datagrams or more are accepted, of the five");
     println!(
-        "kinds. The store is full at first; it is set back every {SEGMENT} calls, which is not measured. Rounds of"
+        "kinds that are about packets. The store is full at first; it is set back every {SEGMENT} calls, which is"
     );
-    println!("the two take turns. Few calls are timed at once; best is the sum of the best rounds of these, median");
-    println!("that of their median rounds. Ratio: time of the library over time of the plain Rust. Seed {SEED}.");
+    println!("not measured. Rounds of the two take turns. Few calls are timed at once; best is the sum of the best");
+    println!("rounds of these, median that of their median rounds. Ratio: time of the library over time of the plain");
+    println!("Rust. Seed {SEED}.");
     // Where a short loop stands in the lines of the cache decides much of its time: see docs/PERFORMANCE.md.
     println!("The library's code begins {} bytes behind a multiple of 64.", ROUTE.handle as usize % 64);
     for records in [8, 64, 512] {

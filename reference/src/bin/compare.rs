@@ -5,14 +5,15 @@ use std::process::ExitCode;
 use std::time::{SystemTime, UNIX_EPOCH};
 
 use reference::compare::compare;
-use reference::history;
+use reference::history::{self, Truth};
 use reference::route::ROUTE;
 
-/// The full run. From some 60,000 calls on every cell of the coverage is met; fewer calls fail for that.
+/// The full run. From some 100,000 calls on every cell of the coverage is met; fewer calls fail for that.
 const DEFAULT_CALLS: u64 = 1_000_000;
 /// One history of each sort for so many calls.
 const CALLS_PER_HISTORY: u64 = 500;
 const SHOWN: usize = 20;
+const TOTALS_IN_A_LINE: usize = 3;
 
 fn main() -> ExitCode {
     let arguments: Vec<String> = env::args().skip(1).collect();
@@ -25,8 +26,8 @@ fn main() -> ExitCode {
     let seed = number(1).unwrap_or_else(any_seed);
     println!("seed {seed}, {calls} calls\n");
     let mut found = compare_calls(calls, seed);
-    for truthful in [true, false] {
-        found += run_histories(calls.div_ceil(CALLS_PER_HISTORY), seed, truthful);
+    for truth in [Truth::Everything, Truth::Openings, Truth::Nothing] {
+        found += run_histories(calls.div_ceil(CALLS_PER_HISTORY), seed, truth);
     }
     println!("\n{found} differences, broken promises and cells not met in all, seed {seed}");
     ExitCode::from(u8::from(found != 0))
@@ -48,15 +49,19 @@ fn compare_calls(calls: u64, seed: u64) -> u64 {
     report.different_calls + (report.reference_faults.len() + unmet.len()) as u64
 }
 
-fn run_histories(histories: u64, seed: u64, truthful: bool) -> u64 {
-    let outcome = history::run(&ROUTE, histories, seed, truthful);
-    let verdicts = if truthful { "true" } else { "lying" };
-    println!("\n{histories} histories of two ledgers with {verdicts} verdicts, {} calls", outcome.calls);
-    let [sent, delivered, acknowledged, timed_out, behind] = outcome.totals;
-    println!("{sent} packets sent, {delivered} delivered at paired ends, {acknowledged} acknowledged");
-    println!("{timed_out} timed out, {behind} of them on a closed end");
+fn run_histories(histories: u64, seed: u64, truth: Truth) -> u64 {
+    let outcome = history::run(&ROUTE, histories, seed, truth);
+    let verdicts = match truth {
+        Truth::Everything => "true verdicts",
+        Truth::Openings => "lying verdicts, but for those that open an end",
+        Truth::Nothing => "lying verdicts",
+    };
+    println!("\n{histories} histories of two ledgers with {verdicts}, {} calls", outcome.calls);
+    let totals: Vec<String> = outcome.named_totals().map(|(name, count)| format!("{count} {name}")).collect();
+    totals.chunks(TOTALS_IN_A_LINE).for_each(|line| println!("{}", line.join(", ")));
     println!("{}", outcome.answers);
     println!("{} calls differ, {} promises broken", outcome.differences.len(), outcome.broken.len());
+    outcome.excused.iter().for_each(|(name, count)| println!("  {count} times, for lies: {name}"));
     show(&outcome.differences, seed);
     show(&outcome.broken, seed);
     // Counting what never happens would show nothing.

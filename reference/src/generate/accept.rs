@@ -1,15 +1,27 @@
 //! Drafts of calls that a given fit store accepts.
 
+mod handshake;
+
 use super::draft::{Draft, NO_VERDICT};
 use super::rng::Rng;
+use super::step::Step;
 use crate::datagram::*;
 use crate::places::CHANNELS;
 use crate::store::*;
+use crate::verdict::Verdict;
 
 /// A call of this kind that the store accepts, or nothing when the dice find none.
 pub fn accepted(rng: &mut Rng, store: &[u8], kind: u16) -> Option<Draft> {
-    // A time-out is taken on a CLOSED end too.
-    let takes = |end: Channel| kind == TIME_OUT || end.is_open();
+    if has_version(kind) {
+        return handshake::making_an_end(rng, store, kind);
+    }
+    // A time-out is taken in every state.
+    let takes = |end: Channel| match kind {
+        TIME_OUT => true,
+        OPEN_ACKNOWLEDGE => end.state == INIT,
+        OPEN_CONFIRM => end.state == TRYOPEN,
+        _ => end.is_open(),
+    };
     let ends: Vec<usize> = (0..CHANNELS).filter(|index| channel_at(store, *index).is_some_and(takes)).collect();
     let index = rng.pick_any(&ends)?;
     let end = channel_at(store, index)?;
@@ -18,6 +30,7 @@ pub fn accepted(rng: &mut Rng, store: &[u8], kind: u16) -> Option<Draft> {
         SEND => fill_send(rng, &mut draft, &end)?,
         RECEIVE => fill_receive(rng, &mut draft, &end)?,
         WRITE => fill_write(rng, &mut draft, &end)?,
+        OPEN_ACKNOWLEDGE | OPEN_CONFIRM => handshake::fill_step(rng, &mut draft, &end),
         _ => fill_finish(rng, &mut draft, &end)?,
     }
     draft.match_verdict();
@@ -42,7 +55,7 @@ pub fn later(rng: &mut Rng, height: u64, time: u64) -> (u64, u64) {
 
 fn blank(rng: &mut Rng, store: &[u8], index: usize, kind: u16) -> Draft {
     let (height, time) = later(rng, last_height(store), last_time(store));
-    let needs_connection = matches!(kind, RECEIVE | ACKNOWLEDGE);
+    let needs_connection = matches!(kind, RECEIVE | ACKNOWLEDGE | OPEN_TRY | OPEN_ACKNOWLEDGE | OPEN_CONFIRM);
     let connection = u8::from(needs_connection || !rng.one_in(6));
     let end = Channel::read(&store[channel_place(index)..]);
     let packet = Packet {
@@ -64,6 +77,7 @@ fn blank(rng: &mut Rng, store: &[u8], index: usize, kind: u16) -> Draft {
         acknowledgement: rng.digest(),
         verdict: Verdict { proof_height: rng.number(), proof_time: rng.number(), ..NO_VERDICT },
         claimed: 0,
+        step: Step::default(),
     }
 }
 

@@ -1,17 +1,19 @@
 //! A call in the making: a store and a datagram in parts, so that single parts can be spoiled.
 
 use super::call::Row;
+use super::step::Step;
 use crate::bytes::*;
 use crate::datagram::*;
-use crate::places::{context, frame, packet, send, verdict, write};
+use crate::places::{context, frame, packet, send, write};
 use crate::store::*;
+use crate::verdict::*;
 
-/// One draft for all five kinds. A send takes timeouts, digest and source channel from the packet; a written
-/// acknowledgement takes sequence and destination channel from it.
+/// One draft for all kinds. A send takes timeouts, digest and source channel from the packet; a written
+/// acknowledgement takes sequence and destination channel from it; the handshake has its step instead.
 #[derive(Clone, Debug)]
 pub struct Draft {
     pub store: Vec<u8>,
-    /// The index of the channel record that the call is about.
+    /// The index of the channel record that the call is about, or that it would fill.
     pub index: usize,
     pub kind: u16,
     pub context: Context,
@@ -20,6 +22,7 @@ pub struct Draft {
     pub verdict: Verdict,
     /// What the verdict of an ordered time-out says the next receive is.
     pub claimed: u64,
+    pub step: Step,
 }
 
 impl Draft {
@@ -28,24 +31,46 @@ impl Draft {
     }
 
     pub fn row(&self) -> Row {
-        Row { kind: self.kind, ordered: self.end().is_ordered() }
+        let order = if has_version(self.kind) { self.step.order } else { self.end().order };
+        Row { kind: self.kind, ordered: order == ORDERED }
     }
 
     pub fn set_end(&mut self, end: Channel) {
         end.write(&mut self.store[channel_place(self.index)..]);
     }
 
+    /// Puts the end into a state. An INIT end names no channel, and a packet that fitted the end still does.
+    pub fn set_state(&mut self, state: u8) {
+        let end = self.end();
+        let named = if state == INIT { 0 } else { end.counterparty_channel };
+        let other = match self.kind {
+            RECEIVE => Some(&mut self.packet.source_channel),
+            ACKNOWLEDGE | TIME_OUT => Some(&mut self.packet.dest_channel),
+            _ => None,
+        };
+        if let Some(other) = other.filter(|other| **other == end.counterparty_channel) {
+            *other = named;
+        }
+        self.set_end(Channel { state, counterparty_channel: named, ..end });
+    }
+
     /// The number by which the datagram names the channel of this ledger.
     pub fn own_channel(&mut self) -> &mut u32 {
         match self.kind {
             RECEIVE | WRITE => &mut self.packet.dest_channel,
+            OPEN_ACKNOWLEDGE | OPEN_CONFIRM => &mut self.step.channel,
             _ => &mut self.packet.source_channel,
         }
     }
 
-    /// Makes the verdict the needed one for the packet as it is now. Proof height and time stay.
+    /// Makes the verdict the needed one for the packet or step as it is now. Proof height and time stay.
     pub fn match_verdict(&mut self) {
-        let ordered = self.end().is_ordered();
+        let end = self.end();
+        if HANDSHAKE_KINDS.contains(&self.kind) {
+            self.step.match_verdict(self.kind, &end, self.context.port);
+            return;
+        }
+        let ordered = end.is_ordered();
         let Verdict { proof_height, proof_time, .. } = self.verdict;
         self.verdict = needed_verdict(self.kind, ordered, &self.packet, self.acknowledgement, self.claimed);
         self.verdict.proof_height = proof_height;
@@ -53,6 +78,9 @@ impl Draft {
     }
 
     pub fn encode(&self) -> Vec<u8> {
+        if HANDSHAKE_KINDS.contains(&self.kind) {
+            return self.step.encode(self.kind, &self.context);
+        }
         encode(self.kind, &self.context, &self.packet, self.acknowledgement, &self.verdict)
     }
 }
@@ -90,6 +118,7 @@ pub fn needed_verdict(kind: u16, ordered: bool, packet: &Packet, acknowledgement
     }
 }
 
+/// The bytes of a datagram that is about a packet.
 pub fn encode(kind: u16, context: &Context, packet: &Packet, acknowledgement: Digest, verdict: &Verdict) -> Vec<u8> {
     let mut bytes = vec![0; length_of(kind).unwrap_or(frame::BODY)];
     let length = bytes.len() as u32;
@@ -112,32 +141,20 @@ pub fn encode(kind: u16, context: &Context, packet: &Packet, acknowledgement: Di
         ACKNOWLEDGE => {
             packet.write(body);
             put(body, packet::LENGTH, acknowledgement);
-            write_verdict(verdict, &mut body[packet::LENGTH + acknowledgement.len()..]);
+            verdict.write(&mut body[packet::LENGTH + acknowledgement.len()..]);
         }
         _ => {
             packet.write(body);
-            write_verdict(verdict, &mut body[packet::LENGTH..]);
+            verdict.write(&mut body[packet::LENGTH..]);
         }
     }
     bytes
 }
 
-fn write_context(context: &Context, bytes: &mut [u8]) {
+pub fn write_context(context: &Context, bytes: &mut [u8]) {
     put_u64(bytes, context::HEIGHT, context.height);
     put_u64(bytes, context::TIME, context.time);
     put_u64(bytes, context::CLIENT_HEIGHT, context.client_height);
     put_u16(bytes, context::PORT, context.port);
     bytes[context::CONNECTION] = context.connection;
-}
-
-fn write_verdict(verdict: &Verdict, bytes: &mut [u8]) {
-    put_u16(bytes, verdict::CLAIM, verdict.claim);
-    put_u64(bytes, verdict::PROOF_HEIGHT, verdict.proof_height);
-    put_u64(bytes, verdict::PROOF_TIME, verdict.proof_time);
-    put_u16(bytes, verdict::PORT, verdict.port);
-    put_u32(bytes, verdict::CHANNEL, verdict.channel);
-    put_u64(bytes, verdict::SEQUENCE, verdict.sequence);
-    put_u64(bytes, verdict::TIMEOUT_HEIGHT, verdict.timeout_height);
-    put_u64(bytes, verdict::TIMEOUT_TIMESTAMP, verdict.timeout_timestamp);
-    put(bytes, verdict::DIGEST, verdict.digest);
 }

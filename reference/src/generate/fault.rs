@@ -1,5 +1,7 @@
 //! Spoils a call that would be accepted, so that one refusal of the table applies and no lower one begins to.
 
+mod handshake;
+
 use super::accept::pick_record;
 use super::call::Row;
 use super::draft::Draft;
@@ -10,6 +12,7 @@ use crate::datagram::*;
 use crate::places::header;
 use crate::refusal::*;
 use crate::store::*;
+use crate::verdict::END_SHOWN;
 
 /// The refusals from 4 that can be brought about for this kind of call on a channel of this order.
 pub fn possible(kind: u16, ordered: bool) -> &'static [u8] {
@@ -20,6 +23,9 @@ pub fn possible(kind: u16, ordered: bool) -> &'static [u8] {
         (WRITE, _) => &[4, 5, 6, 7, 16, 17, 18, 20],
         (ACKNOWLEDGE, true) => &[4, 5, 6, 7, 8, 9, 13, 14, 15, 19],
         (ACKNOWLEDGE, false) => &[4, 5, 6, 7, 8, 9, 13, 14],
+        (OPEN_INIT, _) => &[4, 25, 27],
+        (OPEN_TRY, _) => &[4, 8, 14, 25, 27],
+        (OPEN_ACKNOWLEDGE | OPEN_CONFIRM, _) => &[4, 5, 7, 8, 14, 26, 27],
         (_, true) => &[4, 5, 7, 9, 12, 13, 14, 15],
         (_, false) => &[4, 5, 7, 9, 12, 13, 14],
     }
@@ -53,7 +59,7 @@ pub fn spoil(rng: &mut Rng, draft: &mut Draft, number: u8) -> bool {
             *draft.own_channel() = number;
             return find_channel(&draft.store, number).is_none();
         }
-        NOT_OPEN => draft.set_end(Channel { state: CLOSED, ..draft.end() }),
+        NOT_OPEN => draft.set_state(rng.pick(&[INIT, TRYOPEN, CLOSED])),
         NOT_OWNER => draft.context.port = rng.other_u16(draft.context.port),
         CONNECTION_NOT_OPEN => draft.context.connection = 0,
         WRONG_END => wrong_end(rng, draft),
@@ -61,12 +67,16 @@ pub fn spoil(rng: &mut Rng, draft: &mut Draft, number: u8) -> bool {
         TIMEOUT_PASSED => return pass(rng, draft),
         TIMEOUT_NOT_PASSED => not_yet(rng, draft),
         NO_COMMITMENT => other_commitment(rng, draft),
+        OTHER_VERDICT if HANDSHAKE_KINDS.contains(&draft.kind) => handshake::other_end(rng, draft),
         OTHER_VERDICT => other_verdict(rng, draft),
         OUT_OF_ORDER => return out_of_order(rng, draft),
         ALREADY_THERE => return already_there(rng, draft),
         NOT_RECEIVED => return not_received(rng, draft),
         EMPTY_ACKNOWLEDGEMENT => draft.acknowledgement = NO_DIGEST,
         COUNTER_AT_END => counter_at_end(draft),
+        NO_FREE_CHANNEL => handshake::no_free_channel(rng, draft),
+        NOT_PRIOR_STATE => handshake::not_prior_state(rng, draft),
+        WRONG_VERSION => handshake::wrong_version(rng, draft),
         _ => return no_free_record(rng, draft),
     }
     true
@@ -159,7 +169,7 @@ fn other_verdict(rng: &mut Rng, draft: &mut Draft) {
         3 => verdict.timeout_timestamp = rng.other_than(verdict.timeout_timestamp),
         4 => verdict.digest = rng.other_digest(verdict.digest),
         5 if !any_sequence => verdict.sequence = rng.other_than(verdict.sequence),
-        _ => verdict.claim = 1 + (verdict.claim + rng.below(3) as u16) % 4,
+        _ => verdict.claim = 1 + (verdict.claim + rng.below(4) as u16) % END_SHOWN,
     }
 }
 

@@ -7,9 +7,10 @@ use crate::datagram::*;
 use crate::places::{CHANNELS, OUTPUT};
 use crate::store::store_length;
 
-/// An accepted call of any kind. Time-outs that close an ordered channel are made seldom.
+/// An accepted call of any kind. Time-outs that close an ordered channel are made seldom, and so are steps of the
+/// handshake, as the ends that they make are never freed.
 pub fn any_accepted(rng: &mut Rng, store: &[u8]) -> Option<Draft> {
-    let kind = rng.pick(&[SEND, RECEIVE, WRITE, ACKNOWLEDGE, TIME_OUT]);
+    let kind = if rng.one_in(8) { rng.pick(&HANDSHAKE_KINDS) } else { rng.pick(&PACKET_KINDS) };
     let draft = accept::accepted(rng, store, kind)?;
     let closes = kind == TIME_OUT && draft.end().is_ordered() && draft.end().is_open();
     (!closes || rng.one_in(3)).then_some(draft)
@@ -22,7 +23,7 @@ pub fn grown(rng: &mut Rng) -> Vec<u8> {
     let count = if rng.one_in(60) { 0 } else { 1 + rng.index(most) };
     let openings = making::openings(rng, count);
     crate::make_store(&mut store, &openings);
-    for _ in 0..rng.index(60) {
+    for _ in 0..rng.index(80) {
         if let Some(draft) = any_accepted(rng, &store) {
             crate::handle(&mut store, &mut [0; OUTPUT], &draft.encode());
         }

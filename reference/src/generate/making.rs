@@ -48,7 +48,7 @@ fn one_opening(rng: &mut Rng, number: u32) -> [u8; opening::LENGTH] {
     bytes
 }
 
-fn port(rng: &mut Rng) -> u16 {
+pub fn port(rng: &mut Rng) -> u16 {
     if rng.one_in(6) {
         rng.draw() as u16
     } else {
@@ -65,6 +65,9 @@ pub fn making(rng: &mut Rng) -> Making {
     let (many, twice) = (has(TOO_MANY_OPENINGS), has(CHANNEL_TWICE));
     let count = if many { CHANNELS + 1 + rng.index(5) } else { rng.index(CHANNELS + 1) };
     let mut list = openings(rng, if twice { count.max(2) } else { count });
+    if rng.one_in(4) {
+        last_or_least(rng, &mut list, count);
+    }
     if twice {
         channel_twice(rng, &mut list);
     }
@@ -73,6 +76,15 @@ pub fn making(rng: &mut Rng) -> Making {
     }
     let length = if unfit { unfit_length(rng) } else { store_length(records(rng)) };
     Making { store: rng.bytes(length), openings: list, intended }
+}
+
+/// One end gets the last number, or the only end gets 0: the next channel number is then at the end of its range too.
+fn last_or_least(rng: &mut Rng, list: &mut [u8], count: usize) {
+    if count == 0 {
+        return;
+    }
+    let number = if count == 1 && rng.one_in(2) { 0 } else { u32::MAX };
+    put_u32(list, rng.index(count) * opening::LENGTH + opening::CHANNEL, number);
 }
 
 fn unfit_length(rng: &mut Rng) -> usize {

@@ -6,17 +6,20 @@
 use super::rng::Rng;
 use crate::bytes::*;
 use crate::datagram::*;
-use crate::places::{context, frame, packet, write};
+use crate::places::{context, frame, open_acknowledge, open_confirm, open_init, open_try, packet, write};
+use crate::store::{ORDERED, UNORDERED};
 
 type Way = fn(&mut Rng, &mut Vec<u8>) -> Option<()>;
 
-const ALL_KINDS: &[u16] = &[SEND, RECEIVE, WRITE, ACKNOWLEDGE, TIME_OUT];
+const ALL_KINDS: &[u16] =
+    &[SEND, RECEIVE, WRITE, ACKNOWLEDGE, TIME_OUT, OPEN_INIT, OPEN_TRY, OPEN_ACKNOWLEDGE, OPEN_CONFIRM];
 const WITH_SEQUENCE: &[u16] = &[RECEIVE, WRITE, ACKNOWLEDGE, TIME_OUT];
-const WITH_VERDICT: &[u16] = &[RECEIVE, ACKNOWLEDGE, TIME_OUT];
+const WITH_VERDICT: &[u16] = &[RECEIVE, ACKNOWLEDGE, TIME_OUT, OPEN_TRY, OPEN_ACKNOWLEDGE, OPEN_CONFIRM];
+const WITH_ORDER: &[u16] = &[OPEN_INIT, OPEN_TRY];
 
 /// Each way with its name and the kinds of datagrams that have a place for it. A way answers nothing when the dice
 /// leave the datagram as it was.
-pub const WAYS: [(&str, &[u16], Way); 9] = [
+pub const WAYS: [(&str, &[u16], Way); 10] = [
     ("under 6 bytes", ALL_KINDS, under_six),
     ("length field", ALL_KINDS, length_field),
     ("kind unknown", ALL_KINDS, kind_unknown),
@@ -26,6 +29,7 @@ pub const WAYS: [(&str, &[u16], Way); 9] = [
     ("own height 0", ALL_KINDS, |_, bytes| zero(bytes, frame::BODY + context::HEIGHT)),
     ("sequence 0", WITH_SEQUENCE, sequence_zero),
     ("claim", WITH_VERDICT, claim),
+    ("order", WITH_ORDER, order),
 ];
 
 /// Malforms a well-formed datagram in one way and answers its index among the ways.
@@ -77,31 +81,35 @@ fn length_field(rng: &mut Rng, bytes: &mut Vec<u8>) -> Option<()> {
 /// Kinds of other records, high bytes that a careless reader drops, neighbours.
 fn kind_unknown(rng: &mut Rng, bytes: &mut Vec<u8>) -> Option<()> {
     let kind = get_u16(bytes, frame::KIND);
-    let unknown = rng.pick(&[0, 6, 7, 0x0010, 0x0020, 0x0101, 0x0401, 0xffff, kind | 0x0100, kind | 0x8000]);
+    let unknown = rng.pick(&[0, 10, 11, 0x0010, 0x0020, 0x0101, 0x0401, 0xffff, kind | 0x0100, kind | 0x8000]);
     put_u16(bytes, frame::KIND, unknown);
     Some(())
 }
 
 /// Slice and field agree on a length that the kind does not have, or the kind is that of a longer or shorter one.
+/// With a version behind it, only a shorter one is wrong.
 fn wrong_length(rng: &mut Rng, bytes: &mut Vec<u8>) -> Option<()> {
     let kind = get_u16(bytes, frame::KIND);
     match rng.below(3) {
-        0 => bytes.truncate(6 + rng.index(bytes.len() - 6)),
-        1 => {
+        0 => {
+            let whole = length_of(kind)?;
+            let any = 6 + rng.index(whole - 6);
+            bytes.truncate(rng.pick(&[whole - 1, any]));
+        }
+        1 if !has_version(kind) => {
             let length = bytes.len() + 1 + rng.index(140);
             bytes.resize(length, 0);
         }
         _ => {
-            let other = rng.pick(&[SEND, RECEIVE, WRITE, ACKNOWLEDGE, TIME_OUT]);
-            if length_of(other) == length_of(kind) {
+            let other = rng.pick(ALL_KINDS);
+            if can_have_length(other, bytes.len()) {
                 return None;
             }
             put_u16(bytes, frame::KIND, other);
-            return Some(());
         }
     }
     say_length(bytes);
-    (length_of(kind) != Some(bytes.len())).then_some(())
+    Some(())
 }
 
 fn zero_byte(rng: &mut Rng, bytes: &mut Vec<u8>) -> Option<()> {
@@ -129,20 +137,29 @@ fn sequence_zero(_: &mut Rng, bytes: &mut Vec<u8>) -> Option<()> {
 fn claim(rng: &mut Rng, bytes: &mut Vec<u8>) -> Option<()> {
     let body = frame::BODY + context::LENGTH;
     let at = match get_u16(bytes, frame::KIND) {
-        ACKNOWLEDGE => body + packet::LENGTH + 32,
-        _ => body + packet::LENGTH,
+        ACKNOWLEDGE => packet::LENGTH + 32,
+        OPEN_TRY => open_try::VERDICT,
+        OPEN_ACKNOWLEDGE => open_acknowledge::VERDICT,
+        OPEN_CONFIRM => open_confirm::VERDICT,
+        _ => packet::LENGTH,
     };
-    put_u16(bytes, at, rng.pick(&[0, 5, 0x0100, 0x0101, 0x0102, 0x0203, 0x8004, 0xffff]));
+    put_u16(bytes, body + at, rng.pick(&[0, 6, 7, 0x0100, 0x0101, 0x0205, 0x8004, 0xffff]));
+    Some(())
+}
+
+fn order(rng: &mut Rng, bytes: &mut Vec<u8>) -> Option<()> {
+    let at = if get_u16(bytes, frame::KIND) == OPEN_INIT { open_init::ORDER } else { open_try::ORDER };
+    bytes[frame::BODY + context::LENGTH + at] = rng.pick(&[0, 3, 4, 0x11, 0x82, 0xff]);
     Some(())
 }
 
 /// Bytes that nobody made as a datagram; some have a good frame, and those may even be well formed.
 pub fn garbage(rng: &mut Rng) -> Vec<u8> {
-    let kind = 1 + rng.below(6) as u16;
+    let kind = 1 + rng.below(10) as u16;
     let length = match (rng.below(3), length_of(kind)) {
         (0, _) => rng.index(300),
         (1, _) => rng.index(12),
-        (_, length) => length.unwrap_or(90),
+        (_, length) => length.unwrap_or(90) + if has_version(kind) { rng.index(30) } else { 0 },
     };
     let mut bytes = rng.bytes(length);
     if length >= frame::BODY && !rng.one_in(3) {
@@ -152,6 +169,10 @@ pub fn garbage(rng: &mut Rng) -> Vec<u8> {
     if length >= frame::BODY + context::LENGTH && !rng.one_in(3) {
         bytes[frame::BODY + context::CONNECTION] = rng.below(2) as u8;
         bytes[frame::BODY + context::ZEROS..frame::BODY + context::LENGTH].fill(0);
+    }
+    let order = frame::BODY + context::LENGTH + open_init::ORDER;
+    if kind == OPEN_INIT && length > order && rng.one_in(2) {
+        bytes[order] = rng.pick(&[ORDERED, UNORDERED]);
     }
     bytes
 }

@@ -1,8 +1,11 @@
 //! Changes that keep a store fit: records put in, and states that no short run of calls would reach.
 
 use super::accept::pick_record;
+use super::making::port;
 use super::rng::Rng;
+use super::step::{padded, some_version};
 use crate::bytes::*;
+use crate::datagram::{OPEN_ACKNOWLEDGE, OPEN_CONFIRM};
 use crate::places::{header, CHANNELS, RECORD};
 use crate::store::*;
 
@@ -45,6 +48,43 @@ pub fn fill(rng: &mut Rng, store: &mut [u8], left: usize, keep: Option<(u32, u64
     true
 }
 
+/// Fills free channel records until `left` are free, each with an end of its own number.
+pub fn fill_channels(rng: &mut Rng, store: &mut [u8], left: usize) {
+    let free: Vec<usize> = (0..CHANNELS).filter(|index| channel_at(store, *index).is_none()).collect();
+    for index in free.iter().skip(left) {
+        let number = unused_number(rng, store);
+        let next = next_channel(store).max(u64::from(number) + 1);
+        put_u64(store, header::NEXT_CHANNEL, next);
+        let state = rng.pick(&[INIT, TRYOPEN, OPEN, CLOSED]);
+        let counterparty_channel = if state == INIT { 0 } else { rng.number() as u32 };
+        let end = Channel {
+            state,
+            order: rng.pick(&[ORDERED, UNORDERED]),
+            channel: number,
+            port: port(rng),
+            counterparty_port: port(rng),
+            counterparty_channel,
+            next_sequence_send: rng.number_from_1(),
+            next_sequence_recv: rng.number_from_1(),
+            next_sequence_ack: rng.number_from_1(),
+            version: padded(&some_version(rng)),
+        };
+        end.write(&mut store[channel_place(*index)..]);
+    }
+}
+
+/// Mostly the next number, and else one that was left out.
+fn unused_number(rng: &mut Rng, store: &[u8]) -> u32 {
+    loop {
+        let any = rng.below(next_channel(store)) as u32;
+        let next = u32::try_from(next_channel(store)).ok().filter(|_| !rng.one_in(4));
+        let number = next.unwrap_or(any);
+        if find_channel(store, number).is_none() {
+            return number;
+        }
+    }
+}
+
 /// A record that the end at this index may have; next send rises for a commitment when it has to.
 fn some_record(rng: &mut Rng, store: &mut [u8], at: usize) -> Option<Record> {
     let mut end = channel_at(store, at)?;
@@ -71,9 +111,22 @@ fn some_record(rng: &mut Rng, store: &mut [u8], at: usize) -> Option<Record> {
     }
 }
 
+/// Puts some end into the state in which this step of the handshake begins; other kinds need none.
+pub fn make_ready(rng: &mut Rng, store: &mut [u8], kind: u16) {
+    let Some((index, end)) = rng.pick_any(&channels(store)) else {
+        return;
+    };
+    let ready = match kind {
+        OPEN_ACKNOWLEDGE => Channel { state: INIT, counterparty_channel: 0, ..end },
+        OPEN_CONFIRM => Channel { state: TRYOPEN, ..end },
+        _ => return,
+    };
+    ready.write(&mut store[channel_place(index)..]);
+}
+
 /// One random change after which a fit store is still fit.
 pub fn reshape(rng: &mut Rng, store: &mut [u8]) {
-    match rng.below(10) {
+    match rng.below(12) {
         0 => swap_records(store, channel_place(rng.index(CHANNELS)), channel_place(rng.index(CHANNELS))),
         1 | 2 => {
             let count = record_count(store);
@@ -88,8 +141,23 @@ pub fn reshape(rng: &mut Rng, store: &mut [u8]) {
             fill(rng, store, left, None);
         }
         5 => plain_record(rng, store),
+        6 => other_next(rng, store),
+        // Seldom, as the new ends have no packets.
+        7 if rng.one_in(6) => {
+            let left = rng.index(3);
+            fill_channels(rng, store, left);
+        }
         _ => other_counters(rng, store),
     }
+}
+
+/// The least next channel number, or one at or beyond the end of the numbers.
+fn other_next(rng: &mut Rng, store: &mut [u8]) {
+    let least = channels(store).iter().map(|(_, end)| u64::from(end.channel) + 1).max().unwrap_or(1);
+    let last = u64::from(u32::MAX);
+    let any = rng.between(least, u64::MAX);
+    let next = rng.pick(&[least, least, least, least, last, last + 1, u64::MAX, any]);
+    put_u64(store, header::NEXT_CHANNEL, next.max(least));
 }
 
 fn swap_records(store: &mut [u8], one: usize, other: usize) {
@@ -117,8 +185,10 @@ fn other_counters(rng: &mut Rng, store: &mut [u8]) {
     let Some((index, mut end)) = rng.pick_any(&ends) else {
         return;
     };
-    match rng.below(8) {
-        0 => end.state = rng.pick(&[OPEN, CLOSED]),
+    match rng.below(10) {
+        0 => end.state = rng.pick(&[TRYOPEN, OPEN, CLOSED]),
+        8 => (end.state, end.counterparty_channel) = (INIT, 0),
+        9 => end.version = padded(&some_version(rng)),
         1 => end.next_sequence_send = rng.between(end.next_sequence_send, u64::MAX),
         2 => end.next_sequence_recv = rng.between(end.next_sequence_recv, u64::MAX),
         3 | 4 => end.next_sequence_recv = end.next_sequence_recv.max(rng.below(9)),

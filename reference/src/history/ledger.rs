@@ -1,8 +1,47 @@
 //! One ledger of a history: its store, and what it was after each height, for verdicts that are true.
 
+use crate::bytes::*;
 use crate::datagram::*;
 use crate::generate::rng::Rng;
+use crate::places::channel;
 use crate::store::*;
+use crate::verdict::*;
+
+/// What a datagram shows of the other ledger, in either form.
+#[derive(Clone, Copy)]
+pub enum Shown {
+    Packet(Verdict),
+    End(EndVerdict),
+}
+
+impl Shown {
+    pub fn of(body: &Body) -> Option<Shown> {
+        match body {
+            Body::Receive { verdict, .. } | Body::Acknowledge { verdict, .. } | Body::TimeOut { verdict, .. } => {
+                Some(Shown::Packet(*verdict))
+            }
+            Body::OpenTry { verdict, .. }
+            | Body::OpenAcknowledge { verdict, .. }
+            | Body::OpenConfirm { verdict, .. } => Some(Shown::End(*verdict)),
+            Body::Send { .. } | Body::Write { .. } | Body::OpenInit { .. } => None,
+        }
+    }
+
+    /// The same at this proof height and proof time.
+    pub fn at(self, (proof_height, proof_time): (u64, u64)) -> Shown {
+        match self {
+            Shown::Packet(verdict) => Shown::Packet(Verdict { proof_height, proof_time, ..verdict }),
+            Shown::End(verdict) => Shown::End(EndVerdict { proof_height, proof_time, ..verdict }),
+        }
+    }
+
+    fn moment(&self) -> (u64, u64) {
+        match self {
+            Shown::Packet(verdict) => (verdict.proof_height, verdict.proof_time),
+            Shown::End(verdict) => (verdict.proof_height, verdict.proof_time),
+        }
+    }
+}
 
 /// The store after the accepted calls up to a height, and the time of that height.
 struct Block {
@@ -77,24 +116,37 @@ impl Ledger {
         Some(find_channel(&self.blocks[self.block_at(height)].store, channel)?.1.next_sequence_recv)
     }
 
-    /// Whether the verdict is true of this ledger, as far as its past goes; `close` sees to the future.
-    pub fn is_true(&self, verdict: &Verdict) -> bool {
-        let index = self.block_at(verdict.proof_height);
+    /// The store as it was after some height, often as it is now.
+    pub fn some_store(&self, rng: &mut Rng) -> &[u8] {
+        let index = if rng.one_in(4) { rng.index(self.blocks.len()) } else { self.blocks.len() - 1 };
+        &self.blocks[index].store
+    }
+
+    /// Whether what is shown is true of this ledger, as far as its past goes; `close` sees to the future.
+    pub fn is_true(&self, shown: &Shown) -> bool {
+        let (height, time) = shown.moment();
+        let index = self.block_at(height);
         let block = &self.blocks[index];
-        let not_early = verdict.proof_time >= block.time;
-        let not_late = self.blocks.get(index + 1).is_none_or(|next| verdict.proof_time <= next.time);
-        not_early && not_late && holds(&block.store, verdict)
+        let not_early = time >= block.time;
+        let not_late = self.blocks.get(index + 1).is_none_or(|next| time <= next.time);
+        not_early
+            && not_late
+            && match shown {
+                Shown::Packet(verdict) => holds(&block.store, verdict),
+                Shown::End(verdict) => end_holds(&block.store, verdict),
+            }
     }
 
     fn block_at(&self, height: u64) -> usize {
         self.blocks.partition_point(|block| block.height <= height) - 1
     }
 
-    /// From now on no accepted call has the verdict's height or a lower one.
-    pub fn close(&mut self, verdict: &Verdict) {
-        self.closed.0 = self.closed.0.max(verdict.proof_height);
-        if self.block_at(verdict.proof_height) == self.blocks.len() - 1 {
-            self.closed.1 = self.closed.1.max(verdict.proof_time);
+    /// From now on no accepted call has the height of what is shown or a lower one.
+    pub fn close(&mut self, shown: &Shown) {
+        let (height, time) = shown.moment();
+        self.closed.0 = self.closed.0.max(height);
+        if self.block_at(height) == self.blocks.len() - 1 {
+            self.closed.1 = self.closed.1.max(time);
         }
     }
 
@@ -124,6 +176,13 @@ fn holds(store: &[u8], verdict: &Verdict) -> bool {
         COMMITMENT_PRESENT => found(COMMITMENT).is_some_and(same),
         ACKNOWLEDGEMENT_PRESENT => found(ACKNOWLEDGEMENT).is_some_and(same),
         RECEIPT_ABSENT => found(RECEIPT).is_none(),
-        _ => end.next_sequence_recv == verdict.sequence,
+        NEXT_RECV_EQUALS => end.next_sequence_recv == verdict.sequence,
+        _ => false,
     }
+}
+
+/// The end that the record names is there, with exactly these bytes once its counters are set to zero.
+fn end_holds(store: &[u8], verdict: &EndVerdict) -> bool {
+    let found = find_channel(store, get_u32(&verdict.record, channel::CHANNEL));
+    verdict.claim == END_SHOWN && found.is_some_and(|(_, end)| end.shown() == verdict.record)
 }

@@ -2,7 +2,8 @@
 
 use std::collections::{BTreeMap, BTreeSet};
 
-use super::opening::{End, Ends};
+use super::ends::{Broken, End, Ends};
+use super::Truth;
 use crate::bytes::*;
 use crate::datagram::Packet;
 use crate::places::{frame, packet};
@@ -19,11 +20,27 @@ struct Sums {
     timed_out: u64,
 }
 
+/// What is counted, besides the promises.
+pub const TOTALS: [&str; 12] = [
+    "packets sent",
+    "delivered at paired ends",
+    "of them at ends of the handshake",
+    "acknowledged",
+    "timed out",
+    "of them on a closed end",
+    "ends made by init",
+    "by try",
+    "opened by acknowledge",
+    "by confirm",
+    "inits that were tried twice",
+    "crossing handshakes that both opened",
+];
+
 #[derive(Default)]
 pub struct Tally {
-    /// Whether all verdicts were true. Only then is a delivery held against what the other ledger did; sums,
-    /// finishing, order and single delivery are promised with lies too.
-    truthful: bool,
+    /// Which verdicts were true. Only with all of them is a delivery held against what the other ledger did; single
+    /// delivery needs those that open an end; sums, finishing and order are promised with lies too.
+    truth: Truth,
     ends: Ends,
     sums: BTreeMap<End, Sums>,
     sent: BTreeMap<Name, [u8; packet::LENGTH]>,
@@ -32,34 +49,60 @@ pub struct Tally {
     timed_out: BTreeSet<Name>,
     /// Time-outs behind the first one of an ordered end, which closed it.
     behind: u64,
+    /// Deliveries at ends that a handshake has opened.
+    at_handshake: u64,
     last_delivered: BTreeMap<End, u64>,
+    /// Each fault is told once.
+    told: BTreeSet<String>,
     pub broken: Vec<String>,
+    pub excused: BTreeMap<&'static str, u64>,
 }
 
 impl Tally {
-    pub fn new(truthful: bool, ends: Ends) -> Tally {
-        Tally { truthful, ends, ..Tally::default() }
+    /// For two made stores, of which these ends are paired.
+    pub fn new(truth: Truth, stores: [&[u8]; 2], paired: BTreeSet<End>) -> Tally {
+        Tally { truth, ends: Ends::new(stores, paired), ..Tally::default() }
     }
 
-    /// Packets sent, delivered at paired ends, acknowledged, timed out, and timed out on a closed end.
-    pub fn totals(&self) -> [u64; 5] {
+    pub fn totals(&self) -> [u64; TOTALS.len()] {
         let timed_out = self.timed_out.len();
         let acknowledged = self.finished.len() - timed_out;
         let [sent, delivered, acknowledged, timed_out] =
             [self.sent.len(), self.delivered.len(), acknowledged, timed_out].map(|count| count as u64);
-        [sent, delivered, acknowledged, timed_out, self.behind]
+        let [inits, tries, by_acknowledge, by_confirm] = self.ends.steps();
+        let (twice, crossing) = (self.ends.answered_twice(), self.ends.crossing());
+        [
+            sent,
+            delivered,
+            self.at_handshake,
+            acknowledged,
+            timed_out,
+            self.behind,
+            inits,
+            tries,
+            by_acknowledge,
+            by_confirm,
+            twice,
+            crossing,
+        ]
     }
 
-    /// Takes what an accepted call on this ledger emitted, and the store that it left.
+    /// Takes what an accepted call on this ledger emitted, if anything, and the store that it left.
     pub fn take(&mut self, ledger: usize, emitted: &[u8], store: &[u8]) {
-        let bytes = &emitted[frame::BODY..];
-        match get_u16(emitted, frame::KIND) {
+        let (kind, bytes) = match emitted.get(frame::BODY..) {
+            Some(bytes) => (get_u16(emitted, frame::KIND), bytes),
+            None => (0, emitted),
+        };
+        let made = (kind == 0x0107).then(|| (get_u16(bytes, 0), get_u32(bytes, 2)));
+        match kind {
             0x0101 => self.take_sent(ledger, get(bytes, 0)),
             0x0102 => self.take_delivered(ledger, get(bytes, 0)),
             0x0104 => self.take_finished(ledger, &Packet::read(bytes), false),
             0x0105 => self.take_finished(ledger, &Packet::read(bytes), true),
             _ => {}
         }
+        let broken = self.ends.take(ledger, store, made);
+        self.note(broken);
         self.check_sums(ledger, store);
     }
 
@@ -67,9 +110,8 @@ impl Tally {
         let packet = Packet::read(&bytes);
         let name = (ledger, packet.source_channel, packet.sequence);
         self.sums.entry((ledger, packet.source_channel)).or_default().sent += 1;
-        if self.sent.insert(name, bytes).is_some() {
-            self.broken.push(format!("packet {name:?} sent twice"));
-        }
+        let again = self.sent.insert(name, bytes).is_some();
+        self.note_packet(name, &[(Truth::Nothing, again, "sent twice")]);
     }
 
     fn take_delivered(&mut self, ledger: usize, bytes: [u8; packet::LENGTH]) {
@@ -77,19 +119,19 @@ impl Tally {
         let end = (ledger, packet.dest_channel);
         let name = (1 - ledger, packet.source_channel, packet.sequence);
         let last = self.last_delivered.insert(end, packet.sequence).unwrap_or(0);
-        let ordered = self.ends.ordered.get(&end) == Some(&true);
-        self.note(name, &[(ordered && packet.sequence != last + 1, "delivered out of order")]);
+        let early = self.ends.is_ordered(&end) && packet.sequence != last + 1;
+        self.note_packet(name, &[(Truth::Nothing, early, "delivered out of order")]);
         // At another end a second delivery of the packet breaks nothing.
-        if !self.ends.paired.contains(&end) {
+        if !self.ends.is_joined(&end) {
             return;
         }
-        let lied = !self.truthful;
+        self.at_handshake += u64::from(self.ends.is_of_handshake(&end));
         let faults = [
-            (!self.delivered.insert(name), "delivered twice"),
-            (!lied && self.sent.get(&name) != Some(&bytes), "not delivered as sent"),
-            (!lied && self.timed_out.contains(&name), "delivered after its time-out"),
+            (Truth::Openings, !self.delivered.insert(name), "delivered twice"),
+            (Truth::Everything, self.sent.get(&name) != Some(&bytes), "not delivered as sent"),
+            (Truth::Everything, self.timed_out.contains(&name), "delivered after its time-out"),
         ];
-        self.note(name, &faults);
+        self.note_packet(name, &faults);
     }
 
     fn take_finished(&mut self, ledger: usize, packet: &Packet, by_timeout: bool) {
@@ -97,23 +139,39 @@ impl Tally {
         let end = (ledger, packet.source_channel);
         let sums = self.sums.entry(end).or_default();
         if by_timeout {
-            self.behind += u64::from(sums.timed_out > 0 && self.ends.ordered.get(&end) == Some(&true));
+            self.behind += u64::from(sums.timed_out > 0 && self.ends.is_ordered(&end));
             sums.timed_out += 1;
             self.timed_out.insert(name);
         } else {
             sums.acknowledged += 1;
         }
+        let delivered = by_timeout && self.delivered.contains(&name);
         let faults = [
-            (!self.finished.insert(name), "finished twice"),
-            (!self.sent.contains_key(&name), "finished and never sent"),
-            (by_timeout && self.truthful && self.delivered.contains(&name), "timed out after its delivery"),
+            (Truth::Nothing, !self.finished.insert(name), "finished twice"),
+            (Truth::Nothing, !self.sent.contains_key(&name), "finished and never sent"),
+            (Truth::Everything, delivered, "timed out after its delivery"),
         ];
-        self.note(name, &faults);
+        self.note_packet(name, &faults);
     }
 
-    fn note(&mut self, name: Name, faults: &[(bool, &str)]) {
-        let broken = faults.iter().filter(|(broken, _)| *broken);
-        self.broken.extend(broken.map(|(_, fault)| format!("packet {name:?} {fault}")));
+    fn note_packet(&mut self, name: Name, faults: &[(Truth, bool, &'static str)]) {
+        let broken = faults.iter().filter(|(_, broken, _)| *broken);
+        self.note(broken.map(|(needs, _, fault)| (*needs, *fault, format!("packet {name:?}"))).collect());
+    }
+
+    /// Tells what is broken, unless it needs more truth than there was.
+    fn note(&mut self, broken: Vec<Broken>) {
+        for (needs, name, place) in broken {
+            let text = format!("{place} {name}");
+            if !self.told.insert(text.clone()) {
+                continue;
+            }
+            if needs <= self.truth {
+                self.broken.push(text);
+            } else {
+                *self.excused.entry(name).or_default() += 1;
+            }
+        }
     }
 
     /// For each end: what was sent is acknowledged, timed out or still in the table.

@@ -1,0 +1,80 @@
+//! The refusals that the steps of the opening handshake have for themselves.
+
+use crate::bytes::*;
+use crate::datagram::*;
+use crate::generate::draft::Draft;
+use crate::generate::rng::Rng;
+use crate::generate::shape::fill_channels;
+use crate::generate::step::padded;
+use crate::places::{channel, header};
+use crate::store::*;
+use crate::verdict::*;
+
+/// Above every number that a channel can have.
+const USED_UP: u64 = u32::MAX as u64 + 1;
+
+/// Another claim, or one bit of the record changed anywhere but in the version.
+pub fn other_end(rng: &mut Rng, draft: &mut Draft) {
+    let verdict = &mut draft.step.verdict;
+    match rng.below(6) {
+        0 => verdict.claim = rng.pick(&[COMMITMENT_PRESENT, ACKNOWLEDGEMENT_PRESENT, RECEIPT_ABSENT, NEXT_RECV_EQUALS]),
+        1 => verdict.record[channel::STATE] = other_state(rng, verdict.record[channel::STATE]),
+        2 => verdict.record[channel::ORDER] ^= ORDERED ^ UNORDERED,
+        // The counters of the end as they are.
+        3 => put_u64(&mut verdict.record, rng.pick(&[channel::NEXT_SEND, channel::NEXT_RECV, channel::NEXT_ACK]), 1),
+        _ => verdict.record[rng.index(channel::VERSION)] ^= 1 << rng.below(8),
+    }
+}
+
+fn other_state(rng: &mut Rng, state: u8) -> u8 {
+    1 + (state + rng.below(3) as u8) % 4
+}
+
+/// No record is free, or no number is left, or both.
+pub fn no_free_channel(rng: &mut Rng, draft: &mut Draft) {
+    let which = rng.below(5);
+    if which != 0 {
+        fill_channels(rng, &mut draft.store, 0);
+    }
+    if which <= 1 {
+        let any = rng.between(USED_UP, u64::MAX);
+        put_u64(&mut draft.store, header::NEXT_CHANNEL, rng.pick(&[USED_UP, USED_UP + 1, u64::MAX, any]));
+    }
+}
+
+pub fn not_prior_state(rng: &mut Rng, draft: &mut Draft) {
+    let end = draft.end();
+    draft.set_end(Channel { counterparty_channel: rng.number() as u32, ..end });
+    draft.set_state(other_state(rng, end.state));
+}
+
+/// The verdict shows another version; where the datagram has one, that may also be none.
+pub fn wrong_version(rng: &mut Rng, draft: &mut Draft) {
+    let step = &mut draft.step;
+    if has_version(draft.kind) && (draft.kind == OPEN_INIT || rng.one_in(2)) {
+        spoil_version(rng, &mut step.version);
+        // Padded, it may be the same.
+        step.show_version(padded(&step.version));
+        return;
+    }
+    let place = channel::VERSION + rng.index(NO_VERSION.len());
+    step.verdict.record[place] ^= 1 << rng.below(8);
+}
+
+fn spoil_version(rng: &mut Rng, version: &mut Vec<u8>) {
+    let room = NO_VERSION.len();
+    match rng.below(4) {
+        0 => version.resize(room + 1, 1 + rng.below(255) as u8),
+        1 => version.resize(room + 1 + rng.index(200), b'v'),
+        // A zero byte at the end of a short one: padded, it is a version.
+        2 => {
+            version.truncate(room - 1);
+            version.push(0);
+        }
+        _ => {
+            version.resize(version.len().clamp(2, room), b'v');
+            let place = rng.index(version.len() - 1);
+            version[place] = 0;
+        }
+    }
+}
