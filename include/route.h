@@ -13,8 +13,8 @@
  * WHAT HOLDS FOR THE STORE. Each call gets the bytes that the last accepted call on its ledger left, or at first the
  * maker. Nobody else changes them, and no older copy of them is put back, not even after a crash. An older copy is a
  * fit store too, so no answer tells; but it does not know what came after it, and a packet that was delivered or
- * finished since would be delivered or finished again. The proof is about lists of calls in which this holds. So the
- * host saves the store before it hands on the emitted record. */
+ * finished since would be delivered or finished again, and a channel number given out again. The proof is about lists
+ * of calls in which this holds. So the host saves the store before it hands on the emitted record. */
 
 #ifndef ROUTE_H
 #define ROUTE_H
@@ -26,9 +26,11 @@
 extern "C" {
 #endif
 
-/* The channels and packet records that a store can have, and the bytes that an output must have at least. */
+/* The channels and packet records that a store can have, the bytes that a version can have, and those that an output
+ * must have at least. */
 #define ROUTE_MAX_CHANNELS 16
 #define ROUTE_MAX_RECORDS 512
+#define ROUTE_MAX_VERSION 24
 #define ROUTE_OUTPUT_LENGTH 106
 
 /* The length of a store with `records` packet records, 1 to ROUTE_MAX_RECORDS, as a constant expression. For any other
@@ -38,17 +40,23 @@ extern "C" {
 /* The length of one opening in a list of openings. */
 #define ROUTE_OPENING_LENGTH 20
 
-/* The lengths of the five datagrams, and of the emitted records. */
+/* The lengths of the nine datagrams, and of the emitted records. An open init and an open try have the version behind
+ * these bytes. */
 #define ROUTE_SEND_LENGTH 90
 #define ROUTE_RECEIVE_LENGTH 186
 #define ROUTE_WRITE_LENGTH 82
 #define ROUTE_ACKNOWLEDGE_LENGTH 218
 #define ROUTE_TIME_OUT_LENGTH 186
+#define ROUTE_OPEN_INIT_LENGTH 41
+#define ROUTE_OPEN_TRY_LENGTH 127
+#define ROUTE_OPEN_ACKNOWLEDGE_LENGTH 128
+#define ROUTE_OPEN_CONFIRM_LENGTH 124
 #define ROUTE_SENT_LENGTH 74
 #define ROUTE_DELIVERED_LENGTH 74
 #define ROUTE_WRITTEN_LENGTH 52
 #define ROUTE_ACKNOWLEDGED_LENGTH 106
 #define ROUTE_TIMED_OUT_LENGTH 74
+#define ROUTE_NEW_END_LENGTH 12
 
 /* Kinds of datagrams. */
 enum route_datagram {
@@ -56,16 +64,29 @@ enum route_datagram {
     ROUTE_RECEIVE = 2,
     ROUTE_WRITE = 3,       /* write an acknowledgement */
     ROUTE_ACKNOWLEDGE = 4,
-    ROUTE_TIME_OUT = 5
+    ROUTE_TIME_OUT = 5,
+    ROUTE_OPEN_INIT = 6,
+    ROUTE_OPEN_TRY = 7,
+    ROUTE_OPEN_ACKNOWLEDGE = 8,
+    ROUTE_OPEN_CONFIRM = 9
 };
 
-/* Kinds of emitted records. */
+/* Kinds of emitted records. ROUTE_OPEN_ACKNOWLEDGE and ROUTE_OPEN_CONFIRM emit none. */
 enum route_emitted {
     ROUTE_SENT = 0x0101,
     ROUTE_DELIVERED = 0x0102,
     ROUTE_WRITTEN = 0x0103,
     ROUTE_ACKNOWLEDGED = 0x0104,
-    ROUTE_TIMED_OUT = 0x0105
+    ROUTE_TIMED_OUT = 0x0105,
+    ROUTE_NEW_END = 0x0107 /* port and channel of the end that an open init or an open try made */
+};
+
+/* States of a channel end, at offset 2 of its record. The records stand from offset 64 of a store on, 64 bytes each. */
+enum route_state {
+    ROUTE_STATE_INIT = 1,    /* an open init made it; it waits for its open acknowledge */
+    ROUTE_STATE_TRYOPEN = 2, /* an open try made it; it waits for its open confirm */
+    ROUTE_STATE_OPEN = 3,
+    ROUTE_STATE_CLOSED = 4
 };
 
 /* Answers. Where several refusals apply, the lowest number is given; none is given otherwise. Behind each stand the
@@ -76,16 +97,16 @@ enum route_answer {
     ROUTE_OUTPUT_SHORT = 2,          /* the output is shorter than ROUTE_OUTPUT_LENGTH */
     ROUTE_MALFORMED = 3,             /* the datagram is malformed */
     ROUTE_GOES_BACK = 4,             /* height or time is below the last, or the same height has another time */
-    ROUTE_NO_CHANNEL = 5,            /* the channel is not in the store */
+    ROUTE_NO_CHANNEL = 5,            /* all but 6, 7: the channel is not in the store */
     ROUTE_NOT_OPEN = 6,              /* 1, 2, 3, 4: the channel is not OPEN */
-    ROUTE_NOT_OWNER = 7,             /* the caller's port is not the channel's port */
-    ROUTE_NO_CONNECTION = 8,         /* 2, 4: the connection is not open */
+    ROUTE_NOT_OWNER = 7,             /* all but 6, 7: the caller's port is not the channel's port */
+    ROUTE_NO_CONNECTION = 8,         /* 2, 4, 7, 8, 9: the connection is not open */
     ROUTE_WRONG_END = 9,             /* 2, 4, 5: the packet's ports and other channel do not fit this end */
     ROUTE_NO_TIMEOUT = 10,           /* 1: both timeouts are zero */
     ROUTE_TIMEOUT_PASSED = 11,       /* 1, 2: the timeout has passed */
     ROUTE_TIMEOUT_NOT_PASSED = 12,   /* 5: the timeout has not passed */
     ROUTE_NO_COMMITMENT = 13,        /* 4, 5: no commitment with this sequence, timeouts and digest */
-    ROUTE_OTHER_VERDICT = 14,        /* 2, 4, 5: the verdict is about something else */
+    ROUTE_OTHER_VERDICT = 14,        /* 2, 4, 5, 7, 8, 9: the verdict is about something else */
     ROUTE_OUT_OF_ORDER = 15,         /* on an ordered channel, 2, 4: another packet's turn; 5: it was received */
     ROUTE_ALREADY_THERE = 16,        /* 2 on an unordered channel: the receipt; 3: the acknowledgement */
     ROUTE_NOT_RECEIVED = 17,         /* 3: the packet was not received */
@@ -95,19 +116,24 @@ enum route_answer {
     ROUTE_LENGTH_UNFIT = 21,         /* maker: no store has the length of the slice */
     ROUTE_OPENINGS_MALFORMED = 22,   /* maker: the list of openings is malformed */
     ROUTE_TOO_MANY_OPENINGS = 23,    /* maker: more than ROUTE_MAX_CHANNELS openings */
-    ROUTE_CHANNEL_TWICE = 24         /* maker: a channel number stands in two openings */
+    ROUTE_CHANNEL_TWICE = 24,        /* maker: a channel number stands in two openings */
+    ROUTE_NO_FREE_CHANNEL = 25,      /* 6, 7: all channel records are in use, or all channel numbers given out */
+    ROUTE_WRONG_STATE = 26,          /* 8: the end is not INIT; 9: it is not TRYOPEN */
+    ROUTE_WRONG_VERSION = 27         /* 6, 7: the version is longer than ROUTE_MAX_VERSION or has a zero byte;
+                                        7, 8, 9: it is not the one in the verdict */
 };
 
-/* Answers one datagram and carries it out. Answers 0 to 20.
+/* Answers one datagram and carries it out. Answers 0 to 20 and 25 to 27.
  *
  * store, store_len         the ledger's store, as the maker or the last accepted call left it
  * output, output_len       takes the emitted record; at least ROUTE_OUTPUT_LENGTH bytes, whatever the kind
  * datagram, datagram_len   the datagram; its bytes are not changed
- * size                     takes the length of the emitted record, 0 for a refusal; never NULL
+ * size                     takes the length of the emitted record, 0 where none is emitted; never NULL
  *
  * With ROUTE_ACCEPTED the store is changed, the emitted record stands at the front of the output, *size is its length,
- * and the bytes of the output behind it are as they were. With any other answer no byte of store or output has changed.
- * *size is written in every case, and what it was before has no effect. */
+ * and the bytes of the output behind it are as they were. An open acknowledge and an open confirm emit nothing: *size
+ * is 0, and no byte of the output has changed. With any other answer no byte of store or output has changed. *size is
+ * written in every case, and what it was before has no effect. */
 uint8_t route_handle(uint8_t *store, size_t store_len, uint8_t *output, size_t output_len, const uint8_t *datagram,
                      size_t datagram_len, uint32_t *size);
 

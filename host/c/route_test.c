@@ -1,5 +1,7 @@
-/* The library through its header, from C: a fresh store, sends, a time-out, refusals, lengths that are wrong. */
+/* The library through its header, from C: a fresh store, sends, a time-out, the steps that open a channel, refusals,
+ * lengths that are wrong. */
 
+#include "datagrams.h"
 #include "route.h"
 
 #include <stdio.h>
@@ -19,14 +21,6 @@ static void expect(int holds, int line, const char *what)
 
 #define EXPECT(what) expect((what), __LINE__, #what)
 
-/* A number of `width` bytes, the lowest first. */
-static void put(uint8_t *at, uint64_t value, int width)
-{
-    for (int i = 0; i < width; i++) {
-        at[i] = (uint8_t)(value >> 8 * i);
-    }
-}
-
 static int all_are(const uint8_t *bytes, size_t count, uint8_t value)
 {
     for (size_t i = 0; i < count; i++) {
@@ -35,47 +29,6 @@ static int all_are(const uint8_t *bytes, size_t count, uint8_t value)
         }
     }
     return 1;
-}
-
-/* Port 5 owns channel 7, ordered, to port 6 and channel 9. */
-static const uint8_t OPENING[ROUTE_OPENING_LENGTH] = {20, 0, 0, 0, 0x10, 0, 5, 0, 7, 0, 0, 0, 6, 0, 9, 0, 0, 0, 1, 0};
-
-static void start(uint8_t *datagram, uint32_t length, uint16_t kind)
-{
-    memset(datagram, 0, length);
-    put(datagram, length, 4);
-    put(datagram + 4, kind, 2);
-    put(datagram + 6, 100, 8);   /* height */
-    put(datagram + 14, 1000, 8); /* time */
-    put(datagram + 22, 50, 8);   /* client height */
-    put(datagram + 30, 5, 2);    /* caller's port */
-    datagram[32] = 1;            /* connection open */
-}
-
-static void make_send(uint8_t *datagram, uint64_t timeout_height)
-{
-    start(datagram, ROUTE_SEND_LENGTH, ROUTE_SEND);
-    put(datagram + 38, 7, 4);
-    put(datagram + 42, timeout_height, 8);
-    datagram[58] = 1; /* digest */
-}
-
-/* A time-out of a packet that was sent with timeout height 60, where the other end waits for the first one. */
-static void make_time_out(uint8_t *datagram, uint64_t sequence, uint64_t proof_height)
-{
-    start(datagram, ROUTE_TIME_OUT_LENGTH, ROUTE_TIME_OUT);
-    put(datagram + 38, sequence, 8);
-    put(datagram + 46, 60, 8);
-    put(datagram + 62, 5, 2);
-    put(datagram + 64, 7, 4);
-    put(datagram + 68, 6, 2);
-    put(datagram + 70, 9, 4);
-    datagram[74] = 1;
-    put(datagram + 106, 4, 2); /* claim 4: next receive equals the verdict's sequence */
-    put(datagram + 108, proof_height, 8);
-    put(datagram + 124, 6, 2);
-    put(datagram + 126, 9, 4);
-    put(datagram + 130, 1, 8);
 }
 
 static uint8_t store[STORE];
@@ -105,10 +58,11 @@ static void fresh(void)
 static void test_make(void)
 {
     fresh();
-    static const uint8_t header[28] = {0xc0, 4, 0, 0, 1, 4, 16, 0, 0, 0, 0, 0, 0, 0, 0, 0, 0, 0, 0, 0, 0, 0, 0, 0, 2};
+    static const uint8_t header[29] = {0xc0, 4, 0, 0, 1, 4, 16, 0, 0, 0, 0, 0, 0, 0, 0,
+                                       0,    0, 0, 0, 0, 0, 0,  0, 0, 2, 0, 0, 0, 8};
     static const uint8_t end[33] = {1, 0, 3, 1, 7, 0, 0, 0, 5, 0, 6, 0, 9, 0, 0, 0, 1,
                                     0, 0, 0, 0, 0, 0, 0, 1, 0, 0, 0, 0, 0, 0, 0, 1};
-    EXPECT(memcmp(store, header, sizeof header) == 0 && all_are(store + 28, 36, 0));
+    EXPECT(memcmp(store, header, sizeof header) == 0 && all_are(store + 29, 35, 0));
     EXPECT(memcmp(store + 64, end, sizeof end) == 0 && all_are(store + 97, STORE - 97, 0));
     memset(store, FILL, STORE);
     EXPECT(route_make_store(store, STORE - 1, OPENING, sizeof OPENING) == ROUTE_LENGTH_UNFIT);
@@ -123,6 +77,9 @@ static void test_make(void)
     }
     EXPECT(route_make_store(store, STORE, list, sizeof list) == ROUTE_TOO_MANY_OPENINGS);
     EXPECT(route_make_store(store, STORE, list, sizeof list - ROUTE_OPENING_LENGTH) == ROUTE_ACCEPTED);
+    uint8_t init[ROUTE_OPEN_INIT_LENGTH + 2];
+    make_open_init(init);
+    EXPECT(call(init, sizeof init) == ROUTE_NO_FREE_CHANNEL);
     list[8] = 1;
     EXPECT(route_make_store(store, STORE, list, 2 * ROUTE_OPENING_LENGTH) == ROUTE_CHANNEL_TWICE);
 }
@@ -189,6 +146,53 @@ static void test_time_out(void)
     EXPECT(store[66] == 4 && all_are(store + 1088, 128, 0));
 }
 
+/* An end that an open init makes, and the open acknowledge that opens it. */
+static void test_open_init(void)
+{
+    static const uint8_t made[ROUTE_NEW_END_LENGTH] = {12, 0, 0, 0, 7, 1, 5, 0, 1};
+    uint8_t init[ROUTE_OPEN_INIT_LENGTH + 2], acknowledge[ROUTE_OPEN_ACKNOWLEDGE_LENGTH], send[ROUTE_SEND_LENGTH];
+    EXPECT(route_make_store(store, STORE, NULL, 0) == ROUTE_ACCEPTED && store[28] == 1);
+    make_open_init(init);
+    init[42] = 0;
+    EXPECT(call(init, sizeof init) == ROUTE_WRONG_VERSION);
+    make_open_init(init);
+    EXPECT(call(init, sizeof init) == ROUTE_ACCEPTED && size == ROUTE_NEW_END_LENGTH);
+    EXPECT(memcmp(output, made, sizeof made) == 0 && all_are(output + sizeof made, OUTPUT - sizeof made, FILL));
+    EXPECT(store[28] == 2 && store[66] == ROUTE_STATE_INIT && store[68] == 1 && memcmp(store + 104, "v1", 3) == 0);
+    make_send(send, 60);
+    put(send + 38, 1, 4);
+    EXPECT(call(send, sizeof send) == ROUTE_NOT_OPEN);
+    start(acknowledge, sizeof acknowledge, ROUTE_OPEN_ACKNOWLEDGE);
+    put(acknowledge + 38, 1, 4);
+    put(acknowledge + 42, 9, 4);
+    put_end_verdict(acknowledge + 46, ROUTE_STATE_OPEN, 1);
+    EXPECT(call(acknowledge, sizeof acknowledge) == ROUTE_OTHER_VERDICT);
+    put_end_verdict(acknowledge + 46, ROUTE_STATE_TRYOPEN, 1);
+    EXPECT(call(acknowledge, sizeof acknowledge) == ROUTE_ACCEPTED && size == 0 && all_are(output, OUTPUT, FILL));
+    EXPECT(store[28] == 2 && store[66] == ROUTE_STATE_OPEN && store[76] == 9);
+    EXPECT(call(acknowledge, sizeof acknowledge) == ROUTE_WRONG_STATE);
+    EXPECT(call(send, sizeof send) == ROUTE_ACCEPTED);
+}
+
+/* An end that an open try makes, and the open confirm that opens it. */
+static void test_open_try(void)
+{
+    uint8_t open_try[ROUTE_OPEN_TRY_LENGTH + 2], confirm[ROUTE_OPEN_CONFIRM_LENGTH];
+    EXPECT(route_make_store(store, STORE, NULL, 0) == ROUTE_ACCEPTED);
+    make_open_try(open_try);
+    open_try[128] = '2';
+    EXPECT(call(open_try, sizeof open_try) == ROUTE_WRONG_VERSION);
+    make_open_try(open_try);
+    EXPECT(call(open_try, sizeof open_try) == ROUTE_ACCEPTED && size == ROUTE_NEW_END_LENGTH && output[8] == 1);
+    EXPECT(store[28] == 2 && store[66] == ROUTE_STATE_TRYOPEN && store[76] == 9);
+    start(confirm, sizeof confirm, ROUTE_OPEN_CONFIRM);
+    put(confirm + 38, 1, 4);
+    put_end_verdict(confirm + 42, ROUTE_STATE_OPEN, 1);
+    EXPECT(call(confirm, sizeof confirm) == ROUTE_ACCEPTED && size == 0 && all_are(output, OUTPUT, FILL));
+    EXPECT(store[66] == ROUTE_STATE_OPEN);
+    EXPECT(call(confirm, sizeof confirm) == ROUTE_WRONG_STATE);
+}
+
 static void test_lengths(void)
 {
     EXPECT(route_store_length(0) == 0 && route_store_length(ROUTE_MAX_RECORDS + 1) == 0);
@@ -204,6 +208,8 @@ int main(void)
     test_send();
     test_refusals();
     test_time_out();
+    test_open_init();
+    test_open_try();
     test_lengths();
     printf(failed ? "%d of the C test's expectations failed\n" : "the C test passed\n", failed);
     return failed != 0;

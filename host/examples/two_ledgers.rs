@@ -1,11 +1,12 @@
-//! Two ledgers in one program. Warehouse receipts are moved between them: one arrives and is acknowledged, one does not
-//! arrive in time and is given back, one closes an ordered channel, and the one behind it is given back too.
+//! Two ledgers in one program. They open two channels, and warehouse receipts are moved: one arrives and is
+//! acknowledged, one does not arrive in time and is given back, one closes an ordered channel, and the one behind it is
+//! given back too.
 //!
 //! Run it with `cargo run --example two_ledgers`.
 
 use route::{
-    Block, Context, Datagram, Digest, Emitted, End, Opening, Order, OtherHeight, OwnHeight, Packet, Refusal, Store,
-    Timeout, Verdict,
+    Block, Context, Datagram, Digest, Emitted, End, EndVerdict, Order, OtherHeight, OwnHeight, Packet, Refusal, Store,
+    Timeout, Verdict, Version,
 };
 
 /// One ledger: its store, the port that uses it here, and the block that it works on.
@@ -18,8 +19,9 @@ struct Ledger {
 }
 
 impl Ledger {
-    fn new(name: &'static str, port: u16, height: u64, openings: &[Opening]) -> Result<Ledger, Refusal> {
-        Ok(Ledger { name, store: Store::make(8, openings)?, port, height: OwnHeight(height), time: 1_000 + height })
+    /// With eight packet records and no channels.
+    fn new(name: &'static str, port: u16, height: u64) -> Result<Ledger, Refusal> {
+        Ok(Ledger { name, store: Store::make(8, &[])?, port, height: OwnHeight(height), time: 1_000 + height })
     }
 
     /// What a call says of this moment. The light client knows the other ledger up to this height.
@@ -36,12 +38,13 @@ impl Ledger {
     }
 
     /// Hands a datagram to the store and says what came of it.
-    fn call(&mut self, datagram: Datagram) -> Result<Emitted, Refusal> {
+    fn call(&mut self, datagram: Datagram) -> Result<Option<Emitted>, Refusal> {
         let answer = self.store.handle(&datagram);
         let name = self.name;
         let height = self.height;
         match &answer {
-            Ok(emitted) => println!("  {name}, height {height}: {emitted}"),
+            Ok(Some(emitted)) => println!("  {name}, height {height}: {emitted}"),
+            Ok(None) => println!("  {name}, height {height}: accepted, nothing emitted"),
             Err(refusal) => println!("  {name}, height {height}: refused, {refusal}"),
         }
         answer
@@ -56,6 +59,45 @@ fn look_at(other: &mut Ledger, verdict_at: impl Fn(Block) -> Verdict) -> Verdict
     verdict
 }
 
+/// The same for a channel end, which is shown as it is.
+fn look_at_end(other: &mut Ledger, end: End) -> EndVerdict {
+    let block = other.close_block();
+    EndVerdict::of(&other.store.channel(end.channel).expect("the end is there"), block)
+}
+
+fn open_init(at: &mut Ledger, other: &Ledger, order: Order) -> Result<End, Refusal> {
+    let context = at.context(other.height.seen_across());
+    let emitted = at.call(Datagram::open_init(&context, other.port, order, Version::new("receipts-1")?))?;
+    Ok(new_end(emitted))
+}
+
+/// Answers an init, with the order and the version that it asks for.
+fn open_try(at: &mut Ledger, other: &mut Ledger, init: End) -> Result<End, Refusal> {
+    let verdict = look_at_end(other, init);
+    let context = at.context(verdict.block.height);
+    let EndVerdict { end, .. } = verdict;
+    Ok(new_end(at.call(Datagram::open_try(&context, init, end.order, &verdict, end.version))?))
+}
+
+fn new_end(emitted: Option<Emitted>) -> End {
+    let Some(Emitted::NewEnd(end)) = emitted else { unreachable!("an init and a try emit their end") };
+    end
+}
+
+fn open_acknowledge(at: &mut Ledger, other: &mut Ledger, init: End, tried: End) -> Result<(), Refusal> {
+    let verdict = look_at_end(other, tried);
+    let context = at.context(verdict.block.height);
+    at.call(Datagram::open_acknowledge(&context, init.channel, tried.channel, &verdict))?;
+    Ok(())
+}
+
+fn open_confirm(at: &mut Ledger, other: &mut Ledger, tried: End, init: End) -> Result<(), Refusal> {
+    let verdict = look_at_end(other, init);
+    let context = at.context(verdict.block.height);
+    at.call(Datagram::open_confirm(&context, tried.channel, &verdict))?;
+    Ok(())
+}
+
 /// The digest of a receipt's text stands for a hash, which a host would compute.
 fn digest_of(text: &str) -> Digest {
     let mut digest = [0; 32];
@@ -66,16 +108,16 @@ fn digest_of(text: &str) -> Digest {
 fn send(from: &mut Ledger, to: &Ledger, channel: u32, timeout: Timeout, text: &str) -> Result<Packet, Refusal> {
     let context = from.context(to.height.seen_across());
     let emitted = from.call(Datagram::send(&context, channel, timeout, digest_of(text)))?;
-    Ok(emitted.packet().expect("a send emits its packet"))
+    Ok(emitted.and_then(|emitted| emitted.packet()).expect("a send emits its packet"))
 }
 
-fn receive(at: &mut Ledger, from: &mut Ledger, packet: &Packet) -> Result<Emitted, Refusal> {
+fn receive(at: &mut Ledger, from: &mut Ledger, packet: &Packet) -> Result<Option<Emitted>, Refusal> {
     let verdict = look_at(from, |block| Verdict::commitment_present(packet, block));
     let context = at.context(verdict.block.height);
     at.call(Datagram::receive(&context, packet, &verdict))
 }
 
-fn acknowledge(at: &mut Ledger, other: &mut Ledger, packet: &Packet, text: &str) -> Result<Emitted, Refusal> {
+fn acknowledge(at: &mut Ledger, other: &mut Ledger, packet: &Packet, text: &str) -> Result<Option<Emitted>, Refusal> {
     let acknowledgement = digest_of(text);
     let verdict = look_at(other, |block| Verdict::acknowledgement_present(packet, acknowledgement, block));
     let context = at.context(verdict.block.height);
@@ -83,7 +125,7 @@ fn acknowledge(at: &mut Ledger, other: &mut Ledger, packet: &Packet, text: &str)
 }
 
 /// What the other ledger has to show depends on the order of the channel.
-fn time_out(at: &mut Ledger, other: &mut Ledger, packet: &Packet) -> Result<Emitted, Refusal> {
+fn time_out(at: &mut Ledger, other: &mut Ledger, packet: &Packet) -> Result<Option<Emitted>, Refusal> {
     let end = other.store.channel(packet.destination.channel).expect("the end that the packet is for");
     let verdict = look_at(other, |block| match end.order {
         Order::Ordered => Verdict::next_receive(packet, end.next_receive, block),
@@ -98,22 +140,46 @@ fn blocks_ahead(other: &Ledger, blocks: u64) -> Timeout {
     Timeout::at_height(OtherHeight(other.height.seen_across().0 + blocks))
 }
 
-fn delivered(north: &mut Ledger, south: &mut Ledger) -> Result<(), Refusal> {
+/// Opens an ordered channel in four steps, two on each ledger, and gives its number on north.
+fn ordered(north: &mut Ledger, south: &mut Ledger) -> Result<u32, Refusal> {
+    println!("An ordered channel is opened.");
+    let init = open_init(north, south, Order::Ordered)?;
+    let tried = open_try(south, north, init)?;
+    open_acknowledge(north, south, init, tried)?;
+    open_confirm(south, north, tried, init)?;
+    Ok(init.channel)
+}
+
+/// Opens an unordered one, where two tries answer one init.
+fn unordered(north: &mut Ledger, south: &mut Ledger) -> Result<u32, Refusal> {
+    println!("A channel is opened. South tries twice, and north chooses the second end.");
+    let init = open_init(north, south, Order::Unordered)?;
+    let first = open_try(south, north, init)?;
+    let second = open_try(south, north, init)?;
+    open_acknowledge(north, south, init, second)?;
+    println!("  The end that was not chosen does not open.");
+    let not_chosen = open_confirm(south, north, first, init);
+    assert_eq!(not_chosen, Err(Refusal::OtherVerdict));
+    open_confirm(south, north, second, init)?;
+    Ok(init.channel)
+}
+
+fn delivered(north: &mut Ledger, south: &mut Ledger, channel: u32) -> Result<(), Refusal> {
     println!("A receipt is moved and acknowledged.");
-    let packet = send(north, south, 8, blocks_ahead(south, 10), "receipt 1: 40 t of wheat")?;
+    let packet = send(north, south, channel, blocks_ahead(south, 10), "receipt 1: 40 t of wheat")?;
     receive(south, north, &packet)?;
     println!("  The same packet comes a second time.");
     let again = receive(south, north, &packet);
     assert_eq!(again, Err(Refusal::AlreadyThere));
     let context = south.context(north.height.seen_across());
-    south.call(Datagram::write(&context, 10, packet.sequence, digest_of("taken in")))?;
+    south.call(Datagram::write(&context, packet.destination.channel, packet.sequence, digest_of("taken in")))?;
     acknowledge(north, south, &packet, "taken in")?;
     Ok(())
 }
 
-fn late(north: &mut Ledger, south: &mut Ledger) -> Result<(), Refusal> {
+fn late(north: &mut Ledger, south: &mut Ledger, channel: u32) -> Result<(), Refusal> {
     println!("A receipt does not arrive in time and is given back.");
-    let packet = send(north, south, 8, blocks_ahead(south, 3), "receipt 2: 12 t of barley")?;
+    let packet = send(north, south, channel, blocks_ahead(south, 3), "receipt 2: 12 t of barley")?;
     let early = time_out(north, south, &packet);
     assert_eq!(early, Err(Refusal::TimeoutNotPassed));
     println!("  South goes on without it.");
@@ -129,36 +195,34 @@ fn late(north: &mut Ledger, south: &mut Ledger) -> Result<(), Refusal> {
     Ok(())
 }
 
-fn closed(north: &mut Ledger, south: &mut Ledger) -> Result<(), Refusal> {
+fn closed(north: &mut Ledger, south: &mut Ledger, channel: u32) -> Result<(), Refusal> {
     println!("On an ordered channel a time-out closes the channel.");
-    let first = send(north, south, 7, blocks_ahead(south, 1), "receipt 3: 5 t of oats")?;
-    let behind = send(north, south, 7, blocks_ahead(south, 1), "receipt 4: 7 t of rye")?;
+    let first = send(north, south, channel, blocks_ahead(south, 1), "receipt 3: 5 t of oats")?;
+    let behind = send(north, south, channel, blocks_ahead(south, 1), "receipt 4: 7 t of rye")?;
     south.close_block();
     time_out(north, south, &first)?;
-    let refused = send(north, south, 7, blocks_ahead(south, 9), "receipt 5: 2 t of peas");
+    let refused = send(north, south, channel, blocks_ahead(south, 9), "receipt 5: 2 t of peas");
     assert_eq!(refused, Err(Refusal::NotOpen));
     println!("  The packet behind it is given back too.");
     time_out(north, south, &behind)?;
     Ok(())
 }
 
-/// The two openings of a channel: each end names the other, with the same order.
-fn pair(north: End, south: End, order: Order) -> [Opening; 2] {
-    [Opening { own: north, counterparty: south, order }, Opening { own: south, counterparty: north, order }]
-}
-
 fn main() -> Result<(), Refusal> {
-    let ordered = pair(End { port: 5, channel: 7 }, End { port: 6, channel: 9 }, Order::Ordered);
-    let unordered = pair(End { port: 5, channel: 8 }, End { port: 6, channel: 10 }, Order::Unordered);
-    let mut north = Ledger::new("north", 5, 10, &[ordered[0], unordered[0]])?;
-    let mut south = Ledger::new("south", 6, 70, &[ordered[1], unordered[1]])?;
-    delivered(&mut north, &mut south)?;
-    late(&mut north, &mut south)?;
-    closed(&mut north, &mut south)?;
+    let mut north = Ledger::new("north", 5, 10)?;
+    let mut south = Ledger::new("south", 6, 70)?;
+    let wheat = unordered(&mut north, &mut south)?;
+    let oats = ordered(&mut north, &mut south)?;
+    delivered(&mut north, &mut south, wheat)?;
+    late(&mut north, &mut south, wheat)?;
+    closed(&mut north, &mut south, oats)?;
     println!("What is left in the stores:");
-    for ledger in [&north, &south] {
-        println!("  {}: {} of {} records free", ledger.name, ledger.store.free_records(), ledger.store.capacity());
-        for record in ledger.store.records() {
+    for Ledger { name, store, .. } in [&north, &south] {
+        println!("  {name}: next channel {}, {} of 8 records free", store.next_channel(), store.free_records());
+        for end in store.channels() {
+            println!("    {:?} end {} to {}, {:?}", end.state, end.own, end.counterparty, end.order);
+        }
+        for record in store.records() {
             println!("    {:?} of packet {} on channel {}", record.kind, record.sequence, record.channel);
         }
     }

@@ -1,6 +1,4 @@
-//! Numbers, lowest byte first, and digests in byte slices.
-
-use crate::Digest;
+//! Numbers, lowest byte first, and arrays in byte slices.
 
 /// Bytes that are written field by field.
 #[derive(Default)]
@@ -46,7 +44,7 @@ impl<'a> Reader<'a> {
         Reader(bytes)
     }
 
-    fn take<const N: usize>(&mut self) -> [u8; N] {
+    pub(crate) fn take<const N: usize>(&mut self) -> [u8; N] {
         let (front, behind) = self.0.split_first_chunk().expect("the caller has tested the length");
         self.0 = behind;
         *front
@@ -67,9 +65,5 @@ impl<'a> Reader<'a> {
 
     pub(crate) fn u64(&mut self) -> u64 {
         u64::from_le_bytes(self.take())
-    }
-
-    pub(crate) fn digest(&mut self) -> Digest {
-        self.take()
     }
 }

@@ -1,7 +1,7 @@
-//! The five datagrams.
+//! The nine datagrams.
 
 use crate::bytes::Writer;
-use crate::{Context, Digest, Packet, Timeout, Verdict};
+use crate::{Context, Digest, End, EndVerdict, Order, Packet, Timeout, Verdict};
 
 /// The bytes of a datagram, for [`Store::handle`](crate::Store::handle).
 ///
@@ -52,6 +52,49 @@ impl Datagram {
     /// [`Verdict::receipt_absent`] on an unordered channel, [`Verdict::next_receive`] on an ordered one.
     pub fn time_out(context: &Context, packet: &Packet, verdict: &Verdict) -> Datagram {
         Datagram::new(5, context, 148, |to| verdict.write(packet.write(to)))
+    }
+
+    /// Makes a channel end of the caller's port, [`Init`](crate::State::Init), to open a channel with this port of the
+    /// other ledger. A [`Version`](crate::Version) is good as version; other bytes may be refused.
+    pub fn open_init(context: &Context, counterparty_port: u16, order: Order, version: impl AsRef<[u8]>) -> Datagram {
+        let version = version.as_ref();
+        let body = |to: Writer| to.u16(counterparty_port).u8(order.number()).bytes(version);
+        Datagram::new(6, context, 3 + version.len(), body)
+    }
+
+    /// Makes a channel end of the caller's port, [`TryOpen`](crate::State::TryOpen), that answers the other ledger's
+    /// end. The verdict needed shows that end as [`Init`](crate::State::Init), with this order and version.
+    pub fn open_try(
+        context: &Context,
+        counterparty: End,
+        order: Order,
+        verdict: &EndVerdict,
+        version: impl AsRef<[u8]>,
+    ) -> Datagram {
+        let version = version.as_ref();
+        let body = |to: Writer| {
+            let front = to.u16(counterparty.port).u32(counterparty.channel).u8(order.number());
+            verdict.write(front).bytes(version)
+        };
+        Datagram::new(7, context, 7 + EndVerdict::LENGTH + version.len(), body)
+    }
+
+    /// Opens an end that an open init made. The verdict needed shows the counterparty's end of this number as
+    /// [`TryOpen`](crate::State::TryOpen), and that it names this one.
+    pub fn open_acknowledge(
+        context: &Context,
+        channel: u32,
+        counterparty_channel: u32,
+        verdict: &EndVerdict,
+    ) -> Datagram {
+        let body = |to: Writer| verdict.write(to.u32(channel).u32(counterparty_channel));
+        Datagram::new(8, context, 8 + EndVerdict::LENGTH, body)
+    }
+
+    /// Opens an end that an open try made. The verdict needed shows the counterparty's end as
+    /// [`Open`](crate::State::Open), and that it names this one.
+    pub fn open_confirm(context: &Context, channel: u32, verdict: &EndVerdict) -> Datagram {
+        Datagram::new(9, context, 4 + EndVerdict::LENGTH, |to| verdict.write(to.u32(channel)))
     }
 
     /// Its bytes.

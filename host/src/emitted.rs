@@ -5,7 +5,7 @@ use std::fmt;
 use crate::bytes::Reader;
 use crate::{Digest, End, Packet};
 
-/// What an accepted datagram emits.
+/// What an accepted datagram emits. An open acknowledge and an open confirm emit nothing.
 #[derive(Clone, Copy, Debug, PartialEq, Eq, Hash)]
 #[non_exhaustive]
 pub enum Emitted {
@@ -31,6 +31,8 @@ pub enum Emitted {
     },
     /// A packet is finished: it was not received in time. What it carried is to be given back.
     TimedOut(Packet),
+    /// A channel end was made, with a new number, by an open init or an open try.
+    NewEnd(End),
 }
 
 impl Emitted {
@@ -38,6 +40,7 @@ impl Emitted {
     const OF_PACKET: usize = Emitted::FRAME + Packet::LENGTH;
     const OF_WRITTEN: usize = 52;
     const OF_ACKNOWLEDGED: usize = 106;
+    const OF_NEW_END: usize = 12;
 
     /// The record in these bytes, if they are exactly one.
     ///
@@ -60,22 +63,23 @@ impl Emitted {
             (0x0103, Emitted::OF_WRITTEN) => Emitted::Written {
                 end: End { port: from.u16(), channel: from.u32() },
                 sequence: from.u64(),
-                acknowledgement: from.digest(),
+                acknowledgement: from.take(),
             },
             (0x0104, Emitted::OF_ACKNOWLEDGED) => {
-                Emitted::Acknowledged { packet: Packet::read(&mut from), acknowledgement: from.digest() }
+                Emitted::Acknowledged { packet: Packet::read(&mut from), acknowledgement: from.take() }
             }
             (0x0105, Emitted::OF_PACKET) => Emitted::TimedOut(Packet::read(&mut from)),
+            (0x0107, Emitted::OF_NEW_END) => Emitted::NewEnd(End { port: from.u16(), channel: from.u32() }),
             _ => return None,
         })
     }
 
-    /// The packet that it is about, if it holds one. A written acknowledgement does not.
+    /// The packet that it is about, if it holds one. A written acknowledgement and a new end do not.
     pub fn packet(&self) -> Option<Packet> {
         match self {
             Emitted::Sent(packet) | Emitted::Delivered(packet) | Emitted::TimedOut(packet) => Some(*packet),
             Emitted::Acknowledged { packet, .. } => Some(*packet),
-            Emitted::Written { .. } => None,
+            Emitted::Written { .. } | Emitted::NewEnd(_) => None,
         }
     }
 }
@@ -91,6 +95,7 @@ impl fmt::Display for Emitted {
             }
             Emitted::Acknowledged { packet, .. } => write!(out, "acknowledged {packet}"),
             Emitted::TimedOut(packet) => write!(out, "timed out {packet}"),
+            Emitted::NewEnd(end) => write!(out, "new channel end {end}"),
         }
     }
 }
@@ -124,6 +129,8 @@ mod tests {
         let written = Writer::framed(52, 0x0103).u16(6).u32(9).u64(3).bytes(&[8; 32]).done();
         let expected = Emitted::Written { end: PACKET.destination, sequence: 3, acknowledgement: [8; 32] };
         assert_eq!(Emitted::from_bytes(&written), Some(expected));
+        let new_end = [12, 0, 0, 0, 7, 1, 6, 0, 9, 0, 0, 0];
+        assert_eq!(Emitted::from_bytes(&new_end), Some(Emitted::NewEnd(PACKET.destination)));
     }
 
     #[test]
@@ -136,12 +143,15 @@ mod tests {
         assert_eq!(Emitted::from_bytes(&framed(74, 0x0104)), None);
         assert_eq!(Emitted::from_bytes(&framed(74, 0x0106)), None);
         assert_eq!(Emitted::from_bytes(&framed(106, 0x0101)), None);
+        assert_eq!(Emitted::from_bytes(&framed(74, 0x0107)), None);
     }
 
     #[test]
     fn each_tells_its_packet() {
         assert_eq!(Emitted::TimedOut(PACKET).packet(), Some(PACKET));
         assert_eq!(Emitted::Written { end: PACKET.source, sequence: 3, acknowledgement: [8; 32] }.packet(), None);
+        assert_eq!(Emitted::NewEnd(PACKET.source).packet(), None);
         assert_eq!(Emitted::Sent(PACKET).to_string(), "sent packet 3 from 5/7 to 6/9");
+        assert_eq!(Emitted::NewEnd(PACKET.source).to_string(), "new channel end 5/7");
     }
 }

@@ -4,7 +4,7 @@
 
 extern "C" {
     /// Answers one datagram and carries it out: 0, or the number of the refusal. The length of the emitted record is
-    /// written to `size`, 0 for a refusal.
+    /// written to `size`, 0 where none is emitted.
     ///
     /// # Safety
     ///

@@ -4,18 +4,22 @@
 //! The work is done by a static library whose code is proved. This package makes it safe and comfortable to call; it
 //! needs nothing but the standard library, and the static library, which `rt staticlib route` writes.
 //!
-//! A host keeps one store for its ledger. For each datagram it calls [`Store::handle`], and gets an [`Emitted`] record
-//! or a [`Refusal`], which has changed nothing:
+//! A host keeps one store for its ledger. For each datagram it calls [`Store::handle`], and gets what is [`Emitted`] or
+//! a [`Refusal`], which has changed nothing:
 //!
+//! - [`Datagram::open_init`], [`open_try`](Datagram::open_try), [`open_acknowledge`](Datagram::open_acknowledge) and
+//!   [`open_confirm`](Datagram::open_confirm) open a channel: the first and the third on one ledger, the others on the
+//!   other one. The first two give out the number of a new channel end.
 //! - [`Datagram::send`] takes a packet's digest and timeout, and gives out the packet.
 //! - [`Datagram::receive`] delivers a packet of the other ledger, and [`Datagram::write`] answers it.
 //! - [`Datagram::acknowledge`] and [`Datagram::time_out`] finish a packet that was sent.
 //!
-//! The last two and the receive carry a [`Verdict`]: what the host's light client found about the other ledger. That
-//! verdicts are true is the host's part. So is it that each call gets the store that the last accepted call on its
-//! ledger left: nobody else changes the bytes, and no older copy is put back. An older copy is fit too, so no refusal
-//! tells; but a packet that was delivered or finished since would be delivered or finished again. The proof is about
-//! lists of calls in which this holds. So a host saves [`Store::as_bytes`] before it hands on the emitted record.
+//! The last two and the receive carry a [`Verdict`], and all steps of opening but the first an [`EndVerdict`]: what the
+//! host's light client found about the other ledger. That verdicts are true is the host's part. So is it that each call
+//! gets the store that the last accepted call on its ledger left: nobody else changes the bytes, and no older copy is
+//! put back. An older copy is fit too, so no refusal tells; but a packet that was delivered or finished since would be
+//! delivered or finished again. The proof is about lists of calls in which this holds. So a host saves
+//! [`Store::as_bytes`] before it hands on the emitted record.
 //!
 //! `examples/two_ledgers.rs` has two ledgers in one program.
 
@@ -32,6 +36,7 @@ mod packet;
 mod refusal;
 mod store;
 mod verdict;
+mod version;
 mod view;
 
 pub use context::Context;
@@ -41,5 +46,6 @@ pub use height::{Block, OtherHeight, OwnHeight, Timeout};
 pub use packet::{Digest, End, Order, Packet};
 pub use refusal::{NotARefusal, Refusal};
 pub use store::{Opening, Store};
-pub use verdict::{Claim, Verdict};
+pub use verdict::{Claim, EndVerdict, Verdict};
+pub use version::Version;
 pub use view::{Channel, Record, RecordKind, State};

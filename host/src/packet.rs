@@ -69,7 +69,7 @@ impl Packet {
             timeout: Timeout::from_numbers(bytes.u64(), bytes.u64()),
             source: End { port: bytes.u16(), channel: bytes.u32() },
             destination: End { port: bytes.u16(), channel: bytes.u32() },
-            digest: bytes.digest(),
+            digest: bytes.take(),
         }
     }
 

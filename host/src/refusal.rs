@@ -25,7 +25,7 @@ pub enum Refusal {
     GoesBack = 4,
     /// The channel is not in the store.
     NoChannel = 5,
-    /// The channel is not open. A time-out does not ask for it.
+    /// The channel is not open: not yet, or not any more. A time-out does not ask for it.
     NotOpen = 6,
     /// The caller's port does not own the channel.
     NotOwner = 7,
@@ -63,6 +63,12 @@ pub enum Refusal {
     TooManyOpenings = 23,
     /// A channel number stands in two openings.
     ChannelTwice = 24,
+    /// All channel records are in use, or all channel numbers are given out. Nothing frees one.
+    NoFreeChannel = 25,
+    /// The end is not in the state before this step of opening a channel.
+    WrongState = 26,
+    /// The version has more than 24 bytes or a zero byte, or it is not the one of the other end.
+    WrongVersion = 27,
 }
 
 impl Refusal {
@@ -92,9 +98,12 @@ impl Refusal {
         Refusal::OpeningsMalformed,
         Refusal::TooManyOpenings,
         Refusal::ChannelTwice,
+        Refusal::NoFreeChannel,
+        Refusal::WrongState,
+        Refusal::WrongVersion,
     ];
 
-    /// Its number, 1 to 24.
+    /// Its number, 1 to 27.
     pub fn number(self) -> u8 {
         self as u8
     }
@@ -125,6 +134,9 @@ impl Refusal {
             Refusal::OpeningsMalformed => "list of openings malformed",
             Refusal::TooManyOpenings => "more than 16 openings",
             Refusal::ChannelTwice => "a channel number twice",
+            Refusal::NoFreeChannel => "no free channel record or number",
+            Refusal::WrongState => "channel end not in the state before this step",
+            Refusal::WrongVersion => "version unfit, or unlike the other end's",
         }
     }
 }
@@ -173,7 +185,7 @@ mod tests {
         for number in 0..=u8::MAX {
             match Refusal::try_from(number) {
                 Ok(refusal) => assert_eq!((refusal.number(), u8::from(refusal)), (number, number)),
-                Err(error) => assert!(error == NotARefusal(number) && !(1..=24).contains(&number)),
+                Err(error) => assert!(error == NotARefusal(number) && !(1..=27).contains(&number)),
             }
         }
     }
@@ -183,6 +195,6 @@ mod tests {
         for (index, refusal) in Refusal::ALL.iter().enumerate() {
             assert!(Refusal::ALL[..index].iter().all(|other| other.meaning() != refusal.meaning()));
         }
-        assert_eq!(NotARefusal(25).to_string(), "25 is not the number of a refusal");
+        assert_eq!(NotARefusal(28).to_string(), "28 is not the number of a refusal");
     }
 }

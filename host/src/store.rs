@@ -1,7 +1,7 @@
 //! One ledger's store and the calls on it.
 
 use crate::bytes::{Reader, Writer};
-use crate::{ffi, Channel, Claim, Emitted, End, Order, OwnHeight, Record, RecordKind, Refusal, Verdict};
+use crate::{ffi, Channel, Claim, Emitted, End, EndVerdict, Order, OwnHeight, Record, RecordKind, Refusal, Verdict};
 
 /// A channel end to be opened when a store is made.
 #[derive(Clone, Copy, Debug, PartialEq, Eq, Hash)]
@@ -39,7 +39,7 @@ impl Opening {
 /// let context =
 ///     Context { height: OwnHeight(100), time: 1_000, client: OtherHeight(50), port: 5, connected: true };
 /// let send = Datagram::send(&context, 7, Timeout::at_height(OtherHeight(60)), [1; 32]);
-/// let Emitted::Sent(packet) = store.handle(&send)? else { unreachable!() };
+/// let Some(Emitted::Sent(packet)) = store.handle(&send)? else { unreachable!() };
 /// assert_eq!((packet.sequence, packet.source), (1, own));
 ///
 /// store.handle(&send)?;
@@ -53,7 +53,7 @@ pub struct Store {
 
 /// Answers of the library are 0 or a refusal; it is proved of it.
 fn refusal(number: u8) -> Refusal {
-    Refusal::try_from(number).expect("the library answers 0 to 24")
+    Refusal::try_from(number).expect("the library answers 0 to 27")
 }
 
 impl Store {
@@ -79,7 +79,8 @@ impl Store {
         Some(ffi::store_length(records)).filter(|length| *length != 0)
     }
 
-    /// A fresh store with so many packet records and these channel ends, in this order.
+    /// A fresh store with so many packet records and these channel ends, in this order. There may be none: channels are
+    /// then opened by datagrams.
     ///
     /// # Errors
     ///
@@ -119,19 +120,21 @@ impl Store {
         self.bytes
     }
 
-    /// Answers a datagram and carries it out: a [`Datagram`](crate::Datagram), or any bytes.
+    /// Answers a datagram and carries it out: a [`Datagram`](crate::Datagram), or any bytes. Gives what is emitted; an
+    /// open acknowledge and an open confirm emit nothing.
     ///
     /// # Errors
     ///
     /// The refusal of lowest number that applies. The store is then as it was.
-    pub fn handle(&mut self, datagram: impl AsRef<[u8]>) -> Result<Emitted, Refusal> {
+    pub fn handle(&mut self, datagram: impl AsRef<[u8]>) -> Result<Option<Emitted>, Refusal> {
         let mut output = [0; Store::OUTPUT_LENGTH];
         let size = self.handle_into(datagram, &mut output)?;
-        Ok(Emitted::from_bytes(&output[..size]).expect("the library emits whole records"))
+        let record = &output[..size];
+        Ok((size != 0).then(|| Emitted::from_bytes(record).expect("the library emits whole records")))
     }
 
-    /// As [`handle`](Store::handle), with the emitted record as bytes at the front of the output. Answers its length;
-    /// the bytes behind it stay as they were.
+    /// As [`handle`](Store::handle), with the emitted record as bytes at the front of the output. Answers its length, 0
+    /// where nothing is emitted; the bytes behind it stay as they were.
     ///
     /// # Errors
     ///
@@ -152,6 +155,11 @@ impl Store {
     /// The time of the last accepted call, 0 before the first.
     pub fn last_time(&self) -> u64 {
         Reader::new(&self.bytes[16..]).u64()
+    }
+
+    /// The number of the next channel end that is made here. If it is above 2^32 − 1, none can be made any more.
+    pub fn next_channel(&self) -> u64 {
+        Reader::new(&self.bytes[28..]).u64()
     }
 
     /// How many packet records it has, free ones included.
@@ -199,7 +207,15 @@ impl Store {
             Claim::AcknowledgementPresent => has(RecordKind::Acknowledgement),
             Claim::ReceiptAbsent => self.record(RecordKind::Receipt, verdict.end.channel, verdict.sequence).is_none(),
             Claim::NextReceive => end.next_receive == verdict.sequence,
+            Claim::EndShown => false,
         }
+    }
+
+    /// Whether the channel end stands here now as the verdict shows it: with this whole record, once its counters are
+    /// set to zero. The verdict's block is not looked at, as in [`holds`](Store::holds).
+    pub fn shows(&self, verdict: &EndVerdict) -> bool {
+        let end = self.channel(verdict.end.own.channel);
+        verdict.claim == Claim::EndShown && end.is_some_and(|end| end.shown() == verdict.end)
     }
 }
 

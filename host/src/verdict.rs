@@ -1,7 +1,7 @@
 //! What the host's light client says about the other ledger.
 
 use crate::bytes::Writer;
-use crate::{Block, Digest, End, Packet, Timeout};
+use crate::{Block, Channel, Digest, End, Packet, Timeout};
 
 const NO_DIGEST: Digest = [0; 32];
 
@@ -17,23 +17,26 @@ pub enum Claim {
     ReceiptAbsent,
     /// The end's next receive is the verdict's sequence.
     NextReceive,
+    /// The end's whole record is that of the [`EndVerdict`], once its counters are set to zero.
+    EndShown,
 }
 
 impl Claim {
-    /// Its number, 1 to 4.
+    /// Its number, 1 to 5.
     pub fn number(self) -> u16 {
         match self {
             Claim::CommitmentPresent => 1,
             Claim::AcknowledgementPresent => 2,
             Claim::ReceiptAbsent => 3,
             Claim::NextReceive => 4,
+            Claim::EndShown => 5,
         }
     }
 }
 
 /// What the light client found, at a block of the other ledger to which no more calls are added.
 ///
-/// The four functions make the verdicts that the datagrams need. Whether a verdict is true is the light client's to
+/// The four functions make the verdicts that packets need. Whether a verdict is true is the light client's to
 /// say; [`Store::holds`](crate::Store::holds) tells it of a store that is at hand.
 #[derive(Clone, Copy, Debug, PartialEq, Eq, Hash)]
 pub struct Verdict {
@@ -103,5 +106,32 @@ impl Verdict {
             .u64(height)
             .u64(time)
             .bytes(&self.digest)
+    }
+}
+
+/// What the light client found of a channel end, at a block of the other ledger to which no more calls are added. The
+/// later three steps of opening a channel need one.
+///
+/// [`Store::shows`](crate::Store::shows) tells whether it is so of a store that is at hand.
+#[derive(Clone, Copy, Debug, PartialEq, Eq, Hash)]
+pub struct EndVerdict {
+    /// What it says. Needed is [`Claim::EndShown`].
+    pub claim: Claim,
+    /// The block that it is about.
+    pub block: Block,
+    /// The end, with its counters zero.
+    pub end: Channel,
+}
+
+impl EndVerdict {
+    pub(crate) const LENGTH: usize = 82;
+
+    /// This end stands there, whatever its counters are.
+    pub fn of(end: &Channel, block: Block) -> EndVerdict {
+        EndVerdict { claim: Claim::EndShown, block, end: end.shown() }
+    }
+
+    pub(crate) fn write(&self, to: Writer) -> Writer {
+        self.end.write(to.u16(self.claim.number()).u64(self.block.height.0).u64(self.block.time))
     }
 }

@@ -1,28 +1,53 @@
 //! What stands in a store: its channel ends and packet records.
 
-use crate::bytes::Reader;
-use crate::{Digest, End, Order, Timeout};
+use crate::bytes::{Reader, Writer};
+use crate::{Digest, End, Order, Timeout, Version};
 
-/// Whether a channel is open.
+/// How far a channel end is opened, and whether it is closed.
 #[derive(Clone, Copy, Debug, PartialEq, Eq, Hash)]
 #[non_exhaustive]
 pub enum State {
-    /// It takes datagrams of every kind.
+    /// An open init made it. It waits for its open acknowledge, and takes no packets.
+    Init,
+    /// An open try made it. It waits for its open confirm, and takes no packets.
+    TryOpen,
+    /// It takes packets.
     Open,
     /// It takes time-outs only. A packet was timed out on it while it was ordered, and nothing opens it again.
     Closed,
 }
 
+impl State {
+    fn number(self) -> u8 {
+        match self {
+            State::Init => 1,
+            State::TryOpen => 2,
+            State::Open => 3,
+            State::Closed => 4,
+        }
+    }
+
+    /// The state of this number, in a fit store.
+    fn from_number(number: u8) -> State {
+        match number {
+            1 => State::Init,
+            2 => State::TryOpen,
+            3 => State::Open,
+            _ => State::Closed,
+        }
+    }
+}
+
 /// One ledger's side of a channel.
 #[derive(Clone, Copy, Debug, PartialEq, Eq, Hash)]
 pub struct Channel {
-    /// Whether it is open.
+    /// How far it is opened, and whether it is closed.
     pub state: State,
     /// Whether its packets are taken in order.
     pub order: Order,
     /// The port that owns it, and its number.
     pub own: End,
-    /// The end on the other ledger that it names.
+    /// The end on the other ledger that it names. Of an [`State::Init`] end only the port is known; the channel is 0.
     pub counterparty: End,
     /// The sequence of the next packet that is sent.
     pub next_send: u64,
@@ -30,6 +55,8 @@ pub struct Channel {
     pub next_receive: u64,
     /// On an ordered channel, the sequence of the next packet that is acknowledged.
     pub next_acknowledge: u64,
+    /// The version, which never changes. Both ends of an open channel have the same one.
+    pub version: Version,
 }
 
 impl Channel {
@@ -39,13 +66,34 @@ impl Channel {
         if from.u16() == 0 {
             return None;
         }
-        let state = if from.u8() == 3 { State::Open } else { State::Closed };
+        let state = State::from_number(from.u8());
         let order = if from.u8() == 1 { Order::Ordered } else { Order::Unordered };
         let channel = from.u32();
         let own = End { port: from.u16(), channel };
         let counterparty = End { port: from.u16(), channel: from.u32() };
         let (next_send, next_receive, next_acknowledge) = (from.u64(), from.u64(), from.u64());
-        Some(Channel { state, order, own, counterparty, next_send, next_receive, next_acknowledge })
+        let version = Version::from_padded(from.take());
+        Some(Channel { state, order, own, counterparty, next_send, next_receive, next_acknowledge, version })
+    }
+
+    /// The 64 bytes of its record.
+    pub(crate) fn write(&self, to: Writer) -> Writer {
+        to.u16(1)
+            .u8(self.state.number())
+            .u8(self.order.number())
+            .u32(self.own.channel)
+            .u16(self.own.port)
+            .u16(self.counterparty.port)
+            .u32(self.counterparty.channel)
+            .u64(self.next_send)
+            .u64(self.next_receive)
+            .u64(self.next_acknowledge)
+            .bytes(self.version.padded())
+    }
+
+    /// The end as an [`EndVerdict`](crate::EndVerdict) shows it: with its counters zero.
+    pub fn shown(&self) -> Channel {
+        Channel { next_send: 0, next_receive: 0, next_acknowledge: 0, ..*self }
     }
 }
 
@@ -89,6 +137,6 @@ impl Record {
         from.u16();
         let (channel, sequence) = (from.u32(), from.u64());
         let timeout = Timeout::from_numbers(from.u64(), from.u64());
-        Some(Record { kind, channel, sequence, timeout, digest: from.digest() })
+        Some(Record { kind, channel, sequence, timeout, digest: from.take() })
     }
 }

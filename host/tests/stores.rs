@@ -17,7 +17,9 @@ fn making() {
     assert_eq!((store.as_bytes().len(), store.capacity(), store.free_records()), (33_856, 512, 512));
     let numbers: Vec<u32> = store.channels().map(|end| end.own.channel).collect();
     assert_eq!(numbers, (0..16).collect::<Vec<u32>>());
-    assert_eq!(Store::make(1, &[]).unwrap().channels().count(), 0);
+    assert_eq!(store.next_channel(), 16);
+    let store = Store::make(1, &[]).unwrap();
+    assert_eq!((store.channels().count(), store.next_channel()), (0, 1));
 }
 
 #[test]
@@ -31,9 +33,10 @@ fn fresh_store_is_read() {
         next_send: 1,
         next_receive: 1,
         next_acknowledge: 1,
+        version: Version::EMPTY,
     };
     assert_eq!(store.channel(8), Some(end));
-    assert_eq!(store.channel(9), None);
+    assert_eq!((store.channel(9), store.next_channel()), (None, 9));
     assert_eq!((store.last_height(), store.last_time(), store.records().count()), (OwnHeight(0), 0, 0));
 }
 
@@ -64,11 +67,21 @@ fn bytes_are_kept_and_tested() {
     let bytes = store.as_bytes().to_vec();
     assert_eq!(Store::from_bytes(bytes.clone()), Ok(store.clone()));
     assert_eq!(store.into_bytes(), bytes);
-    for at in [0, 4, 6, 24, 28, 64, 66, 67, 1088, 1090, 1092, 1096] {
-        let mut damaged = bytes.clone();
-        damaged[at] ^= 0x40;
-        assert_eq!(Store::from_bytes(damaged), Err(Refusal::StoreNotFit), "{at}");
+    let with = |at: usize, byte: u8| {
+        let mut changed = bytes.clone();
+        changed[at] = byte;
+        Store::from_bytes(changed)
+    };
+    for at in [0, 4, 6, 24, 36, 63, 64, 66, 67, 1088, 1090, 1092, 1096] {
+        assert_eq!(with(at, bytes[at] ^ 0x40), Err(Refusal::StoreNotFit), "{at}");
     }
+    // The next channel number is above 7 and 8, an INIT end names channel 0, and behind a version only zeros stand.
+    assert_eq!(with(28, 8), Err(Refusal::StoreNotFit));
+    assert_eq!(with(28, 10).map(|store| store.next_channel()), Ok(10));
+    assert_eq!(with(66, 1), Err(Refusal::StoreNotFit));
+    assert_eq!(with(66, 2).map(|store| store.channel(7).unwrap().state), Ok(State::TryOpen));
+    assert_eq!(with(105, b'a'), Err(Refusal::StoreNotFit));
+    assert_eq!(with(104, b'a').map(|store| store.channel(7).unwrap().version), Version::new("a"));
     assert_eq!(Store::from_bytes([]), Err(Refusal::StoreNotFit));
     assert_eq!(Store::from_bytes(&bytes[1..]), Err(Refusal::StoreNotFit));
 }

@@ -18,6 +18,11 @@ pub fn fresh() -> Store {
     Store::make(2, &[ORDERED, UNORDERED]).expect("a good list")
 }
 
+/// The answer to a call that is accepted and emits this.
+pub fn emits(emitted: Emitted) -> Result<Option<Emitted>, Refusal> {
+    Ok(Some(emitted))
+}
+
 pub fn send(height: u64) -> Datagram {
     Datagram::send(&CONTEXT, 7, Timeout::at_height(OtherHeight(height)), DIGEST)
 }
