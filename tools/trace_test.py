@@ -11,10 +11,24 @@ OPEN = "open 2\nchannel 7 port 5 ordered to 6/9\nchannel 8 port 5 unordered to 6
 
 # The opening and the send of docs/REPLAY.md, byte for byte.
 OPENING = "14000000 1000 0500 07000000 0600 09000000 01 00"
-SEND = (
-    "5a000000 0100 6400000000000000 e803000000000000 3200000000000000 0500 01 0000000000"
-    "07000000 3c00000000000000 0000000000000000 01" + "00" * 31
-)
+CONTEXT = "6400000000000000 e803000000000000 3200000000000000 0500 01 0000000000"
+SEND = "5a000000 0100" + CONTEXT + "07000000 3c00000000000000 0000000000000000 01" + "00" * 31
+
+# The steps that open a channel, byte for byte, each with the lines that write it.
+STEPS = """at height 100 time 1000 client 50
+init 1 port 5 ordered to 6 version v1
+try 2 port 5 unordered to 6/4 version v1
+open-acknowledge 1 to 9
+open-confirm 2
+"""
+PROOF = "0500 3200000000000000 e803000000000000"
+BEHIND = "00" * 24 + "7631" + "00" * 22  # counters, which are zero, and version
+STEP_BYTES = [
+    "2b000000 0600" + CONTEXT + "0600 01 7631",
+    "81000000 0700" + CONTEXT + "0600 04000000 02" + PROOF + "0100 01 02 04000000 0600 0500 00000000" + BEHIND + "7631",
+    "80000000 0800" + CONTEXT + "01000000 09000000" + PROOF + "0100 02 01 09000000 0600 0500 01000000" + BEHIND,
+    "7c000000 0900" + CONTEXT + "02000000" + PROOF + "0100 03 02 04000000 0600 0500 02000000" + BEHIND,
+]
 
 
 def run(text, *arguments):
@@ -68,6 +82,34 @@ class Bytes(unittest.TestCase):
         for at, width, value in numbers:
             self.assertEqual(int.from_bytes(record[at : at + width], "little"), value, at)
 
+    def test_steps_that_open_a_channel(self):
+        self.assertEqual([record.hex() for record in records("open 2\n" + STEPS)], [
+            bytes.fromhex(step).hex() for step in STEP_BYTES
+        ])
+
+    def test_every_part_of_an_end_verdict_can_be_told(self):
+        told = " verdict claim 1 at 10/11 on 12/13 to 14/15 state closed order ordered version 0x6100"
+        steps = [("try 1 port 5 unordered to 6/9", 45), ("open-acknowledge 8 to 9", 46), ("open-confirm 8", 42)]
+        for line, at in steps:
+            (record,) = records(OPEN + line + told)
+            expected = "0100 0a00000000000000 0b00000000000000 0100 04 01 0d000000 0c00 0e00 0f000000"
+            self.assertEqual(record[at : at + 82].hex(), bytes.fromhex(expected + "00" * 24 + "61" + "00" * 23).hex())
+
+    def test_versions(self):
+        lines = "init 1 port 5 ordered to 6\ninit 1 port 5 ordered to 6 version 0x610062\n"
+        lines += "try 1 port 5 ordered to 6/9 version " + "v" * 25
+        empty, inside, long = records(OPEN + lines)
+        self.assertEqual((len(empty), inside[41:]), (41, b"a\0b"))
+        self.assertEqual((long[103:127], long[127:]), (b"v" * 24, b"v" * 25))
+
+    def test_opened_end_is_known(self):
+        lines = "open-acknowledge 1 to 9\nat caller 7\ninit 2 port 5 unordered to 6\nat caller owner\n"
+        lines += "acknowledge 1\nsend 2\n"
+        *_, acknowledge, send = records(OPEN + "init 1 port 5 ordered to 6\n" + lines)
+        self.assertEqual(acknowledge[30:32].hex(), "0500")
+        self.assertEqual(acknowledge[62:74].hex(), "0500" "01000000" "0600" "09000000")
+        self.assertEqual(send[30:32].hex(), "0700")
+
     def test_context_stays(self):
         lines = "at height 9 time 8 client 7 caller 6 connection closed\nsend 7\nat caller owner\nsend 7\n"
         first, second = records(OPEN + lines)
@@ -106,6 +148,15 @@ class BadLines(unittest.TestCase):
             ("raw 0", "is not hexadecimal"),
             ("open 2", "'open' comes once"),
             ("channel 9 port 5 to 6/9", "a channel needs"),
+            ("init 9 port 5 to 6", "init needs 'port PORT', 'ordered' or 'unordered', and 'to PORT'"),
+            ("init 9 port 5 ordered to 6/9", "'6/9' is not a number"),
+            ("init 9 port 5 ordered to 6 verdict claim 5", "'init' carries no verdict"),
+            ("try 9 port 5 ordered", "and 'to PORT/CHANNEL'"),
+            ("try 9 port 5 ordered to 6/9 version 0x6", "is not hexadecimal"),
+            ("open-acknowledge 7", "needs 'to CHANNEL'"),
+            ("open-confirm 7 to 9", "'to' is no part of open-confirm, which has none"),
+            ("open-confirm 7 verdict state ajar", "is not one of: init, tryopen, open, closed"),
+            ("open-confirm 7 verdict sequence 1", "is no part of an end verdict"),
             ("channel 9 port 5 ordered unordered to 6/9", "a channel needs"),
         ]:
             with self.subTest(line):
