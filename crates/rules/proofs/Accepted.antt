@@ -1,6 +1,6 @@
 -- What an accepted datagram of each kind tells: the one place that opens the table of answers. Assumes nothing.
 use Rattle.wire.proofs.Prelude.{_≡_, refl, sym, subst, _∙_, Bool, true, not, false, List, [], _∷_, Option, some, ℕ, _≤_}
-use Rattle.wire.proofs.Prelude.{_<_, arith, eqb-true, ltb-false, not-false}
+use Rattle.wire.proofs.Prelude.{_<_, arith, getD, eqb-true, ltb-false, not-false}
 use Rattle.wire.specs.Names.{_and_, _or_, pick, isSome, Every}
 use Rattle.wire.proofs.Laws.{or-neither}
 use Rattle.slots.specs.declared.PortChannel.{PortChannel}
@@ -13,7 +13,7 @@ use Rattle.rules.specs.Names.{isReceiveAtTop, isAcknowledgeAtTop, needsR
 use Rattle.rules.specs.Names.{answering, neededTryOpen, neededPeer, lowest, fitsDestination, fitsSource}
 use Rattle.rules.specs.Names.{isLateAtReceiver, isProvedLate, isCommitted, commitmentDifference}
 use Rattle.rules.specs.Names.{absenceDifference, table, Line, makesEnd, endFor, isAcknowledgementThere}
-use Rattle.rules.proofs.RefusalLaws.{givenAt, silent, not-given, no-difference}
+use Rattle.rules.proofs.RefusalLaws.{givenAt, silent, each-silent, not-given, no-difference}
 use Rattle.rules.proofs.VerdictLaws.{Alike, Partners, shows}
 
 pub record SendOk (s : Store) (c : Channel) : Type 0 where
@@ -76,8 +76,12 @@ module _ (bs : List ℕ) (room : ℕ) (b : List ℕ) (s : Store) (d : Datagram) 
   lines = table bs room b s d c
 
   -- from acceptance of a kind, what its lines of a number gave
-  abbrev quiet : (n : ℕ) (k : Kind) → lowest (some k) lines ≡ 0 → Every (λ m. m ≡ 0) (givenAt n (some k) lines)
-  quiet n k h = silent n (some k) lines h
+  -- what the first line of a number gave, and the second
+  abbrev quiet : (n : ℕ) (k : Kind) → lowest (some k) lines ≡ 0 → getD (givenAt n (some k) lines) 0 0 ≡ 0
+  quiet n k h = each-silent 0 (givenAt n (some k) lines) (silent n (some k) lines h)
+
+  abbrev quiet-then : (n : ℕ) (k : Kind) → lowest (some k) lines ≡ 0 → getD (givenAt n (some k) lines) 1 0 ≡ 0
+  quiet-then n k h = each-silent 1 (givenAt n (some k) lines) (silent n (some k) lines h)
 
   -- a datagram that makes no end is about one that is there
   pub end-there : (k : Option Kind) → lowest k lines ≡ 0 → makesEnd k ≡ false → isSome (endFor s d) ≡ true
@@ -90,64 +94,64 @@ module _ (bs : List ℕ) (room : ℕ) (b : List ℕ) (s : Store) (d : Datagram) 
   unfolding givenAt table only _or_
   send-ok h =
       record {
-        state = eqb-true (c .state) stateOpen (not-false _ (not-given _ 5 (quiet 6 send h .0)));
-        below = not-given _ 18 (quiet 19 send h .0);
-        room = not-false (hasFree (s .records)) (not-given _ 19 (quiet 20 send h .0));
+        state = eqb-true (c .state) stateOpen (not-false _ (not-given _ 5 (quiet 6 send h)));
+        below = not-given _ 18 (quiet 19 send h);
+        room = not-false (hasFree (s .records)) (not-given _ 19 (quiet 20 send h));
       }
 
   pub receive-ok : lowest (some receive) lines ≡ 0 → ReceiveOk s d c
   unfolding givenAt table only _or_
   receive-ok h =
       record {
-        state = eqb-true (c .state) stateOpen (not-false _ (not-given _ 5 (quiet 6 receive h .0)));
-        fits = not-false _ (not-given _ 8 (quiet 9 receive h .0));
-        early = not-given _ 10 (quiet 11 receive h .0);
-        about = no-difference _ (quiet 14 receive h .0);
-        inOrder = not-false _ (not-given _ 14 (quiet 15 receive h .0));
-        new = not-given _ 15 (quiet 16 receive h .0);
-        below = not-given _ 18 (quiet 19 receive h .0);
-        room = not-given _ 19 (quiet 20 receive h .0);
+        state = eqb-true (c .state) stateOpen (not-false _ (not-given _ 5 (quiet 6 receive h)));
+        fits = not-false _ (not-given _ 8 (quiet 9 receive h));
+        early = not-given _ 10 (quiet 11 receive h);
+        about = no-difference _ (quiet 14 receive h);
+        inOrder = not-false _ (not-given _ 14 (quiet 15 receive h));
+        new = not-given _ 15 (quiet 16 receive h);
+        below = not-given _ 18 (quiet 19 receive h);
+        room = not-given _ 19 (quiet 20 receive h);
       }
 
   pub write-ok : lowest (some write) lines ≡ 0 → WriteOk s d c
   unfolding givenAt table only _or_
   write-ok h =
       record {
-        new = not-given _ 15 (quiet 16 write h .0);
-        received = not-false _ (not-given _ 16 (quiet 17 write h .0));
-        room = not-false (hasFree (s .records)) (not-given _ 19 (quiet 20 write h .0));
+        new = not-given _ 15 (quiet 16 write h);
+        received = not-false _ (not-given _ 16 (quiet 17 write h));
+        room = not-false (hasFree (s .records)) (not-given _ 19 (quiet 20 write h));
       }
 
   pub acknowledge-ok : lowest (some acknowledge) lines ≡ 0 → AcknowledgeOk s d c
   unfolding givenAt table only _or_
   acknowledge-ok h =
       record {
-        committed = not-false _ (not-given _ 12 (quiet 13 acknowledge h .0));
-        below = not-given _ 18 (quiet 19 acknowledge h .0);
+        committed = not-false _ (not-given _ 12 (quiet 13 acknowledge h));
+        below = not-given _ 18 (quiet 19 acknowledge h);
       }
 
   pub timeout-ok : lowest (some timeOut) lines ≡ 0 → TimeoutOk s d c
   unfolding givenAt table only _or_
   timeout-ok h =
       record {
-        fits = not-false _ (not-given _ 8 (quiet 9 timeOut h .0));
-        late = not-false _ (not-given _ 11 (quiet 12 timeOut h .0));
-        committed = not-false _ (not-given _ 12 (quiet 13 timeOut h .0));
-        about = no-difference _ (quiet 14 timeOut h .0);
-        inOrder = not-false _ (not-given _ 14 (quiet 15 timeOut h .0));
+        fits = not-false _ (not-given _ 8 (quiet 9 timeOut h));
+        late = not-false _ (not-given _ 11 (quiet 12 timeOut h));
+        committed = not-false _ (not-given _ 12 (quiet 13 timeOut h));
+        about = no-difference _ (quiet 14 timeOut h);
+        inOrder = not-false _ (not-given _ 14 (quiet 15 timeOut h));
       }
 
   pub init-ok : lowest (some openInit) lines ≡ 0 → MakeOk s d
   unfolding givenAt table only _or_
   init-ok h =
-      not-full s d (not-given _ 24 (quiet 25 openInit h .0)) (not-false _ (not-given _ 26 (quiet 27 openInit h .0)))
+      not-full s d (not-given _ 24 (quiet 25 openInit h)) (not-false _ (not-given _ 26 (quiet 27 openInit h)))
 
   pub try-ok : lowest (some openTry) lines ≡ 0 → MakeOk s d × Alike (d .endVerdict .end) (neededInit d)
   unfolding givenAt table only _or_
   try-ok h = (
-    not-full s d (not-given _ 24 (quiet 25 openTry h .0)) (not-false _ (not-given _ 26 (quiet 27 openTry h .0))),
-    shows (d .endVerdict) (neededInit d) (no-difference _ (quiet 14 openTry h .0))
-        (not-false _ (not-given _ 26 (quiet 27 openTry h .1 .0))),
+    not-full s d (not-given _ 24 (quiet 25 openTry h)) (not-false _ (not-given _ 26 (quiet 27 openTry h))),
+    shows (d .endVerdict) (neededInit d) (no-difference _ (quiet 14 openTry h))
+        (not-false _ (not-given _ 26 (quiet-then 27 openTry h))),
   )
 
   -- the record that a verdict must show for an end to open is its partner's
@@ -165,25 +169,25 @@ module _ (bs : List ℕ) (room : ℕ) (b : List ℕ) (s : Store) (d : Datagram) 
   pub open-acknowledge-ok : lowest (some openAcknowledge) lines ≡ 0 → OpenOk d c (answering c d)
   unfolding givenAt table only _or_ neededTryOpen answering
   open-acknowledge-ok h =
-      let k = eqb-true (c .state) stateInit (not-false _ (not-given _ 25 (quiet 26 openAcknowledge h .0))) in
+      let k = eqb-true (c .state) stateInit (not-false _ (not-given _ 25 (quiet 26 openAcknowledge h))) in
       record {
         unopened = omega arith;
         port = refl;
         known = λ n. absurd (n k);
         partner = shows-partner stateTryOpen (answering c d) (λ q. omega arith)
-            (shows (d .endVerdict) (neededTryOpen c d) (no-difference _ (quiet 14 openAcknowledge h .0))
-            (not-false _ (not-given _ 26 (quiet 27 openAcknowledge h .0))));
+            (shows (d .endVerdict) (neededTryOpen c d) (no-difference _ (quiet 14 openAcknowledge h))
+            (not-false _ (not-given _ 26 (quiet 27 openAcknowledge h))));
       }
 
   pub open-confirm-ok : lowest (some openConfirm) lines ≡ 0 → OpenOk d c (c .counterparty)
   unfolding givenAt table only _or_ neededPeer
   open-confirm-ok h =
-      let k = eqb-true (c .state) stateTryOpen (not-false _ (not-given _ 25 (quiet 26 openConfirm h .0))) in
+      let k = eqb-true (c .state) stateTryOpen (not-false _ (not-given _ 25 (quiet 26 openConfirm h))) in
       record {
         unopened = omega arith;
         port = refl;
         known = λ n. refl;
         partner = shows-partner stateOpen (c .counterparty) (λ q. omega arith)
-            (shows (d .endVerdict) (neededPeer stateOpen c) (no-difference _ (quiet 14 openConfirm h .0))
-            (not-false _ (not-given _ 26 (quiet 27 openConfirm h .0))));
+            (shows (d .endVerdict) (neededPeer stateOpen c) (no-difference _ (quiet 14 openConfirm h))
+            (not-false _ (not-given _ 26 (quiet 27 openConfirm h))));
       }
