@@ -1,13 +1,14 @@
 -- Kinds and parts by their numbers, and the room of a part in a body. Assumes nothing.
 use Rattle.wire.proofs.Prelude.{_≡_, refl, sym, ap, _∙_, Bool, true, false, List, [], _∷_, Option, some, none}
-use Rattle.wire.proofs.Prelude.{_⊎_, inl, inr, ℕ, _+_, _≤_, _<_, arith, eqb, eqb-true, eqb-false, eq-eqb, ne-eqb}
+use Rattle.wire.proofs.Prelude.{inl, inr, ℕ, _+_, _≤_, arith, eqb, eqb-true, eqb-false, eq-eqb}
 use Rattle.wire.specs.Names.{pick, withNumber, Every}
 use Rattle.wire.proofs.Laws.{or-either, clash, cases, some-is, with-number, same-number}
 use Rattle.datagram.specs.Names.{Kind, send, receive, write, acknowledge, timeOut}
-use Rattle.datagram.specs.Names.{openInit, openTry, openAcknowledge, openConfirm, kinds, kindNumber, kindOf}
+use Rattle.datagram.specs.Names.{openInit, openTry, openAcknowledge, openConfirm}
+use Rattle.datagram.specs.Names.{closeInit, closeConfirm, timeOutOnClose, kinds, kindNumber, kindOf}
 use Rattle.datagram.specs.Names.{isKind, isOf, Part, channelPart, sequencePart, timeoutPart, digestPart}
 use Rattle.datagram.specs.Names.{packetPart, verdictPart, portPart, counterpartyPart, orderPart}
-use Rattle.datagram.specs.Names.{endVerdictPart, versionPart, partNumber, isPart, partSize, body, bodyOf, hasPart}
+use Rattle.datagram.specs.Names.{endVerdictPart, versionPart, partNumber, isPart, partSize, hasPart}
 use Rattle.datagram.specs.Names.{partsSize, sizeBefore}
 
 -- KINDS are known by their numbers
@@ -22,6 +23,9 @@ kind-of openInit = refl
 kind-of openTry = refl
 kind-of openAcknowledge = refl
 kind-of openConfirm = refl
+kind-of closeInit = refl
+kind-of closeConfirm = refl
+kind-of timeOutOnClose = refl
 
 pub number-of : (n : ℕ) (k : Kind) → kindOf n ≡ some k → n ≡ kindNumber k
 number-of n k h = with-number kindNumber n kinds k h
@@ -47,69 +51,11 @@ kinds-apart j k p q n =
     let e : j ≡ k = some-is (sym p ∙ q) in
     clash (eq-eqb (kindNumber j) (kindNumber k) (ap kindNumber e)) n
 
--- A CONCLUSION behind a premise for each of a list, which are given one after the other
-abbrev pub Given : {A : Type 0} → (A → Type 0) → List A → Type 0 → Type 0
-Given P [] R = R
-Given P (x ∷ xs) R = P x → Given P xs R
-
-given : {A : Type 0} (P : A → Type 0) (xs : List A) (R : Type 0) → (Every P xs → R) → Given P xs R
-given P [] R f = f tt
-given P (x ∷ xs) R f = λ p. given P xs R (λ ps. f (p, ps))
-
--- a number that is no kind's, given so of each
-none-of : (n : ℕ) (ks : List Kind) → Every (λ (k : Kind). n ≡ kindNumber k → ⊥) ks → withNumber kindNumber n ks ≡ none
-unfolding withNumber
-none-of n [] h = refl
-none-of n (k ∷ ks) h = let other = none-of n ks (h .1) in rw (ne-eqb n (kindNumber k) (h .0)) other
-
-pub unknown : (n : ℕ) → Given (λ (k : Kind). n ≡ kindNumber k → ⊥) kinds (kindOf n ≡ none)
-unknown n = given (λ (k : Kind). n ≡ kindNumber k → ⊥) kinds (kindOf n ≡ none) (none-of n kinds)
-
--- the last kind is 9
-pub beyond : (n : ℕ) → 10 ≤ n → kindOf n ≡ none
-beyond n h =
-    unknown n (λ e. omega arith) (λ e. omega arith) (λ e. omega arith) (λ e. omega arith) (λ e. omega arith)
-    (λ e. omega arith) (λ e. omega arith) (λ e. omega arith) (λ e. omega arith)
-
--- a number in a range, none of some, or one of two
-pub past : (a n : ℕ) → a ≤ n → (n ≡ a → ⊥) → a + 1 ≤ n
-past a n l h = omega arith
-
-pub one-of-two : (a n : ℕ) → a ≤ n → n < a + 2 → (n ≡ a) ⊎ (n ≡ a + 1)
-one-of-two a n l h =
-    cases (eqb n a) (λ e. inl (eqb-true n a e)) (λ e. let g = past a n l (eqb-false n a e) in inr (omega arith))
-
 -- what holds of all of a list, perhaps with one more in front
 pub of-rest : {A : Type 0} (P : A → Type 0) (b : Bool) (x : A) (xs ys : List A) → (Every P ys → Every P xs) →
     Every P (pick b (x ∷ xs) ys) → Every P xs
 of-rest P true x xs ys f h = h .1
 of-rest P false x xs ys f h = f h
-
--- what holds of the kinds that have a part holds of a number whose kind has it
-unfoldable pub having : Part → List Kind → List Kind
-having p [] = []
-having p (k ∷ ks) = pick (hasPart p (body k)) (k ∷ having p ks) (having p ks)
-
-of-having : (p : Part) (P : ℕ → Type 0) (n : ℕ) (ks : List Kind) →
-    Every (λ (k : Kind). P (kindNumber k)) (having p ks) → hasPart p (bodyOf (withNumber kindNumber n ks)) ≡ true → P n
-unfolding having withNumber hasPart
-of-having p P n [] each h = clash {b = false} h refl
-of-having p P n (k ∷ ks) each h =
-    let ih = of-having p P n ks in
-    cases (eqb n (kindNumber k))
-    (λ e.
-    let has : hasPart p (body k) ≡ true = rw e at h in
-    rw (eqb-true n (kindNumber k) e) ((rw has at each) .0))
-    (λ e.
-    ih (of-rest (λ (j : Kind). P (kindNumber j)) (hasPart p (body k)) k (having p ks) (having p ks) (λ r. r) each)
-    (rw e at h))
-
-pub by-part : (p : Part) (P : ℕ → Type 0) →
-    Given (λ (k : Kind). P (kindNumber k)) (having p kinds)
-    ((n : ℕ) → hasPart p (bodyOf (kindOf n)) ≡ true → P n)
-by-part p P =
-    given (λ (k : Kind). P (kindNumber k)) (having p kinds) ((n : ℕ) → hasPart p (bodyOf (kindOf n)) ≡ true → P n)
-    (λ each n. of-having p P n kinds each)
 
 -- PARTS are known by their numbers
 abbrev parts : List Part

@@ -20,7 +20,8 @@ use Rattle.datagram.specs.declared.Verdict.{Verdict}
 use Rattle.datagram.specs.declared.EndVerdict.{EndVerdict}
 use Rattle.wire.specs.Frame.{frameSize}
 use Rattle.datagram.specs.Kind.{Kind, send, receive, write, acknowledge, timeOut}
-use Rattle.datagram.specs.Kind.{openInit, openTry, openAcknowledge, openConfirm, kindOf}
+use Rattle.datagram.specs.Kind.{openInit, openTry, openAcknowledge, openConfirm}
+use Rattle.datagram.specs.Kind.{closeInit, closeConfirm, timeOutOnClose, kindOf}
 use Rattle.datagram.specs.Kind.{Part, channelPart, sequencePart, timeoutPart, digestPart, packetPart, verdictPart}
 use Rattle.datagram.specs.Kind.{portPart, counterpartyPart, orderPart, endVerdictPart, versionPart}
 use Rattle.datagram.specs.Kind.{isPart, bodyOf, placeOf, isSized}
@@ -118,6 +119,9 @@ channelFrom (some openInit) d = 0
 channelFrom (some openTry) d = 0
 channelFrom (some openAcknowledge) d = ownChannel openAcknowledge d
 channelFrom (some openConfirm) d = ownChannel openConfirm d
+channelFrom (some closeInit) d = ownChannel closeInit d
+channelFrom (some closeConfirm) d = ownChannel closeConfirm d
+channelFrom (some timeOutOnClose) d = packetFrom (some timeOutOnClose) d .source .channel
 
 -- A DATAGRAM as the rules see it. A part that its kind lacks is read all the same, and no rule looks at it
 pub record Datagram : Type 0 where

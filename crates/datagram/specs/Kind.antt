@@ -12,10 +12,12 @@ use Rattle.slots.specs.Layout.{slotSize}
 pub data Kind : Type 0 where
   send receive write acknowledge timeOut : Kind
   openInit openTry openAcknowledge openConfirm : Kind
+  closeInit closeConfirm timeOutOnClose : Kind
 
 abbrev pub kinds : List Kind
 kinds =
-    send ∷ receive ∷ write ∷ acknowledge ∷ timeOut ∷ openInit ∷ openTry ∷ openAcknowledge ∷ openConfirm ∷ []
+    send ∷ receive ∷ write ∷ acknowledge ∷ timeOut ∷ openInit ∷ openTry ∷ openAcknowledge ∷ openConfirm ∷
+    closeInit ∷ closeConfirm ∷ timeOutOnClose ∷ []
 
 abbrev pub kindNumber : Kind → ℕ
 kindNumber send = 1
@@ -27,6 +29,9 @@ kindNumber openInit = 6
 kindNumber openTry = 7
 kindNumber openAcknowledge = 8
 kindNumber openConfirm = 9
+kindNumber closeInit = 10
+kindNumber closeConfirm = 11
+kindNumber timeOutOnClose = 12
 
 -- THE KIND of a number: none where no datagram has it
 abbrev pub kindOf : ℕ → Option Kind
@@ -88,6 +93,9 @@ body openInit = portPart ∷ orderPart ∷ versionPart ∷ []
 body openTry = portPart ∷ counterpartyPart ∷ orderPart ∷ endVerdictPart ∷ versionPart ∷ []
 body openAcknowledge = channelPart ∷ counterpartyPart ∷ endVerdictPart ∷ []
 body openConfirm = channelPart ∷ endVerdictPart ∷ []
+body closeInit = channelPart ∷ []
+body closeConfirm = channelPart ∷ endVerdictPart ∷ []
+body timeOutOnClose = packetPart ∷ endVerdictPart ∷ verdictPart ∷ []
 
 abbrev pub bodyOf : Option Kind → List Part
 bodyOf none = []

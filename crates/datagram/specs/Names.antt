@@ -1,7 +1,8 @@
 -- All definitions of this crate under one name, for those who use them.
 unfoldable pub use Rattle.datagram.specs.Kind.{only, body, hasPart, partsSize, sizeBefore, isSized}
 pub use Rattle.datagram.specs.Kind.{Kind, send, receive, write, acknowledge, timeOut}
-pub use Rattle.datagram.specs.Kind.{openInit, openTry, openAcknowledge, openConfirm, kinds, kindNumber, kindOf}
+pub use Rattle.datagram.specs.Kind.{openInit, openTry, openAcknowledge, openConfirm}
+pub use Rattle.datagram.specs.Kind.{closeInit, closeConfirm, timeOutOnClose, kinds, kindNumber, kindOf}
 pub use Rattle.wire.specs.Frame.{frameSize}
 pub use Rattle.datagram.specs.Kind.{isKind, isOf, contextSize, packetSize, verdictSize, endVerdictSize, bodyFrom}
 pub use Rattle.datagram.specs.Kind.{Part, channelPart, sequencePart, timeoutPart, digestPart, packetPart}

@@ -129,7 +129,7 @@ pub fn digest_in(d: &[u8], kind: u16) -> [u8; 32]
     digest_at(d, digest_place(kind))
 }
 
-// The verdict of 2, 4 and 5.
+// The verdict of 2, 4, 5 and 12.
 pub fn verdict_in(d: &[u8], kind: u16) -> Verdict
     requires { ⌜
         (hasPart verdictPart (bodyOf (kindOf kind)) ≡ true) × (sizeOf (kindOf kind) ≤ length (now d))
@@ -139,7 +139,7 @@ pub fn verdict_in(d: &[u8], kind: u16) -> Verdict
     verdict_at(d, verdict_place(kind))
 }
 
-// The end verdict of 7, 8 and 9.
+// The end verdict of 7, 8, 9, 11 and 12.
 pub fn end_verdict_in(d: &[u8], kind: u16) -> EndVerdict
     requires { ⌜
         (hasPart endVerdictPart (bodyOf (kindOf kind)) ≡ true) × (sizeOf (kindOf kind) ≤ length (now d))
@@ -169,16 +169,16 @@ pub fn order_in(d: &[u8], kind: u16) -> u8
     d[order_place(kind)]
 }
 
-// The channel that it is about: its own for 1, 3, 8 and 9, the destination for 2, the source for 4 and 5. The others
-// make an end, or are unknown, and are about none.
+// The channel that it is about: its own for 1, 3 and 8 to 11, the destination for 2, the source for 4, 5 and 12. The
+// others make an end, or are unknown, and are about none.
 pub fn channel_in(d: &[u8], kind: u16) -> u32
     requires { ⌜ sizeOf (kindOf kind) ≤ length (now d) ⌝ }
     ensures { λ r. ⌜ r ≡ channelFrom (kindOf kind) (now (d .entry)) ⌝ }
 {
     match kind {
-        1 | 3 | 8 | 9 => u32_at(d, BODY),
+        1 | 3 | 8 | 9 | 10 | 11 => u32_at(d, BODY),
         2 => u32_at(d, BODY + 32),
-        4 | 5 => u32_at(d, BODY + 26),
+        4 | 5 | 12 => u32_at(d, BODY + 26),
         _ => 0,
     }
 }

@@ -31,6 +31,9 @@ isBelowOwn a b = ltb (a .0) (b .0)
 abbrev pub isSameOwn : OwnHeight → OwnHeight → Bool
 isSameOwn a b = eqb (a .0) (b .0)
 
+abbrev pub isSameOther : OtherHeight → OtherHeight → Bool
+isSameOther a b = eqb (a .0) (b .0)
+
 abbrev pub isUpToOther : OtherHeight → OtherHeight → Bool
 isUpToOther a b = leb (a .0) (b .0)
 

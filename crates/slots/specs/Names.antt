@@ -5,8 +5,8 @@ pub use Rattle.slots.specs.Codes.{orderOrdered, orderUnordered, isOrder}
 pub use Rattle.slots.specs.Codes.{commitmentKind, receiptKind, acknowledgementKind, storeKind, channelKind}
 unfoldable pub use Rattle.slots.specs.Height.{isPast, sameTimeout}
 pub use Rattle.slots.specs.Height.{ownHeight, otherHeight, heightAtSender, heightAtReceiver, seenAcross}
-pub use Rattle.slots.specs.Height.{isBelowOwn, isSameOwn, isUpToOther, UpToOther, BelowOther, isPastOwn}
-pub use Rattle.slots.specs.Height.{isPastOther, noTimeout}
+pub use Rattle.slots.specs.Height.{isBelowOwn, isSameOwn, isSameOther, isUpToOther, UpToOther, BelowOther}
+pub use Rattle.slots.specs.Height.{isPastOwn, isPastOther, noTimeout}
 unfoldable pub use Rattle.slots.specs.Version.{noneZero, versionFits, padded, isPadded}
 pub use Rattle.slots.specs.Version.{noVersion}
 unfoldable pub use Rattle.slots.specs.Table.{find, replace, insert, hasFree, count, all, distinct, isNumbered}

@@ -1,21 +1,20 @@
 -- By the kind. Assumes nothing.
 use mathlib.Core.Path.{_≡_, refl}
+use mathlib.Core.List.{[], _∷_}
 use Prim.Native.Nat.{ℕ, _+_}
 use borrow.Author.Needs.{needs}
 use Rattle.wire.specs.Choice.{_or_, withNumber}
 use Rattle.datagram.specs.Kind.{bodyFrom, packetSize, digestPart, body, hasPart, sizeBefore, kindOf, placeOf}
-use Rattle.datagram.proofs.KindLaws.{having, by-part}
+use Rattle.datagram.proofs.MatchLaws.{by-part}
 use Rattle.datagram.proofs.place.digest_place.Statement.{statement}
 use Rattle.datagram.proofs.place.digest_place.Tie as tie
 
 -- of the kinds that have a digest, one is neither a send nor a write
 last : tie.Need-returns-3
-unfolding withNumber body hasPart sizeBefore _or_ having
+unfolding withNumber body hasPart sizeBefore _or_
 last c =
-    by-part digestPart
-    (λ (n : ℕ). (n ≡ 1 → ⊥) → (n ≡ 3 → ⊥) → bodyFrom + packetSize ≡ placeOf digestPart (kindOf n))
-    (λ p q. absurd (p refl)) (λ p q. absurd (q refl)) (λ p q. refl)
-    (c .before .args .kind) (c .before .pre) (c .match .rest .0 .1) (c .match .rest .1)
+    by-part (λ (n : ℕ). bodyFrom + packetSize ≡ placeOf digestPart (kindOf n)) ((1 ∷ []) ∷ (3 ∷ []) ∷ [])
+    digestPart refl (c .before .args .kind) (c .match .rest) (c .before .pre)
 
 pub digest-place-spec : {M : Type 1} → statement M
 unfolding withNumber body sizeBefore

@@ -1,16 +1,11 @@
 -- It is read at its place. Assumes nothing.
 use native.Mathlib.Omega.{arith}
 use borrow.Author.Needs.{needs}
-use Rattle.datagram.specs.Kind.{digestPart, bodyOf, kindOf}
+use Rattle.datagram.specs.Kind.{digestPart}
 use Rattle.datagram.specs.Datagram.{digestFrom}
 use Rattle.datagram.proofs.KindLaws.{part-room}
 use Rattle.datagram.proofs.read.digest_in.Statement.{statement}
 use Rattle.datagram.proofs.read.digest_in.Tie as tie
-
-digest-at-requires : tie.Need-digest-at-requires
-digest-at-requires c κs =
-    let o = c .before .before in
-    omega (arith, part-room digestPart (bodyOf (kindOf (o .args .kind))) (o .pre .0))
 
 returns : tie.Need-returns
 unfolding digestFrom
@@ -18,4 +13,6 @@ returns c = rw (← c .before .digest-place .ensures) (c .digest-at .ensures)
 
 pub digest-in-spec : {M : Type 1} → statement M
 digest-in-spec =
-    tie.close (tie.spec (λ c κs. search needs) digest-at-requires returns)
+    tie.close
+    (tie.spec (λ c κs. search needs) (λ c κs. omega (arith, part-room digestPart _ (c .before .before .pre .0)))
+    returns)
