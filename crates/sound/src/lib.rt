@@ -15,17 +15,18 @@ use wire::u16_at;
 use wire::u64_at;
 ghost use mathlib.Core.Path.{_≡_};
 ghost use mathlib.Core.Bool.{true};
-ghost use Prim.Native.Nat.{_≤_};
+ghost use Prim.Native.Nat.{_+_, _≤_};
+ghost use lib.Dec.{ltb};
 ghost use lib.ListN.{length};
 ghost use Rattle.wire.specs.Choice.{isSome};
 ghost use Rattle.wire.specs.Frame.{frameIn};
 ghost use Rattle.wire.specs.declared.Frame.the-variants.{Whole};
 ghost use Rattle.slots.specs.Codes.{isOrder};
-ghost use Rattle.datagram.specs.Kind.{kindOf, bodyFrom, verdictPart, orderPart, endVerdictPart, bodyOf, hasPart};
-ghost use Rattle.datagram.specs.Kind.{sizeOf, isSized};
+ghost use Rattle.datagram.specs.Kind.{kindOf, bodyFrom, packetSize, verdictPart, orderPart, endVerdictPart, bodyOf};
+ghost use Rattle.datagram.specs.Kind.{hasPart, sizeOf, isSized};
 ghost use Rattle.datagram.specs.Claim.{claimOf};
-ghost use Rattle.datagram.specs.Datagram.{endVerdictFrom, orderFrom, isContextSound, isSound};
-ghost use Rattle.sound.specs.Sound.{isPacketSound, isBodySound};
+ghost use Rattle.datagram.specs.Datagram.{packetIn, verdictFrom, endVerdictFrom, orderFrom, isContextSound, isSound};
+ghost use Rattle.sound.specs.Sound.{isBodySound};
 
 // The lengths of datagrams, without the version that may end an open init and an open try.
 const SEND: usize = BODY + 20 + DIGEST;
@@ -44,7 +45,11 @@ const OPEN_ACKNOWLEDGE: usize = BODY + 8 + END_VERDICT;
 
 const OPEN_CONFIRM: usize = BODY + 4 + END_VERDICT;
 
-// A time-out is as long as a receive. Unknown kinds have no body.
+const CLOSE_INIT: usize = BODY + 4;
+
+const TIME_OUT_ON_CLOSE: usize = BODY + PACKET + END_VERDICT + VERDICT;
+
+// A time-out is as long as a receive, a close confirm as an open confirm. Unknown kinds have no body.
 fn is_sized(kind: u16, size: usize) -> bool
     ensures { λ r. ⌜ r ≡ isSized (kindOf kind) size ⌝ }
 {
@@ -56,7 +61,9 @@ fn is_sized(kind: u16, size: usize) -> bool
         6 => OPEN_INIT <= size,
         7 => OPEN_TRY <= size,
         8 => size == OPEN_ACKNOWLEDGE,
-        9 => size == OPEN_CONFIRM,
+        9 | 11 => size == OPEN_CONFIRM,
+        10 => size == CLOSE_INIT,
+        12 => size == TIME_OUT_ON_CLOSE,
         _ => size == BODY,
     }
 }
@@ -76,15 +83,22 @@ fn is_claim(claim: u16) -> bool
     (1 <= claim) & (claim <= 5)
 }
 
-// A packet's sequence is not 0, and its verdict's claim is known.
-fn is_packet_sound(d: &[u8], kind: u16) -> bool
+// A packet's sequence is not 0.
+fn is_packet_sound(d: &[u8]) -> bool
+    requires { ⌜ bodyFrom + packetSize ≤ length (now d) ⌝ }
+    ensures { λ r. ⌜ r ≡ ltb 0 (packetIn bodyFrom (now (d .entry)) .sequence) ⌝ }
+{
+    0 < u64_at(d, BODY)
+}
+
+// The claim of a verdict is known.
+fn is_verdict_sound(d: &[u8], kind: u16) -> bool
     requires { ⌜
         (hasPart verdictPart (bodyOf (kindOf kind)) ≡ true) × (sizeOf (kindOf kind) ≤ length (now d))
         ⌝ }
-    ensures { λ r. ⌜ r ≡ isPacketSound (kindOf kind) (now (d .entry)) ⌝ }
+    ensures { λ r. ⌜ r ≡ isSome (claimOf (verdictFrom (kindOf kind) (now (d .entry)) .claim)) ⌝ }
 {
-    let claim = u16_at(d, verdict_place(kind));
-    (0 < u64_at(d, BODY)) & is_claim(claim)
+    is_claim(u16_at(d, verdict_place(kind)))
 }
 
 fn is_end_verdict_sound(d: &[u8], kind: u16) -> bool
@@ -112,12 +126,13 @@ fn is_body_sound(d: &[u8], kind: u16) -> bool
     ensures { λ r. ⌜ r ≡ isBodySound (kindOf kind) (now (d .entry)) ⌝ }
 {
     match kind {
-        1 => true,
-        2 | 4 | 5 => is_packet_sound(d, kind),
+        1 | 10 => true,
+        2 | 4 | 5 => is_packet_sound(d) & is_verdict_sound(d, kind),
         3 => 0 < sequence_in(d),
         6 => is_order_sound(d, 6),
         7 => is_order_sound(d, 7) & is_end_verdict_sound(d, 7),
-        8 | 9 => is_end_verdict_sound(d, kind),
+        8 | 9 | 11 => is_end_verdict_sound(d, kind),
+        12 => is_packet_sound(d) & is_end_verdict_sound(d, 12) & is_verdict_sound(d, 12),
         _ => false,
     }
 }

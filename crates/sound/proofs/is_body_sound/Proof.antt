@@ -1,62 +1,64 @@
 -- By the kind. Assumes nothing.
 use mathlib.Core.Path.{_≡_, refl, _∙_}
-use mathlib.Core.Bool.{true}
-use mathlib.Core.Logic.{_⊎_, inl, inr}
-use mathlib.Core.List.{List}
-use Prim.Native.Nat.{ℕ}
+use mathlib.Core.Bool.{true, false}
+use mathlib.Core.Logic.{inl, inr}
+use mathlib.Core.List.{List, [], _∷_}
+use Prim.Native.Nat.{ℕ, _+_, _≤_}
 use native.Mathlib.Omega.{arith}
+use lib.Dec.{ltb}
 use denote.Ref.{now}
 use Rattle.wire.specs.Choice.{_and_, _or_, isSome, withNumber}
-use Rattle.wire.proofs.ChoiceLaws.{and-true}
-use Rattle.datagram.specs.Kind.{kindOf, verdictPart, endVerdictPart, body, bodyOf, hasPart, partsSize, sizeBefore}
+use Rattle.wire.proofs.ChoiceLaws.{and-true, and-assoc}
+use Rattle.datagram.specs.Kind.{kindOf, bodyFrom, packetSize, verdictPart, endVerdictPart, body, bodyOf, hasPart}
+use Rattle.datagram.specs.Kind.{partsSize, sizeBefore, sizeOf}
 use Rattle.datagram.specs.Claim.{claimOf}
-use Rattle.datagram.specs.Datagram.{packetFrom, sequenceFrom, endVerdictFrom, arePartsSound, isPartSound}
-use Rattle.datagram.proofs.KindLaws.{beyond, past, one-of-two}
-use Rattle.sound.specs.Sound.{isBodySound, isPacketSound}
+use Rattle.datagram.specs.Datagram.{packetIn, packetFrom, sequenceFrom, verdictFrom, endVerdictFrom, arePartsSound}
+use Rattle.datagram.specs.Datagram.{isPartSound}
+use Rattle.datagram.proofs.MatchLaws.{by-key, by-kind, by-range}
+use Rattle.sound.specs.Sound.{isBodySound}
 use Rattle.sound.proofs.is_body_sound.Statement.{statement}
 use Rattle.sound.proofs.is_body_sound.Tie as tie
 
--- THE KINDS of an arm: 2, 4 and 5 carry a packet and a verdict, and no other part that is tested
-with-packet : (k : ℕ) → (k ≡ 2) ⊎ ((k ≡ 4) ⊎ (k ≡ 5)) → (d : List ℕ) →
-    (hasPart verdictPart (bodyOf (kindOf k)) ≡ true) × (isPacketSound (kindOf k) d ≡ isBodySound (kindOf k) d)
-unfolding withNumber body hasPart sizeBefore packetFrom isPacketSound isBodySound arePartsSound isPartSound _and_ _or_
-with-packet k (inl e) d = (rw e refl, rw (e, and-true) refl)
-with-packet k (inr (inl e)) d = (rw e refl, rw (e, and-true) refl)
-with-packet k (inr (inr e)) d = (rw e refl, rw (e, and-true) refl)
+-- the keys of the arms, before those that ranges tell
+abbrev arms : List (List ℕ)
+arms = (1 ∷ 10 ∷ []) ∷ (2 ∷ []) ∷ (3 ∷ []) ∷ (6 ∷ []) ∷ (7 ∷ []) ∷ (11 ∷ []) ∷ (12 ∷ []) ∷ []
 
--- 8 and 9 carry an end verdict, and no other part that is tested
-with-end : (k : ℕ) → (k ≡ 8) ⊎ (k ≡ 9) → (d : List ℕ) →
+-- THE KINDS of an arm: those that carry a packet and a verdict, and no other part that is tested
+abbrev OnPacket : List ℕ → (kind : ℕ) → Type 0
+OnPacket d k =
+    (bodyFrom + packetSize ≤ sizeOf (kindOf k)) × (hasPart verdictPart (bodyOf (kindOf k)) ≡ true) ×
+    ((ltb 0 (packetIn bodyFrom d .sequence) and isSome (claimOf (verdictFrom (kindOf k) d .claim))) ≡
+    isBodySound (kindOf k) d)
+
+packet : (c : tie.At-match-came-2) → let a = c .before .before .args in OnPacket (now (a .d)) (a .kind)
+unfolding withNumber body hasPart partsSize sizeBefore packetFrom isBodySound arePartsSound isPartSound _and_ _or_
+packet c =
+    let a = c .before .before .args in
+    let P = OnPacket (now (a .d)) in
+    elim (c .match .came) [
+      | inl w ↦ by-key P (2 ∷ []) (omega arith, refl, rw and-true refl) (a .kind) (w .keys2)
+      | inr w ↦
+          by-range P arms 1 5 (omega arith, refl, rw and-true refl) (omega arith, refl, rw and-true refl) (a .kind)
+          (w .0 .rest) (w .1 .left, w .2 .taken)
+    ]
+
+-- those that carry an end verdict, and no other part that is tested
+abbrev OnEnd : List ℕ → (kind : ℕ) → Type 0
+OnEnd d k =
     (hasPart endVerdictPart (bodyOf (kindOf k)) ≡ true) ×
     (isSome (claimOf (endVerdictFrom (kindOf k) d .claim)) ≡ isBodySound (kindOf k) d)
+
+end : (c : tie.At-match-came) → let a = c .before .before .args in OnEnd (now (a .d)) (a .kind)
 unfolding withNumber body hasPart isBodySound arePartsSound isPartSound _and_ _or_
-with-end k (inl e) d = (rw e refl, rw (e, and-true) refl)
-with-end k (inr e) d = (rw e refl, rw (e, and-true) refl)
-
-packet : (c : tie.At-match-came) → let o = c .before .before in
-    (hasPart verdictPart (bodyOf (kindOf (o .args .kind))) ≡ true) ×
-    (isPacketSound (kindOf (o .args .kind)) (now (o .args .d)) ≡
-    isBodySound (kindOf (o .args .kind)) (now (o .args .d)))
-packet c =
-    let o = c .before .before in
-    let k = o .args .kind in
-    with-packet k (elim (c .match .came) [
-      | inl w ↦ inl (w .keys2)
-      | inr w ↦
-          let none = w .0 .rest .0 .0 in
-          let four = past 3 k (past 2 k (past 1 k (w .1 .left) (none .0 .0 .1)) (none .0 .1)) (none .1) in
-          inr (one-of-two 4 k four (w .2 .taken))
-    ]) (now (o .args .d))
-
-end : (c : tie.Then3) → let o = c .before .before .before .before .before in
-    (hasPart endVerdictPart (bodyOf (kindOf (o .args .kind))) ≡ true) ×
-    (isSome (claimOf (endVerdictFrom (kindOf (o .args .kind)) (now (o .args .d)) .claim)) ≡
-    isBodySound (kindOf (o .args .kind)) (now (o .args .d)))
 end c =
-    let o = c .before .before .before .before .before in
-    let k = o .args .kind in
-    let none = c .before .before .before .match .rest in
-    let eight = past 7 k (past 6 k (c .before .if2 .left) (none .0 .1)) (none .1) in
-    with-end k (one-of-two 8 k eight (c .if3 .taken)) (now (o .args .d))
+    let a = c .before .before .args in
+    let P = OnEnd (now (a .d)) in
+    elim (c .match .came) [
+      | inl w ↦ by-key P (11 ∷ []) (refl, rw and-true refl) (a .kind) (w .keys6)
+      | inr w ↦
+          by-range P arms 6 4 (refl, rw and-true refl) (refl, rw and-true refl) (a .kind) (w .0 .rest)
+          (w .2 .left, w .3 .taken)
+    ]
 
 sequence-in-requires : tie.Need-sequence-in-requires
 unfolding withNumber body partsSize
@@ -75,15 +77,26 @@ unfolding withNumber body hasPart _or_
 is-end-verdict-sound-requires c κs =
     (refl, rw (c .before .match .keys5) at (c .before .before .before .pre))
 
-is-end-verdict-sound-requires-2 : tie.Need-is-end-verdict-sound-requires-2
-is-end-verdict-sound-requires-2 c κs = (end c .0, c .before .before .before .before .before .pre)
-
 is-packet-sound-requires : tie.Need-is-packet-sound-requires
-is-packet-sound-requires c κs = (packet c .0, c .before .before .pre)
+unfolding withNumber body partsSize
+is-packet-sound-requires c κs = omega (arith, rw (c .match .keys7) at (c .before .before .pre))
+
+is-end-verdict-sound-requires-2 : tie.Need-is-end-verdict-sound-requires-2
+unfolding withNumber body hasPart _or_
+is-end-verdict-sound-requires-2 c κs =
+    (refl, rw (c .before .match .keys7) at (c .before .before .before .pre))
+
+is-verdict-sound-requires : tie.Need-is-verdict-sound-requires
+unfolding withNumber body hasPart _or_
+is-verdict-sound-requires c κs =
+    let m = c .before .before in
+    (refl, rw (m .match .keys7) at (m .before .before .pre))
 
 returns : tie.Need-returns
 unfolding withNumber body isBodySound arePartsSound isPartSound _and_
-returns c = rw (c .match .keys1)
+returns c =
+    let a = c .before .before .args in
+    by-key (λ (n : ℕ). true ≡ isBodySound (kindOf n) (now (a .d))) (1 ∷ 10 ∷ []) refl refl (a .kind) (c .match .keys1)
 
 returns-2 : tie.Need-returns-2
 unfolding withNumber body sizeBefore sequenceFrom isBodySound arePartsSound isPartSound _and_
@@ -100,8 +113,25 @@ returns-4 c =
     rw (order .before .match .keys5, order .is-order-sound2 .ensures, c .is-end-verdict-sound .ensures, and-true)
 
 returns-5 : tie.Need-returns-5
-returns-5 c = c .is-end-verdict-sound2 .ensures ∙ end (c .before) .1
+unfolding withNumber body sizeBefore packetFrom isBodySound arePartsSound isPartSound _and_
+returns-5 c =
+    let end = c .before .is-end-verdict-sound2 in
+    let packet = c .before .before in
+    and-assoc (packet .is-packet-sound .result) (end .result) (c .is-verdict-sound .result) ∙
+    rw (
+      packet .before .match .keys7,
+      packet .is-packet-sound .ensures,
+      end .ensures,
+      c .is-verdict-sound .ensures,
+      and-true,
+    )
 
+returns-9 : tie.Need-returns-9
+unfolding _and_
+returns-9 c =
+    rw (c .before .is-packet-sound2 .ensures, c .is-verdict-sound2 .ensures) (packet (c .before .before) .2)
+
+-- those of no arm
 returns-6 : tie.Need-returns-6
 unfolding withNumber isBodySound _and_
 returns-6 c =
@@ -110,15 +140,18 @@ returns-6 c =
 
 returns-7 : tie.Need-returns-7
 unfolding isBodySound _and_
-returns-7 c = rw (beyond (c .before .before .before .before .before .args .kind) (c .if3 .left))
-
-returns-8 : tie.Need-returns-8
-returns-8 c = c .is-packet-sound .ensures ∙ packet (c .before) .1
+returns-7 c =
+    let m = c .before .before .before in
+    let a = m .before .before .args in
+    by-kind (λ (n : ℕ). false ≡ isBodySound (kindOf n) (now (a .d))) arms 10 (a .kind) (m .match .rest)
+    (c .if3 .left, λ e. rw e)
 
 pub is-body-sound-spec : {M : Type 1} → statement M
 is-body-sound-spec =
     tie.close
     (tie.spec
     sequence-in-requires is-order-sound-requires is-order-sound-requires-2 is-end-verdict-sound-requires
-    is-end-verdict-sound-requires-2 is-packet-sound-requires returns returns-2 returns-3 returns-4 returns-5 returns-6
-    returns-7 returns-8)
+    is-packet-sound-requires is-end-verdict-sound-requires-2 is-verdict-sound-requires
+    (λ c κs. (end c .0, c .before .before .pre)) (λ c κs. omega (arith, packet c .0))
+    (λ c κs. (packet (c .before) .1, c .before .before .before .pre)) returns returns-2 returns-3 returns-4 returns-5
+    returns-6 returns-7 (λ c. c .is-end-verdict-sound3 .ensures ∙ end (c .before) .1) returns-9)

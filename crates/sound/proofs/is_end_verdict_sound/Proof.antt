@@ -1,16 +1,11 @@
 -- It is read at its place. Assumes nothing.
 use native.Mathlib.Omega.{arith}
 use borrow.Author.Needs.{needs}
-use Rattle.datagram.specs.Kind.{kindOf, endVerdictPart, bodyOf}
+use Rattle.datagram.specs.Kind.{endVerdictPart}
 use Rattle.datagram.specs.Datagram.{endVerdictIn, endVerdictFrom}
 use Rattle.datagram.proofs.KindLaws.{part-room}
 use Rattle.sound.proofs.is_end_verdict_sound.Statement.{statement}
 use Rattle.sound.proofs.is_end_verdict_sound.Tie as tie
-
-u16-at-requires : tie.Need-u16-at-requires
-u16-at-requires c κs =
-    let o = c .before .before in
-    omega (arith, part-room endVerdictPart (bodyOf (kindOf (o .args .kind))) (o .pre .0))
 
 returns : tie.Need-returns
 unfolding endVerdictIn endVerdictFrom
@@ -19,4 +14,6 @@ returns c =
 
 pub is-end-verdict-sound-spec : {M : Type 1} → statement M
 is-end-verdict-sound-spec =
-    tie.close (tie.spec (λ c κs. search needs) u16-at-requires (λ c κs. search needs) returns)
+    tie.close
+    (tie.spec (λ c κs. search needs) (λ c κs. omega (arith, part-room endVerdictPart _ (c .before .before .pre .0)))
+    (λ c κs. search needs) returns)
