@@ -1,20 +1,23 @@
 -- What an accepted datagram of each kind tells: the one place that opens the table of answers. Assumes nothing.
 use Rattle.wire.proofs.Prelude.{_≡_, refl, sym, subst, _∙_, Bool, true, not, false, List, [], _∷_, Option, some, ℕ, _≤_}
-use Rattle.wire.proofs.Prelude.{_<_, arith, getD, eqb-true, ltb-false, not-false}
+use Rattle.wire.proofs.Prelude.{_<_, suc, arith, getD, eqb-true, ltb-false, not-false}
 use Rattle.wire.specs.Names.{_and_, _or_, pick, isSome, Every}
 use Rattle.wire.proofs.Laws.{or-neither}
 use Rattle.slots.specs.declared.PortChannel.{PortChannel}
 use Rattle.slots.specs.declared.Channel.{Channel}
-use Rattle.slots.specs.Names.{topChannel, stateInit, stateTryOpen, stateOpen, versionFits, hasFree, Store, isReceived}
+use Rattle.slots.specs.Names.{topChannel, stateInit, stateTryOpen, stateOpen, stateClosed, versionFits, hasFree, Store}
+use Rattle.slots.specs.Names.{isReceived}
 use Rattle.datagram.specs.Names.{only, Kind, send, receive, write, acknowledge, timeOut, openInit, openTry}
-use Rattle.datagram.specs.Names.{openAcknowledge, openConfirm, Datagram}
-use Rattle.rules.specs.Names.{moved, receivesInOrder, isReceiptThere, timesOutInOrder, isSendAtTop}
-use Rattle.rules.specs.Names.{isReceiveAtTop, isAcknowledgeAtTop, needsReceipt, isFull, neededEnd, neededInit}
-use Rattle.rules.specs.Names.{answering, neededTryOpen, neededPeer, lowest, fitsDestination, fitsSource}
-use Rattle.rules.specs.Names.{isLateAtReceiver, isProvedLate, isCommitted, commitmentDifference}
-use Rattle.rules.specs.Names.{absenceDifference, table, Line, makesEnd, endFor, isAcknowledgementThere}
-use Rattle.rules.proofs.RefusalLaws.{givenAt, silent, each-silent, not-given, no-difference}
-use Rattle.rules.proofs.VerdictLaws.{Alike, Partners, shows}
+use Rattle.datagram.specs.Names.{openAcknowledge, openConfirm, closeInit, closeConfirm, timeOutOnClose, Datagram}
+use Rattle.datagram.specs.Names.{onPacket, onEnd}
+use Rattle.rules.specs.Names.{firstEndDifference, hasVersion, moved, receivesInOrder, isReceiptThere}
+use Rattle.rules.specs.Names.{timesOutInOrder, isSendAtTop, isReceiveAtTop, isAcknowledgeAtTop, needsReceipt}
+use Rattle.rules.specs.Names.{isFull, neededEnd, neededInit, answering, neededTryOpen, neededPeer, lowest}
+use Rattle.rules.specs.Names.{fitsDestination, fitsSource, isLateAtReceiver, isProvedLate, isCommitted}
+use Rattle.rules.specs.Names.{commitmentDifference, absenceDifference, verdictNumber, table, Line, makesEnd}
+use Rattle.rules.specs.Names.{endFor, isInState, isAcknowledgementThere}
+use Rattle.rules.proofs.RefusalLaws.{givenAt, silent, each-silent, not-given, test-holds, no-difference}
+use Rattle.rules.proofs.VerdictLaws.{Alike, Partners, one-block, shows}
 
 pub record SendOk (s : Store) (c : Channel) : Type 0 where
   pub state : c .state ≡ stateOpen
@@ -40,9 +43,15 @@ pub record AcknowledgeOk (s : Store) (d : Datagram) (c : Channel) : Type 0 where
   pub committed : isCommitted (s .records) (d .packet) ≡ true
   pub below : isAcknowledgeAtTop c ≡ false
 
+-- why a packet is timed out: its timeout has passed, or its destination is CLOSED in the verdict's block
+pub data Why (d : Datagram) (c : Channel) : Type 0 where
+  byTime : isProvedLate (d .packet .timeout) (d .verdict) ≡ true → Why d c
+  byClose : d .kind ≡ some timeOutOnClose → Alike (d .endVerdict .end) (neededPeer stateClosed c) →
+      d .endVerdict .height ≡ d .verdict .height → Why d c
+
 pub record TimeoutOk (s : Store) (d : Datagram) (c : Channel) : Type 0 where
+  pub why : Why d c
   pub fits : fitsSource c (d .packet) ≡ true
-  pub late : isProvedLate (d .packet .timeout) (d .verdict) ≡ true
   pub committed : isCommitted (s .records) (d .packet) ≡ true
   pub about : absenceDifference c (d .packet) (d .verdict) ≡ 0
   pub inOrder : timesOutInOrder c (d .packet .sequence) (d .verdict .sequence) ≡ true
@@ -75,39 +84,47 @@ module _ (bs : List ℕ) (room : ℕ) (b : List ℕ) (s : Store) (d : Datagram) 
   abbrev lines : List Line
   lines = table bs room b s d c
 
-  -- from acceptance of a kind, what its lines of a number gave
-  -- what the first line of a number gave, and the second
-  abbrev quiet : (n : ℕ) (k : Kind) → lowest (some k) lines ≡ 0 → getD (givenAt n (some k) lines) 0 0 ≡ 0
-  quiet n k h = each-silent 0 (givenAt n (some k) lines) (silent n (some k) lines h)
+  -- from acceptance of a kind, what its lines of a number gave: each by its place among them, and the first
+  abbrev quiet-at : (i n : ℕ) (k : Kind) → lowest (some k) lines ≡ 0 → getD (givenAt n (some k) lines) i 0 ≡ 0
+  quiet-at i n k h = each-silent i (givenAt n (some k) lines) (silent n (some k) lines h)
 
-  abbrev quiet-then : (n : ℕ) (k : Kind) → lowest (some k) lines ≡ 0 → getD (givenAt n (some k) lines) 1 0 ≡ 0
-  quiet-then n k h = each-silent 1 (givenAt n (some k) lines) (silent n (some k) lines h)
+  abbrev quiet : (n : ℕ) (k : Kind) → lowest (some k) lines ≡ 0 → getD (givenAt n (some k) lines) 0 0 ≡ 0
+  quiet n k h = quiet-at 0 n k h
+
+  -- the state that a line asks for
+  in-state : (n m : ℕ) → pick (not (isInState n c)) (suc m) 0 ≡ 0 → c .state ≡ n
+  in-state n m h = eqb-true (c .state) n (test-holds _ m h)
+
+  -- the end verdict shows the record that it asks for
+  shows-needed : (e : Channel) → verdictNumber (firstEndDifference (d .endVerdict) e) ≡ 0 →
+      pick {A = ℕ} (not (hasVersion (d .endVerdict) e)) 27 0 ≡ 0 → Alike (d .endVerdict .end) e
+  shows-needed e h v = shows (d .endVerdict) e (no-difference _ h) (test-holds _ 26 v)
 
   -- a datagram that makes no end is about one that is there
   pub end-there : (k : Option Kind) → lowest k lines ≡ 0 → makesEnd k ≡ false → isSome (endFor s d) ≡ true
   unfolding givenAt table
   end-there k h n =
       let given : Bool → List ℕ = λ b. pick (not b) (pick (not (isSome (endFor s d))) 5 0 ∷ []) [] in
-      not-false _ (not-given _ 4 ((subst (λ (b : Bool). Every (λ m. m ≡ 0) (given b)) n (silent 5 k lines h)) .0))
+      test-holds _ 4 ((subst (λ (b : Bool). Every (λ m. m ≡ 0) (given b)) n (silent 5 k lines h)) .0)
 
   pub send-ok : lowest (some send) lines ≡ 0 → SendOk s c
   unfolding givenAt table only _or_
   send-ok h =
       record {
-        state = eqb-true (c .state) stateOpen (not-false _ (not-given _ 5 (quiet 6 send h)));
+        state = in-state stateOpen 5 (quiet 6 send h);
         below = not-given _ 18 (quiet 19 send h);
-        room = not-false (hasFree (s .records)) (not-given _ 19 (quiet 20 send h));
+        room = test-holds (hasFree (s .records)) 19 (quiet 20 send h);
       }
 
   pub receive-ok : lowest (some receive) lines ≡ 0 → ReceiveOk s d c
   unfolding givenAt table only _or_
   receive-ok h =
       record {
-        state = eqb-true (c .state) stateOpen (not-false _ (not-given _ 5 (quiet 6 receive h)));
-        fits = not-false _ (not-given _ 8 (quiet 9 receive h));
+        state = in-state stateOpen 5 (quiet 6 receive h);
+        fits = test-holds _ 8 (quiet 9 receive h);
         early = not-given _ 10 (quiet 11 receive h);
         about = no-difference _ (quiet 14 receive h);
-        inOrder = not-false _ (not-given _ 14 (quiet 15 receive h));
+        inOrder = test-holds _ 14 (quiet 15 receive h);
         new = not-given _ 15 (quiet 16 receive h);
         below = not-given _ 18 (quiet 19 receive h);
         room = not-given _ 19 (quiet 20 receive h);
@@ -118,40 +135,57 @@ module _ (bs : List ℕ) (room : ℕ) (b : List ℕ) (s : Store) (d : Datagram) 
   write-ok h =
       record {
         new = not-given _ 15 (quiet 16 write h);
-        received = not-false _ (not-given _ 16 (quiet 17 write h));
-        room = not-false (hasFree (s .records)) (not-given _ 19 (quiet 20 write h));
+        received = test-holds _ 16 (quiet 17 write h);
+        room = test-holds (hasFree (s .records)) 19 (quiet 20 write h);
       }
 
   pub acknowledge-ok : lowest (some acknowledge) lines ≡ 0 → AcknowledgeOk s d c
   unfolding givenAt table only _or_
   acknowledge-ok h =
       record {
-        committed = not-false _ (not-given _ 12 (quiet 13 acknowledge h));
+        committed = test-holds _ 12 (quiet 13 acknowledge h);
         below = not-given _ 18 (quiet 19 acknowledge h);
+      }
+
+  -- what both time-outs ask for
+  timed-out : Why d c → pick {A = ℕ} (not (fitsSource c (d .packet))) 9 0 ≡ 0 →
+      pick {A = ℕ} (not (isCommitted (s .records) (d .packet))) 13 0 ≡ 0 →
+      verdictNumber (absenceDifference c (d .packet) (d .verdict)) ≡ 0 →
+      pick {A = ℕ} (not (timesOutInOrder c (d .packet .sequence) (d .verdict .sequence))) 15 0 ≡ 0 →
+      TimeoutOk s d c
+  timed-out w f k a o =
+      record {
+        why = w;
+        fits = test-holds _ 8 f;
+        committed = test-holds _ 12 k;
+        about = no-difference _ a;
+        inOrder = test-holds _ 14 o;
       }
 
   pub timeout-ok : lowest (some timeOut) lines ≡ 0 → TimeoutOk s d c
   unfolding givenAt table only _or_
   timeout-ok h =
-      record {
-        fits = not-false _ (not-given _ 8 (quiet 9 timeOut h));
-        late = not-false _ (not-given _ 11 (quiet 12 timeOut h));
-        committed = not-false _ (not-given _ 12 (quiet 13 timeOut h));
-        about = no-difference _ (quiet 14 timeOut h);
-        inOrder = not-false _ (not-given _ 14 (quiet 15 timeOut h));
-      }
+      timed-out (byTime (test-holds _ 11 (quiet 12 timeOut h))) (quiet 9 timeOut h) (quiet 13 timeOut h)
+      (quiet 14 timeOut h) (quiet 15 timeOut h)
+
+  pub timeout-on-close-ok : d .kind ≡ some timeOutOnClose → lowest (some timeOutOnClose) lines ≡ 0 → TimeoutOk s d c
+  unfolding givenAt table only _or_
+  timeout-on-close-ok e h =
+      let shut = shows-needed (neededPeer stateClosed c) (quiet 14 timeOutOnClose h) (quiet 27 timeOutOnClose h) in
+      let block = one-block (onEnd (d .endVerdict)) (onPacket (d .verdict))
+      (no-difference _ (quiet-at 2 14 timeOutOnClose h)) in
+      timed-out (byClose e shut block) (quiet 9 timeOutOnClose h) (quiet 13 timeOutOnClose h)
+      (quiet-at 1 14 timeOutOnClose h) (quiet 15 timeOutOnClose h)
 
   pub init-ok : lowest (some openInit) lines ≡ 0 → MakeOk s d
   unfolding givenAt table only _or_
-  init-ok h =
-      not-full s d (not-given _ 24 (quiet 25 openInit h)) (not-false _ (not-given _ 26 (quiet 27 openInit h)))
+  init-ok h = not-full s d (not-given _ 24 (quiet 25 openInit h)) (test-holds _ 26 (quiet 27 openInit h))
 
   pub try-ok : lowest (some openTry) lines ≡ 0 → MakeOk s d × Alike (d .endVerdict .end) (neededInit d)
   unfolding givenAt table only _or_
   try-ok h = (
-    not-full s d (not-given _ 24 (quiet 25 openTry h)) (not-false _ (not-given _ 26 (quiet 27 openTry h))),
-    shows (d .endVerdict) (neededInit d) (no-difference _ (quiet 14 openTry h))
-        (not-false _ (not-given _ 26 (quiet-then 27 openTry h))),
+    not-full s d (not-given _ 24 (quiet 25 openTry h)) (test-holds _ 26 (quiet 27 openTry h)),
+    shows-needed (neededInit d) (quiet 14 openTry h) (quiet-at 1 27 openTry h),
   )
 
   -- the record that a verdict must show for an end to open is its partner's
@@ -169,25 +203,36 @@ module _ (bs : List ℕ) (room : ℕ) (b : List ℕ) (s : Store) (d : Datagram) 
   pub open-acknowledge-ok : lowest (some openAcknowledge) lines ≡ 0 → OpenOk d c (answering c d)
   unfolding givenAt table only _or_ neededTryOpen answering
   open-acknowledge-ok h =
-      let k = eqb-true (c .state) stateInit (not-false _ (not-given _ 25 (quiet 26 openAcknowledge h))) in
+      let k = in-state stateInit 25 (quiet 26 openAcknowledge h) in
       record {
         unopened = omega arith;
         port = refl;
         known = λ n. absurd (n k);
         partner = shows-partner stateTryOpen (answering c d) (λ q. omega arith)
-            (shows (d .endVerdict) (neededTryOpen c d) (no-difference _ (quiet 14 openAcknowledge h))
-            (not-false _ (not-given _ 26 (quiet 27 openAcknowledge h))));
+            (shows-needed (neededTryOpen c d) (quiet 14 openAcknowledge h) (quiet 27 openAcknowledge h));
       }
 
   pub open-confirm-ok : lowest (some openConfirm) lines ≡ 0 → OpenOk d c (c .counterparty)
   unfolding givenAt table only _or_ neededPeer
   open-confirm-ok h =
-      let k = eqb-true (c .state) stateTryOpen (not-false _ (not-given _ 25 (quiet 26 openConfirm h))) in
+      let k = in-state stateTryOpen 25 (quiet 26 openConfirm h) in
       record {
         unopened = omega arith;
         port = refl;
         known = λ n. refl;
         partner = shows-partner stateOpen (c .counterparty) (λ q. omega arith)
-            (shows (d .endVerdict) (neededPeer stateOpen c) (no-difference _ (quiet 14 openConfirm h))
-            (not-false _ (not-given _ 26 (quiet 27 openConfirm h))));
+            (shows-needed (neededPeer stateOpen c) (quiet 14 openConfirm h) (quiet 27 openConfirm h));
       }
+
+  -- an end that closes was OPEN
+  pub close-init-ok : lowest (some closeInit) lines ≡ 0 → c .state ≡ stateOpen
+  unfolding givenAt table only _or_
+  close-init-ok h = in-state stateOpen 25 (quiet 26 closeInit h)
+
+  pub close-confirm-ok : lowest (some closeConfirm) lines ≡ 0 →
+      (c .state ≡ stateOpen) × Alike (d .endVerdict .end) (neededPeer stateClosed c)
+  unfolding givenAt table only _or_
+  close-confirm-ok h = (
+    in-state stateOpen 25 (quiet 26 closeConfirm h),
+    shows-needed (neededPeer stateClosed c) (quiet 14 closeConfirm h) (quiet 27 closeConfirm h),
+  )

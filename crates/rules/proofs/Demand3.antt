@@ -6,11 +6,11 @@ use Rattle.slots.specs.declared.Channel.{Channel}
 use Rattle.slots.specs.Names.{storeIn}
 use Rattle.datagram.specs.Names.{only, Kind, Datagram, framed, madeKind}
 use Rattle.rules.specs.declared.Told.{Told}
-use Rattle.rules.specs.Names.{newEnd, makesEnd, opensEnd, orNone, refusals, sentPacket, makes, moves, effectOf}
+use Rattle.rules.specs.Names.{newEnd, makesEnd, orNone, refusals, sentPacket, makes, moves, effectOf}
 use Rattle.rules.specs.Names.{effectFor, answerTo, effectIn, called, Call, datagramGot, Met, endOf, Recorded}
 use Rattle.rules.specs.Names.{Answered, Demand3Holds}
 use Rattle.rules.proofs.RefusalLaws.{lowest-zero}
-use Rattle.rules.proofs.KindLaws.{those, of-kinds, packets-record, recordOf}
+use Rattle.rules.proofs.KindLaws.{of-kinds, movesEnd, packets-record, recordOf}
 use Rattle.rules.proofs.Acted.{accepted-store, accepted-size, accepted-record, accepted-rest, refused-call}
 use Rattle.rules.proofs.Acted.{acted, acted-sent, acted-carried}
 use Rattle.rules.proofs.History.{World, got-bytes}
@@ -18,6 +18,7 @@ use Rattle.rules.proofs.Sums.{sums}
 use Rattle.rules.proofs.Once.{finished-once}
 use Rattle.rules.proofs.Ends.{ends-stay, numbers-rise}
 use Rattle.rules.proofs.Tries.{tries-answer}
+use Rattle.rules.proofs.Closes.{closes-answer}
 use Rattle.rules.proofs.Pairing.{stay-paired, opens-once}
 use Rattle.rules.proofs.Delivery.{delivered-once, in-order}
 use Rattle.rules.proofs.Truth.{as-sent}
@@ -29,7 +30,7 @@ unfolding called
 number bs o b = cases (eqb (answerTo bs o b) 0) (λ e. let q = eqb-true (answerTo bs o b) 0 e in cc) (λ e. cc)
 
 recorded : (c : Call) (m : Met c) → Bytes (c .store) → Bytes (c .datagram) → c .told .number ≡ 0 → Recorded c
-unfolding effectIn effectFor effectOf makes moves newEnd those only _or_
+unfolding effectIn effectFor effectOf makes moves newEnd only _or_
 recorded c m p q t =
     let a = acted c m p q t in
     let d : Datagram = datagramGot c in
@@ -37,14 +38,15 @@ recorded c m p q t =
     let e = accepted-record c m t in
     record {
       kind = λ k h o. a .kind ∙ ap recordOf h ∙ packets-record k o;
+      timedOut = λ k. a .kind ∙ ap recordOf k;
       sent = λ k. acted-sent a k ∙ ap (λ (e : Channel). sentPacket e d)
           (sym (ap orNone (a .step .found (ap makesEnd k))));
       carried = acted-carried a;
       written = λ k. e ∙ ap (λ (x : Option Kind). effectFor x n (endOf c) d .emitted) k;
       made = λ k. e ∙ of-kinds (λ x. effectFor x n (endOf c) d .emitted ≡
           framed madeKind (little 2 (d .context .port) ++ little 4 n)) makesEnd refl (d .kind) (refl, (refl, tt)) k;
-      nothing = λ k. e ∙ of-kinds (λ x. effectFor x n (endOf c) d .emitted ≡ []) opensEnd refl (d .kind)
-          (refl, (refl, tt)) k;
+      nothing = λ k. e ∙ of-kinds (λ x. effectFor x n (endOf c) d .emitted ≡ []) movesEnd refl (d .kind)
+          (refl, (refl, (refl, (refl, tt)))) k;
     }
 
 answered : (c : Call) → Met c → Bytes (c .store) → Bytes (c .datagram) → Answered c
@@ -75,6 +77,7 @@ demand3 start cs made run =
       endsStay = ends-stay w;
       numbersRise = numbers-rise w;
       triesAnswer = tries-answer w;
+      closesAnswer = closes-answer w;
       stayPaired = stay-paired w;
       opensOnce = opens-once w;
       deliveredOnce = delivered-once w;

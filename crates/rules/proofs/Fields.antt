@@ -20,11 +20,12 @@ use Rattle.rules.specs.Names.{acknowledgedEnd, timedOutEnd, isSendAtTop,
 use Rattle.rules.specs.Names.{closed, newEnd, portOnly, makesEnd, sentPacket, commitment, sends, receives}
 use Rattle.rules.specs.Names.{writesAcknowledgement, acknowledges, timesOut, makes, moves, placed, numberAfter}
 use Rattle.rules.specs.Names.{edited, applied, EndEdit, leaves, puts, adds, Effect}
-use Rattle.rules.proofs.KindLaws.{opens-old}
+use Rattle.rules.proofs.KindLaws.{finishes-old, moves-old, record-timed-out}
 use Rattle.rules.proofs.OrderingLaws.{receive-below, acknowledge-below}
 use Rattle.rules.proofs.Accepted.{MakeOk}
-use Rattle.rules.proofs.Step.{Makes, initiating, trying, How, sending, receiving, writing, acknowledging, timing}
-use Rattle.rules.proofs.Step.{making, moving, Step, Turns, standing, growing, joining, turns}
+use Rattle.rules.proofs.Step.{Makes, initiating, trying, toOpen, toClosed, How, sending, receiving, writing}
+use Rattle.rules.proofs.Step.{acknowledging, timing, making, moving, Step, Turns, standing, growing, joining}
+use Rattle.rules.proofs.Step.{turns}
 use Rattle.rules.proofs.Records.{New, commits, receipts, acknowledgements, Legal, keeping, adding, freeing}
 use Rattle.rules.proofs.Records.{legal}
 
@@ -160,13 +161,15 @@ module _ {s t : Store} (b : List ℕ) (st : Step s (datagramIn b) t) (fields : S
         acknowledge = raised (c .next .acknowledge) (h .next .acknowledge) (acknowledge-below c q (ok .below));
       })) (λ q. h)
   end-fields (timing k ok) =
-      let h = channel-fields (ap makesEnd k) in
+      let h = channel-fields (finishes-old (d .kind) (record-timed-out (d .kind) k)) in
       of-pick ChannelFields (isOrdered c) (closed c) c (λ q. moved-fields stateClosed (omega arith) (h .counterparty) h)
       (λ q. h)
   end-fields (making k ok m) = made-fields ok m
-  end-fields (moving k ok) =
+  end-fields (moving k (toOpen o ok)) =
       moved-fields stateOpen (omega arith) (subst PortChannelFields (ok .partner .peers .own) shown-fields)
-      (channel-fields (opens-old (d .kind) k))
+      (channel-fields (moves-old (d .kind) k))
+  end-fields (moving k (toClosed o f)) =
+      let h = channel-fields (moves-old (d .kind) k) in moved-fields stateClosed (omega arith) (h .counterparty) h
 
   new-fields : (e : Channel) (r : Record) → New s d c e r → RecordFields r
   unfolding commitment sentPacket body hasPart only _or_

@@ -19,11 +19,13 @@ pub mod Once
 pub mod Ends
 pub mod Block
 pub mod Tries
+pub mod Closes
 pub mod Pairing
 pub mod Delivery
 pub mod Truth
 pub mod Timeouts
 pub mod HonestLaws
+pub mod Facts
 pub mod CaseLaws
 pub mod Demand3
 pub mod Stays

@@ -12,12 +12,13 @@ use Rattle.slots.specs.Names.{stateTryOpen, stateOpen, channelAt, commitmentKey
 use Rattle.datagram.specs.Names.{only, openTry, Datagram}
 use Rattle.rules.specs.Names.{newEnd, neededEnd, neededInit, opensEnd, writesAcknowledgement, makes, moves}
 use Rattle.rules.specs.Names.{Effect}
-use Rattle.rules.proofs.KindLaws.{finishesPacket, finishes-old}
+use Rattle.rules.proofs.KindLaws.{finishesPacket, finishes-old, record-timed-out}
 use Rattle.rules.proofs.VerdictLaws.{Partners, Begins}
 use Rattle.rules.proofs.Growth.{Grown, grown-refl}
-use Rattle.rules.proofs.Step.{Makes, initiating, trying, How, sending, receiving, writing, acknowledging, timing}
-use Rattle.rules.proofs.Step.{making, moving, Step, makes-fresh, endLeft, Change, unchanged, changed, added}
-use Rattle.rules.proofs.Step.{later-some, leftEnd, own-found, own-grown, change, later}
+use Rattle.rules.proofs.Step.{Makes, initiating, trying, toOpen, toClosed, How, sending, receiving, writing}
+use Rattle.rules.proofs.Step.{acknowledging, timing, making, moving, Step, makes-fresh, endLeft, Change}
+use Rattle.rules.proofs.Step.{unchanged, changed, added, later-some, leftEnd, own-found, own-grown, change}
+use Rattle.rules.proofs.Step.{later}
 use Rattle.rules.proofs.Commitment.{stems, sent-found, finish-source, finish-needs}
 
 -- COMMITMENTS stand on ends that have opened
@@ -84,9 +85,10 @@ module _ {s t : Store} {d : Datagram} (st : Step s d t) where
   opening o e (receiving k ok) l u = let q = ok .state in absurd (omega arith)
   opening o e (writing k ok) l u = absurd (omega arith)
   opening o e (acknowledging k ok) l u = let q = finish-opened o (ap finishesPacket k) in absurd (omega arith)
-  opening o e (timing k ok) l u = let q = finish-opened o (ap finishesPacket k) in absurd (omega arith)
+  opening o e (timing k ok) l u = let q = finish-opened o (record-timed-out (d .kind) k) in absurd (omega arith)
   opening o e (making k ok m) l u = absurd (omega arith)
-  opening o e (moving k ok) l u = record { kind = k; partner = ok .partner }
+  opening o e (moving k (toOpen q ok)) l u = record { kind = q; partner = ok .partner }
+  opening o e (moving k (toClosed q f)) l u = absurd (omega arith)
 
   pub opened-by : Sending s → (n : ℕ) (e : Channel) → channelAt n (t .channels) ≡ some e → stateOpen ≤ e .state →
       Was (λ c. stateOpen ≤ c .state) n e ⊎ Opens e

@@ -1,7 +1,6 @@
 -- With paired openings and true verdicts of the steps by which ends open, each end that has opened names an end that
 -- names it, and two that name one end are one. Pairing is used here and nowhere else. Assumes nothing.
 use Rattle.wire.proofs.Prelude.{_≡_, refl, sym, ap, _∙_, true, inl, inr, ⊎-elim, some, ℕ, _≤_, suc, arith, leb-true}
-use Rattle.wire.proofs.Prelude.{eq-eqb}
 use Rattle.wire.specs.Names.{_or_}
 use Rattle.slots.specs.declared.PortChannel.{PortChannel}
 use Rattle.slots.specs.declared.Channel.{Channel}
@@ -11,7 +10,7 @@ use Rattle.openings.specs.Opening.{openingOf}
 use Rattle.datagram.specs.Names.{only, body, hasPart, endVerdictPart, bodyOf}
 use Rattle.rules.specs.Names.{opensEnd, fold, Side, across, datagramGot, Paired, StayPaired, OpensOnce, Honest}
 use Rattle.rules.specs.Names.{NoneIsPaired}
-use Rattle.rules.proofs.KindLaws.{those, of-kinds}
+use Rattle.rules.proofs.KindLaws.{of-kinds}
 use Rattle.rules.proofs.VerdictLaws.{Partners, partners-one, one-refl}
 use Rattle.rules.proofs.Growth.{Grown, grown-one, grown-begun}
 use Rattle.rules.proofs.Opening.{Opens, opened-by}
@@ -67,14 +66,11 @@ module _ (w : World) where
 
     -- as the step's verdict shows it
     partner-shown : (z : Side) (i : ℕ) (u : Turn w z i) (c : Channel) → Opens (u .acts .acted .step) c → Partner z i c
-    unfolding those body hasPart only _or_
+    unfolding body hasPart only _or_
     partner-shown z i u c o =
-        let a = u .acts in
-        let d = datagramGot (u .call) in
         let p = o .partner in
-        let x = seen w z i u (honest i (u .call) (a .at) (eq-eqb (u .call .told .number) 0 (a .told)) (o .kind))
-        (of-kinds (λ y. hasPart endVerdictPart (bodyOf y) ≡ true) opensEnd refl (d .kind) (refl, (refl, tt))
-        (o .kind)) in
+        let x = seen w opensEnd honest z i u (o .kind) (of-kinds (λ y. hasPart endVerdictPart (bodyOf y) ≡ true)
+        opensEnd refl (datagramGot (u .call) .kind) (refl, (refl, tt)) (o .kind)) in
         partner-later z (x .time) i c (x .earlier) (record {
           end = x .end;
           found =

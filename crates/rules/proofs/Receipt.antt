@@ -8,16 +8,17 @@ use Rattle.slots.specs.declared.Channel.{Channel}
 use Rattle.slots.specs.declared.Record.{Record}
 use Rattle.slots.specs.Names.{orderOrdered, hasFree, channelAt, receiptKey, Store, isOrdered, isReceived}
 use Rattle.slots.proofs.Laws.{channel-number}
-use Rattle.datagram.specs.Names.{only, send, receive, write, acknowledge, timeOut, Datagram}
+use Rattle.datagram.specs.Names.{only, send, receive, write, acknowledge, Datagram, timedOutKind}
 use Rattle.datagram.proofs.Laws.{kinds-apart}
 use Rattle.rules.specs.Names.{counted, moved, receivedEnd, receivedEdit, raisesAcknowledge, acknowledgedEnd}
-use Rattle.rules.specs.Names.{timedOutEnd, raisedAcknowledge, closed, makesEnd, opensEnd, sends, receives}
+use Rattle.rules.specs.Names.{timedOutEnd, raisedAcknowledge, closed, makesEnd, sends, receives}
 use Rattle.rules.specs.Names.{writesAcknowledgement, acknowledges, timesOut, makes, moves, edited, Effect}
+use Rattle.rules.proofs.KindLaws.{movesEnd, emitsRecord}
 use Rattle.rules.proofs.Accepted.{ReceiveOk}
 use Rattle.rules.proofs.Growth.{Grown}
-use Rattle.rules.proofs.Step.{How, sending, receiving, writing, acknowledging, timing, making, moving, Step}
-use Rattle.rules.proofs.Step.{makes-fresh, endLeft, Change, unchanged, changed, added, later-some, leftEnd}
-use Rattle.rules.proofs.Step.{own-number, own-found, own-grown, own-after, change, later}
+use Rattle.rules.proofs.Step.{toOpen, toClosed, How, sending, receiving, writing, acknowledging, timing, making}
+use Rattle.rules.proofs.Step.{moving, Step, makes-fresh, endLeft, Change, unchanged, changed, added, later-some}
+use Rattle.rules.proofs.Step.{leftEnd, own-number, own-found, own-grown, own-after, change, later}
 use Rattle.rules.proofs.Records.{single, records-left, record-stays}
 use Rattle.rules.proofs.OrderingLaws as ordering
 
@@ -50,9 +51,9 @@ module _ {s t : Store} {d : Datagram} (st : Step s d t) (k : d .kind ≡ some re
       go e (receiving q ok) = (ok, refl)
       go e (writing q ok) = kinds-apart write receive q k refl
       go e (acknowledging q ok) = kinds-apart acknowledge receive q k refl
-      go e (timing q ok) = kinds-apart timeOut receive q k refl
+      go e (timing q ok) = clash q (ap (emitsRecord timedOutKind) k)
       go e (making q ok m) = clash q (ap makesEnd k)
-      go e (moving q ok) = clash q (ap opensEnd k)
+      go e (moving q m) = clash q (ap movesEnd k)
 
   receive-old : makesEnd (d .kind) ≡ false
   unfolding only _or_
@@ -114,7 +115,8 @@ receive-kept {c = c} (acknowledging q ok) k =
 receive-kept {c = c} (timing q ok) k =
     of-pick (λ (x : Channel). x .next .receive ≡ c .next .receive) (isOrdered c) (closed c) c (λ q. refl) (λ q. refl)
 receive-kept {c = c} (making q ok m) k = refl
-receive-kept {c = c} (moving q ok) k = refl
+receive-kept {c = c} (moving q (toOpen o ok)) k = refl
+receive-kept {c = c} (moving q (toClosed o f)) k = refl
 
 -- an end is ordered if it was
 still-ordered : {c e : Channel} → Grown c e → isOrdered e ≡ true → isOrdered c ≡ true

@@ -13,7 +13,7 @@ use Rattle.rules.specs.Names.{plainRecord, counted, raisesReceive, recei
 use Rattle.rules.specs.Names.{frees, isCommitted, makesEnd, sentPacket, commitment, sends, receives}
 use Rattle.rules.specs.Names.{writesAcknowledgement, acknowledges, timesOut, makes, moves, edited, applied}
 use Rattle.rules.specs.Names.{Effect}
-use Rattle.rules.proofs.KindLaws.{finishesPacket, finishes-old}
+use Rattle.rules.proofs.KindLaws.{finishesPacket, finishes-old, record-timed-out}
 use Rattle.rules.proofs.VerdictLaws.{has-values}
 use Rattle.rules.proofs.OrderingLaws.{receive-room, receive-absent, receipt-unordered}
 use Rattle.rules.proofs.Step.{How, sending, receiving, writing, acknowledging, timing, making, moving, Step}
@@ -74,9 +74,9 @@ legal-of {s} {d} {c} f h w (acknowledging k ok) =
     (rw (w (ap finishesPacket k)) (committed-there (s .records) (d .packet) (ok .committed)))
 legal-of {s} {d} {c} f h w (timing k ok) =
     freeing {n = c .own .channel} {m = d .packet .sequence}
-    (rw (w (ap finishesPacket k)) (committed-there (s .records) (d .packet) (ok .committed)))
+    (rw (w (record-timed-out (d .kind) k)) (committed-there (s .records) (d .packet) (ok .committed)))
 legal-of f h w (making k ok m) = keeping
-legal-of f h w (moving k ok) = keeping
+legal-of f h w (moving k m) = keeping
 
 module _ {s t : Store} {d : Datagram} (st : Step s d t) where
   pub single : Single (s .records)

@@ -1,25 +1,30 @@
 -- Demand 3 under true verdicts: no packet is both delivered and timed out. Assumes nothing.
-use Rattle.wire.proofs.Prelude.{_≡_, refl, sym, ap, subst, subst₂, _∙_, subst₃, true, false, inr, ⊎-elim, some, ℕ, _≤_}
-use Rattle.wire.proofs.Prelude.{_<_, suc, arith, leb, leb-true, leb-false, le-leb}
-use Rattle.wire.specs.Names.{_or_}
+use Rattle.wire.proofs.Prelude.{_≡_, refl, sym, ap, subst, subst₂, _∙_, subst₃, true, false, ⊎-elim, some, ℕ, _≤_, _<_}
+use Rattle.wire.proofs.Prelude.{suc, arith, ltb, leb, ltb-true, leb-true, leb-false, ltb-false, le-leb}
+use Rattle.wire.specs.Names.{_or_, Every}
 use Rattle.wire.proofs.Laws.{and-both, both-and, or-either, or-neither, clash, cases}
 use Rattle.slots.specs.declared.PortChannel.{PortChannel}
+use Rattle.slots.specs.declared.OtherHeight.{OtherHeight}
 use Rattle.slots.specs.declared.Timeout.{Timeout}
 use Rattle.slots.specs.declared.Record.{Record}
-use Rattle.slots.specs.Names.{isPast, UpToOther, BelowOther, channelAt, commitmentKey, lookup, Store, isReceived}
+use Rattle.slots.specs.Names.{stateClosed, isPast, UpToOther, BelowOther, channelAt, commitmentKey, lookup, Store}
+use Rattle.slots.specs.Names.{isReceived}
 use Rattle.slots.proofs.Laws.{channel-number}
 use Rattle.datagram.specs.declared.Packet.{Packet}
 use Rattle.datagram.specs.declared.Verdict.{Verdict}
-use Rattle.datagram.specs.Names.{body, hasPart, Kind, only, verdictPart, bodyOf, Datagram, onPacket, timedOutKind}
-use Rattle.rules.specs.Names.{claimHolds, fitsSource, isLateAtReceiver, isProvedLate, isCommitted}
-use Rattle.rules.specs.Names.{absenceDifference, Effect, Side, across, Call, datagramGot, Paired, packetOf}
-use Rattle.rules.specs.Names.{heightOf, timeOf, AcceptedOn, TrueVerdict, Honest, NotBoth}
-use Rattle.rules.proofs.KindLaws.{those, of-kinds, finishesPacket, finishes-old, emitsRecord, makes-no-packet}
-use Rattle.rules.proofs.KindLaws.{opens-no-packet, finishes-carries, record-finished, arriving, settling}
+use Rattle.datagram.specs.declared.EndVerdict.{EndVerdict}
+use Rattle.datagram.specs.Names.{body, hasPart, Kind, timeOutOnClose, only, verdictPart, bodyOf, Datagram, AnyVerdict}
+use Rattle.datagram.specs.Names.{onPacket, onEnd, blockHeight, timedOutKind}
+use Rattle.datagram.proofs.Laws.{packet-verdict, end-verdict}
+use Rattle.rules.specs.Names.{claimHolds, neededEnd, neededPeer, fitsSource, isLateAtReceiver, isProvedLate}
+use Rattle.rules.specs.Names.{isCommitted, absenceDifference, Effect, Side, across, Call, datagramGot, Paired}
+use Rattle.rules.specs.Names.{packetOf, verdictsGot, heightOf, timeOf, AcceptedOn, TrueVerdict, Honest, NotBoth}
+use Rattle.rules.proofs.KindLaws.{of-kinds, finishesPacket, finishes-old, emitsRecord, makes-no-packet}
+use Rattle.rules.proofs.KindLaws.{moves-no-packet, finishes-carries, record-timed-out, arriving, settling}
 use Rattle.rules.proofs.KindLaws.{arriving-settling}
-use Rattle.rules.proofs.VerdictLaws.{Has, has-values, same-port-channel}
+use Rattle.rules.proofs.VerdictLaws.{Has, has-values, Alike, same-port-channel, claim-end}
 use Rattle.rules.proofs.OrderingLaws.{absent-not-received}
-use Rattle.rules.proofs.Accepted.{TimeoutOk}
+use Rattle.rules.proofs.Accepted.{Why, byTime, byClose, TimeoutOk}
 use Rattle.rules.proofs.Step.{How, sending, receiving, writing, acknowledging, timing, making, moving, Step}
 use Rattle.rules.proofs.Step.{own-found}
 use Rattle.rules.proofs.Commitment.{committed-used, finish-source}
@@ -29,9 +34,9 @@ use Rattle.rules.proofs.Acted.{acted-carried}
 use Rattle.rules.proofs.History.{across-across, World, ledger, ledger-fits, used-back}
 use Rattle.rules.proofs.Once.{Did, did, delivery-sender, finish-sender}
 use Rattle.rules.proofs.Ends.{either, grows-into, sends-opened}
-use Rattle.rules.proofs.Block.{Within, within}
+use Rattle.rules.proofs.Block.{Within, within, truth}
 use Rattle.rules.proofs.Delivery.{Delivered, delivered, received-since}
-use Rattle.rules.proofs.Truth.{truth, claimed, source-end}
+use Rattle.rules.proofs.Truth.{claimed, source-end}
 
 -- what passed by then has passed later too
 still-past : (l n m : ℕ) → n ≤ m → isPast l n ≡ true → isPast l m ≡ true
@@ -65,7 +70,7 @@ timeout-of {s} {d = d} st h = go (st .effect) (st .how)
     go e (acknowledging k ok) = absurd (not-so k refl)
     go e (timing k ok) = ok
     go e (making k ok m) = clash h (makes-no-packet (d .kind) k .3)
-    go e (moving k ok) = clash h (opens-no-packet (d .kind) k .3)
+    go e (moving k m) = clash h (moves-no-packet (d .kind) k .3)
 
 module _ (w : World) where
   -- the commitment of a channel and sequence is one record
@@ -95,6 +100,9 @@ module _ (w : World) (honest : Honest settling (w .start) (w .calls)) (pairs : P
   abbrev v : Verdict
   v = datagramGot e .verdict
 
+  abbrev u : EndVerdict
+  u = datagramGot e .endVerdict
+
   abbrev st : Step (ledger w (e .side) j) (datagramGot e) (ledger w (e .side) (suc j))
   st = f .acts .acted .step
 
@@ -102,7 +110,7 @@ module _ (w : World) (honest : Honest settling (w .start) (w .calls)) (pairs : P
   ok = timeout-of st (f .emits)
 
   finishes-it : finishesPacket (datagramGot e .kind) ≡ true
-  finishes-it = record-finished (datagramGot e .kind) (inr (f .emits))
+  finishes-it = record-timed-out (datagramGot e .kind) (f .emits)
 
   e-packet : packetOf e ≡ p
   e-packet = acted-carried (f .acts .acted) (finishes-carries (datagramGot e .kind) finishes-it)
@@ -144,18 +152,29 @@ module _ (w : World) (honest : Honest settling (w .start) (w .calls)) (pairs : P
   unfolding fitsSource
   to = same-port-channel _ _ (and-both (ok .fits) .1) ∙ sent-from .0
 
-  truth-here : TrueVerdict (w .start) (w .calls) j (c .side) (onPacket v)
-  unfolding those body hasPart only _or_
-  truth-here =
-      subst (λ (y : Side). TrueVerdict (w .start) (w .calls) j y (onPacket v))
+  truths : Every (TrueVerdict (w .start) (w .calls) j (c .side)) (verdictsGot e)
+  unfolding only _or_
+  truths =
+      subst (λ (y : Side). Every (TrueVerdict (w .start) (w .calls) j y) (verdictsGot e))
       (ap across across-is ∙ across-across (c .side))
-      (truth w settling honest (e .side) j e (f .acts) (of-kinds (λ y. settling y ≡ true) (emitsRecord timedOutKind)
-      refl (datagramGot e .kind) (refl, tt) (f .emits)) (of-kinds (λ y. hasPart verdictPart (bodyOf y) ≡ true)
-      (emitsRecord timedOutKind) refl (datagramGot e .kind) (refl, tt) (f .emits)))
+      (truth w settling honest j e (f .acts) (of-kinds (λ y. settling y ≡ true) (emitsRecord timedOutKind)
+      refl (datagramGot e .kind) (refl, (refl, tt)) (f .emits)))
 
-  -- the store of the verdict's block
+  truth-here : TrueVerdict (w .start) (w .calls) j (c .side) (onPacket v)
+  unfolding body hasPart _or_
+  truth-here =
+      packet-verdict _ (datagramGot e) (of-kinds (λ y. hasPart verdictPart (bodyOf y) ≡ true)
+      (emitsRecord timedOutKind) refl (datagramGot e .kind) (refl, (refl, tt)) (f .emits)) truths
+
+  -- the store of the verdict's block: what a verdict of that block claims holds there
   abbrev b : Within w (c .side) (v .height)
   b = within w (c .side) (v .height)
+
+  holds-then : (a : AnyVerdict) → TrueVerdict (w .start) (w .calls) j (c .side) a → blockHeight a ≡ v .height →
+      claimHolds a (ledger w (c .side) (b .time)) ≡ true
+  holds-then a t q =
+      subst (λ (h : OtherHeight). claimHolds a (ledger w (c .side) (within w (c .side) h .time)) ≡ true) q
+      (ap (claimHolds a) (sym (within w (c .side) (blockHeight a) .store)) ∙ t .holds)
 
   -- it was not delivered by then: it would be received, and is claimed not to be
   not-before : i < b .time → ⊥
@@ -167,21 +186,44 @@ module _ (w : World) (honest : Honest settling (w .start) (w .calls)) (pairs : P
       let found = ap (λ (m : ℕ). channelAt m (ledger w (c .side) (b .time) .channels)) n ∙ r .found in
       let absent = absent-not-received (ledger w (c .side) (b .time)) (st .channel) (r .channel) p v
       (g .order ∙ sym (sent-from .1)) found (channel-number _ _ _ found) (ok .about) (ok .inOrder)
-      (ap (claimHolds (onPacket v)) (sym (b .store)) ∙ truth-here .holds) in
+      (holds-then (onPacket v) truth-here refl) in
       clash (r .received) (ap (isReceived (ledger w (c .side) (b .time) .records) (r .channel)) (sym sequence) ∙
       absent)
 
   -- its timeout has passed: then it was delivered in that block
-  not-late : ⊥
-  not-late =
+  not-late : isProvedLate (p .timeout) v ≡ true → ⊥
+  not-late late =
       let a : AcceptedOn (c .side) (w .calls) i c = record { at = d .acts .at; side = refl; told = d .acts .told } in
       let early = receive-of (d .acts .acted .step) (d .kind) .0 .early in
-      not-before (b .all i c a (in-block c (p .timeout) v (ok .late) (rw one-timeout early)
+      not-before (b .all i c a (in-block c (p .timeout) v late (rw one-timeout early)
       (truth-here .notAbove i c a)))
+
+  -- the end that it came to was CLOSED in that block, and stays so: then it was delivered before, while that was OPEN
+  not-shut : datagramGot e .kind ≡ some timeOutOnClose → Alike (u .end) (neededPeer stateClosed (st .channel)) →
+      u .height ≡ v .height → ⊥
+  unfolding neededPeer neededEnd body hasPart _or_
+  not-shut k shut same =
+      let y = claim-end u (ledger w (c .side) (b .time))
+      (holds-then (onEnd u) (end-verdict _ (datagramGot e) (rw k refl) truths) same) in
+      let n = ap (λ (x : PortChannel). channelAt (x .channel) (ledger w (c .side) (b .time) .channels))
+      (sym (shut .one .own ∙ sent-from .0)) in
+      cases (ltb i (b .time)) (λ q. not-before (ltb-true i (b .time) q))
+      (λ q.
+      let g = grows-into w (c .side) (b .time) i _ (y .0) (d .end) (ltb-false i (b .time) q) (n ∙ y .1) (d .found) in
+      let now = g .state .closed (sym (y .2 .state) ∙ shut .state) in
+      let then = d .state in
+      omega arith)
+
+  never : ⊥
+  never = go (ok .why)
+    where
+      go : Why (datagramGot e) (st .channel) → ⊥
+      go (byTime late) = not-late late
+      go (byClose k shut same) = not-shut k shut same
 
 pub not-both : (w : World) → Honest settling (w .start) (w .calls) → Paired (w .start) → NotBoth (w .calls)
 not-both w honest pairs i j c e h k a b s =
     let f = did w timedOutKind j e k b in
-    not-late w honest pairs i j c e (delivered w i c h a) f
+    never w honest pairs i j c e (delivered w i c h a) f
     (sym (finish-sender w timedOutKind j e f (λ q. omega arith)) ∙ sym (s .ledger) ∙ delivery-sender w c a)
     (s .channel) (s .sequence)

@@ -1,5 +1,5 @@
 -- With true verdicts of tries, a TRYOPEN end names an initiator's end. Assumes nothing.
-use Rattle.wire.proofs.Prelude.{_≡_, refl, sym, ap, _∙_, [], _∷_, inl, inr, ⊎-elim, ℕ, suc, arith, eq-eqb}
+use Rattle.wire.proofs.Prelude.{_≡_, refl, sym, ap, _∙_, [], _∷_, inl, inr, ⊎-elim, ℕ, suc, arith}
 use Rattle.wire.specs.Names.{_or_}
 use Rattle.slots.specs.declared.PortChannel.{PortChannel}
 use Rattle.slots.specs.declared.Channel.{Channel}
@@ -19,10 +19,8 @@ module _ (w : World) (honest : Honest (only (openTry ∷ [])) (w .start) (w .cal
       Initiator (w .start) (w .calls) z i c
   unfolding body hasPart only _or_
   initiator-shown z i u c o =
-      let a = u .acts in
       let k = o .kind in
-      let x = seen w z i u (honest i (u .call) (a .at) (eq-eqb (u .call .told .number) 0 (a .told))
-      (ap (only (openTry ∷ [])) k)) (rw k refl) in
+      let x = seen w (only (openTry ∷ [])) honest z i u (ap (only (openTry ∷ [])) k) (rw k refl) in
       let l = x .alike .one in
       let b = o .initiator in
       record {

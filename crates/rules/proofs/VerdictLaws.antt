@@ -12,9 +12,9 @@ use Rattle.slots.specs.Names.{receiptKey, lookup, Store}
 use Rattle.datagram.specs.declared.Verdict.{Verdict}
 use Rattle.datagram.specs.declared.EndVerdict.{EndVerdict}
 use Rattle.datagram.specs.Names.{Claim, commitmentPresent, acknowledgementPresent, receiptAbsent, nextReceiveIs, endIs}
-use Rattle.datagram.specs.Names.{claimNumber, claimOf, onPacket, onEnd}
-use Rattle.rules.specs.Names.{firstDifference, shown, sameButVersion, firstEndDifference, hasVersion, hasValues}
-use Rattle.rules.specs.Names.{isAsStated, holdsOn, endHolds, claimHolds, Peers}
+use Rattle.datagram.specs.Names.{claimNumber, claimOf, AnyVerdict, onPacket, onEnd, blockHeight}
+use Rattle.rules.specs.Names.{firstDifference, shown, sameButVersion, firstEndDifference, blockDifference}
+use Rattle.rules.specs.Names.{hasVersion, hasValues, isAsStated, holdsOn, endHolds, claimHolds, Peers}
 
 pub record About (v : Verdict) (k : ℕ) (e : PortChannel) (n : ℕ) (t : Timeout) (d : List ℕ) : Type 0 where
   pub claim : v .claim ≡ k
@@ -74,6 +74,14 @@ has-values t d (some r) h =
       timeout = same-timeout (r .timeout) t (and-both h .0);
       digest = same-eq (r .digest) d (and-both h .1);
     }
+
+-- two verdicts of one block have its height
+pub one-block : (v w : AnyVerdict) → blockDifference v w ≡ 0 → blockHeight v ≡ blockHeight w
+unfolding blockDifference
+one-block v w h =
+    let a = passed _ 6 0 h in
+    let q = eqb-true (blockHeight v .0) (blockHeight w .0) (and-both (a .0) .0) in
+    λ i. record { 0 = q i }
 
 -- CLAIMS: one that holds is as stated
 claim-of : (k : Claim) → claimOf (claimNumber k) ≡ some k

@@ -8,7 +8,8 @@ use Rattle.slots.proofs.Laws.{each-find}
 use Rattle.rules.specs.Names.{Side, first, second, Made, aSlice, empty, stores, requests, history, openingsOn}
 use Rattle.rules.specs.Names.{openedStores, WorkedHistory}
 use Rattle.rules.proofs.HonestLaws.{areAll, all-every, honest-seen}
-use Rattle.rules.proofs.CaseLaws.{isByte, Peer, Opened, cases, facts}
+use Rattle.rules.proofs.Facts.{isByte, Peer, Opened}
+use Rattle.rules.proofs.CaseLaws.{cases, facts}
 use Rattle.rules.proofs.Pairing.{none-is-paired}
 use Rattle.rules.proofs.Computed.{computed-run}
 

@@ -10,7 +10,8 @@ use Rattle.slots.specs.declared.Channel.{Channel}
 use Rattle.slots.specs.Table.{channelAt}
 use Rattle.slots.specs.Layout.{storeIn}
 use Rattle.slots.specs.Codes.{stateInit, stateTryOpen, stateOpen, stateClosed}
-use Rattle.rules.specs.Calls.{Side, across, Call, storeAfter, isOn, Peers}
+use Rattle.datagram.specs.Kind.{closeConfirm}
+use Rattle.rules.specs.Calls.{Side, across, Call, At, datagramGot, isAccepted, storeAfter, isOn, Peers}
 
 -- THE END of a ledger after the first `i` calls
 abbrev pub endAt : (Side → List ℕ) → List Call → Side → (i channel : ℕ) → Option Channel
@@ -74,3 +75,11 @@ abbrev pub TriesAnswer : (Side → List ℕ) → List Call → Type 0
 TriesAnswer start cs =
     (z : Side) (i n : ℕ) (c : Channel) → endAt start cs z i n ≡ some c → c .state ≡ stateTryOpen →
     Initiator start cs z i c
+
+-- A CLOSE CONFIRM answers a close: the end that its own end names is CLOSED, and names it
+abbrev pub ClosesAnswer : (Side → List ℕ) → List Call → Type 0
+ClosesAnswer start cs =
+    (i : ℕ) (c : Call) (e : Channel) → At cs i c → isAccepted c ≡ true → datagramGot c .kind ≡ some closeConfirm →
+    endAt start cs (c .side) i (datagramGot c .channel) ≡ some e →
+    (d : Channel) × (endAt start cs (across (c .side)) i (e .counterparty .channel) ≡ some d) × Peers e d ×
+    (d .version ≡ e .version) × (d .state ≡ stateClosed)

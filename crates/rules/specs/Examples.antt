@@ -56,14 +56,18 @@ unfoldable pub aVerdict : (claim : ℕ) → (block : List ℕ) → (port channel
 aVerdict k b p c n h t d =
     little 2 k ++ b ++ little 2 p ++ little 4 c ++ little 8 n ++ little 8 h ++ little 8 t ++ d
 
--- a channel record: all its counters alike, and a version with zeros behind it
+-- a version, and a channel record with its counters and with zeros behind its version
 unfoldable pub aVersion : (size : ℕ) → List ℕ
 aVersion n = replicate n 118
 
-unfoldable pub endRecord : (state port channel otherPort otherChannel order counter : ℕ) → (version : List ℕ) → List ℕ
-endRecord s p c q e o n v =
-    little 2 1 ++ (s ∷ o ∷ []) ++ little 4 c ++ little 2 p ++ little 2 q ++ little 4 e ++ little 8 n ++ little 8 n ++
-    little 8 n ++ v ++ replicate (24 - length v) 0
+unfoldable pub endWith : (state port channel otherPort otherChannel order : ℕ) → (counters version : List ℕ) → List ℕ
+endWith s p c q e o ns v =
+    little 2 1 ++ (s ∷ o ∷ []) ++ little 4 c ++ little 2 p ++ little 2 q ++ little 4 e ++ ns ++ v ++
+    replicate (24 - length v) 0
+
+-- its counters, all alike
+abbrev pub endRecord : (state port channel otherPort otherChannel order counter : ℕ) → (version : List ℕ) → List ℕ
+endRecord s p c q e o n v = endWith s p c q e o (little 8 n ++ little 8 n ++ little 8 n) v
 
 -- of an end, whose counters are shown as zero
 unfoldable pub anEndVerdict : (block : List ℕ) → (state port channel otherPort otherChannel order : ℕ) →
@@ -96,10 +100,12 @@ acknowledgeOf x b p d =
 unfoldable pub timeoutBy : (context : List ℕ) → Packet → (verdict : List ℕ) → List ℕ
 timeoutBy x p v = framed 5 (x ++ packetBytes p ++ v)
 
--- with this claim and sequence
+-- the packet was not received, by this claim and sequence
+abbrev pub absenceOf : (block : List ℕ) → Packet → (claim sequence : ℕ) → List ℕ
+absenceOf b p k n = aVerdict k b (p .destination .port) (p .destination .channel) n 0 0 noDigest
+
 abbrev pub timeoutOf : (context block : List ℕ) → Packet → (claim sequence : ℕ) → List ℕ
-timeoutOf x b p k n =
-    timeoutBy x p (aVerdict k b (p .destination .port) (p .destination .channel) n 0 0 noDigest)
+timeoutOf x b p k n = timeoutBy x p (absenceOf b p k n)
 
 unfoldable pub anOpenInit : (context : List ℕ) → (otherPort order : ℕ) → (version : List ℕ) → List ℕ
 anOpenInit x q o v = framed 6 (x ++ little 2 q ++ (o ∷ []) ++ v)
@@ -127,6 +133,28 @@ openConfirmBy x c w = framed 9 (x ++ little 4 c ++ w)
 abbrev pub openConfirmOf : (context block : List ℕ) → (port channel otherPort otherChannel order : ℕ) →
     (version : List ℕ) → List ℕ
 openConfirmOf x b p c q e o v = openConfirmBy x c (anEndVerdict b 3 q e p c o v)
+
+unfoldable pub aCloseInit : (context : List ℕ) → (channel : ℕ) → List ℕ
+aCloseInit x c = framed 10 (x ++ little 4 c)
+
+unfoldable pub closeConfirmBy : (context : List ℕ) → (channel : ℕ) → (verdict : List ℕ) → List ℕ
+closeConfirmBy x c w = framed 11 (x ++ little 4 c ++ w)
+
+-- it is CLOSED, and names this end
+abbrev pub closeConfirmOf : (context block : List ℕ) → (port channel otherPort otherChannel order : ℕ) →
+    (version : List ℕ) → List ℕ
+closeConfirmOf x b p c q e o v = closeConfirmBy x c (anEndVerdict b 4 q e p c o v)
+
+unfoldable pub timeoutOnCloseBy : (context : List ℕ) → Packet → (endVerdict verdict : List ℕ) → List ℕ
+timeoutOnCloseBy x p w v = framed 12 (x ++ packetBytes p ++ w ++ v)
+
+-- the packet's destination is CLOSED and names its source, and the packet was not received, of one block
+abbrev pub timeoutOnCloseOf : (context block : List ℕ) → Packet → (order : ℕ) → (version : List ℕ) →
+    (claim sequence : ℕ) → List ℕ
+timeoutOnCloseOf x b p o v k n =
+    timeoutOnCloseBy x p
+    (anEndVerdict b 4 (p .destination .port) (p .destination .channel) (p .source .port) (p .source .channel) o v)
+    (absenceOf b p k n)
 
 -- an output buffer that is just long enough
 unfoldable pub anOutput : List ℕ

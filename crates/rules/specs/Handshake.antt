@@ -1,4 +1,4 @@
--- The steps of the opening handshake: the record of the other end that each needs, and the end that each leaves.
+-- The steps of opening and closing: the record of the other end that each needs, and the end that each leaves.
 use mathlib.Core.Bool.{Bool, not}
 use mathlib.Core.List.{List}
 use Prim.Native.Nat.{ℕ}
@@ -63,7 +63,8 @@ neededTryOpen c d = neededEnd stateTryOpen (c .order) (answering c d) (c .own) (
 abbrev pub answeredEnd : Channel → Datagram → Channel
 answeredEnd c d = moved stateOpen (answering c d) c
 
--- OPEN CONFIRM needs the counterparty OPEN, which names this end, and leaves this end OPEN
+-- OPEN CONFIRM needs the counterparty OPEN, which names this end, and leaves this end OPEN. CLOSE CONFIRM and TIME OUT
+-- ON CLOSE need it CLOSED
 unfoldable pub neededPeer : (state : ℕ) → Channel → Channel
 neededPeer s c = neededEnd s (c .order) (c .counterparty) (c .own) (c .version)
 

@@ -1,6 +1,6 @@
 -- A worked history: two made stores with no channels, and a list of calls that opens an ordered and an unordered
--- channel and carries packets over them. Each kind of datagram is accepted and two calls are refused, with true
--- verdicts. So the premises of demand 3 can be met, all of them together.
+-- channel, carries packets over them and closes them. Each kind of datagram is accepted and four calls are refused,
+-- with true verdicts. So the premises of demand 3 can be met, all of them together.
 use mathlib.Core.Path.{_≡_}
 use mathlib.Core.List.{List, [], _∷_, _++_, map}
 use Prim.Native.Nat.{ℕ}
@@ -16,7 +16,8 @@ use Rattle.rules.specs.Truth.{Honest}
 use Rattle.rules.specs.Statements.{Request, calls}
 use Rattle.rules.specs.Examples.{aSlice, anOpening, openings, empty, aContext, aDigest, anAnswer, aPacket, aBlock}
 use Rattle.rules.specs.Examples.{aVersion, anEndVerdict, aSend, receiveOf, aWrite, acknowledgeOf, timeoutOf}
-use Rattle.rules.specs.Examples.{anOpenInit, openTryOf, openAcknowledgeOf, openConfirmBy, openConfirmOf, anOutput}
+use Rattle.rules.specs.Examples.{anOpenInit, openTryOf, openAcknowledgeOf, openConfirmBy, openConfirmOf}
+use Rattle.rules.specs.Examples.{aCloseInit, closeConfirmOf, timeoutOnCloseOf, anOutput}
 
 -- THE STORES: each ledger starts with no channels
 unfoldable pub stores : Side → List ℕ
@@ -68,29 +69,53 @@ transfers =
     atSecond 206 1025 (λ x. aSend x 1 0 2000) ∷
     atFirst 104 1040 (λ x. receiveOf x (aBlock 206 1025) deliveredOne aDigest) ∷ []
 
+-- THE CLOSINGS: on each channel a packet is sent, with a timeout that is far off; the other end closes, so that its
+-- receive is refused; it is timed out on close. That closes the ordered channel, and the unordered one is closed by
+-- close confirm. Before, what was delivered there is acknowledged
+abbrev pub orderedOne : Packet
+orderedOne = aPacket 2 900 0 5 1 6 3
+
+abbrev pub unorderedOne : Packet
+unorderedOne = aPacket 2 0 9000 6 1 5 2
+
+unfoldable pub closings : List Request
+closings =
+    atFirst 105 1050 (λ x. aSend x 1 900 0) ∷
+    atSecond 207 1050 (λ x. aCloseInit x 3) ∷
+    atSecond 207 1050 (λ x. receiveOf x (aBlock 105 1050) orderedOne aDigest) ∷
+    atFirst 106 1060 (λ x. timeoutOnCloseOf x (aBlock 207 1050) orderedOne 1 (aVersion 4) 4 2) ∷
+    atFirst 106 1060 (λ x. aWrite x 2 1 anAnswer) ∷
+    atSecond 208 1060 (λ x. acknowledgeOf x (aBlock 106 1060) deliveredOne anAnswer) ∷
+    atSecond 208 1060 (λ x. aSend x 1 0 9000) ∷
+    atFirst 107 1070 (λ x. aCloseInit x 2) ∷
+    atFirst 107 1070 (λ x. receiveOf x (aBlock 208 1060) unorderedOne aDigest) ∷
+    atSecond 209 1070 (λ x. timeoutOnCloseOf x (aBlock 107 1070) unorderedOne 2 [] 3 2) ∷
+    atSecond 209 1070 (λ x. closeConfirmOf x (aBlock 107 1070) 6 1 5 2 2 []) ∷ []
+
 unfoldable pub requests : List Request
-requests = handshakes ++ transfers
+requests = handshakes ++ transfers ++ closings
 
 abbrev pub history : List Call
 history = calls stores requests
 
 -- what was told, and what happened
 abbrev pub numbersTold : List ℕ
-numbersTold = replicate 8 0 ++ (14 ∷ replicate 5 0) ++ (11 ∷ replicate 4 0)
+numbersTold =
+    replicate 8 0 ++ (14 ∷ replicate 5 0) ++ (11 ∷ replicate 6 0) ++ (6 ∷ replicate 5 0) ++ (6 ∷ replicate 2 0)
 
 -- the state of an end after all calls
 abbrev pub stateOn : Side → (channel : ℕ) → ℕ
 stateOn z n = orNone (endAt stores history z (length history) n) .state
 
 pub record Happened : Type 0 where
-  pub firstStates : map (stateOn first) (1 ∷ 2 ∷ []) ≡ 3 ∷ 3 ∷ []
-  pub secondStates : map (stateOn second) (1 ∷ 2 ∷ 3 ∷ []) ≡ 3 ∷ 2 ∷ 3 ∷ []
+  pub firstStates : map (stateOn first) (1 ∷ 2 ∷ []) ≡ 4 ∷ 4 ∷ []
+  pub secondStates : map (stateOn second) (1 ∷ 2 ∷ 3 ∷ []) ≡ 4 ∷ 2 ∷ 4 ∷ []
   pub ends : howMany (hasEmitted madeKind) history ≡ 5
-  pub sends : howMany isSend history ≡ 3
+  pub sends : howMany isSend history ≡ 5
   pub deliveries : howMany isDelivery history ≡ 2
-  pub writes : howMany (hasEmitted writtenKind) history ≡ 1
-  pub acknowledgements : howMany isAcknowledgement history ≡ 1
-  pub timeouts : howMany isTimeout history ≡ 1
+  pub writes : howMany (hasEmitted writtenKind) history ≡ 2
+  pub acknowledgements : howMany isAcknowledgement history ≡ 2
+  pub timeouts : howMany isTimeout history ≡ 3
 
 -- STORES WITH OPENINGS meet the premises too: on the second ledger port 6 owns channel 9 (ordered, to 5/7) and 10
 -- (unordered, to 5/8)
