@@ -1,5 +1,5 @@
-// The opening handshake: the record of the other end that a step needs, compared with the one that its verdict shows,
-// and the end that a step leaves.
+// Opening and closing: the record of the other end that a step needs, compared with the one that its verdict shows; a
+// new end, and an end in another state.
 use datagram::EndVerdict;
 use slots::Channel;
 use slots::Counters;
@@ -31,7 +31,7 @@ fn same_but_version(a: Channel, b: Channel) -> bool
             & (a.next.acknowledge == b.next.acknowledge))
 }
 
-// 14, for 7 to 9: 1 the claim, 6 the record but for its version; 0 where none of them differs.
+// 14, for 7 to 9, 11 and 12: 1 the claim, 6 the record but for its version; 0 where none of them differs.
 pub fn end_difference(v: EndVerdict, needed: Channel) -> u8
     ensures { λ r. ⌜ r ≡ firstEndDifference v needed ⌝ }
 {
@@ -45,7 +45,7 @@ pub fn end_difference(v: EndVerdict, needed: Channel) -> u8
     6
 }
 
-// 27, for 7 to 9.
+// 27, for 7 to 9, 11 and 12.
 pub fn has_version(v: EndVerdict, needed: Channel) -> bool
     ensures { λ r. ⌜ r ≡ hasVersion v needed ⌝ }
 {
@@ -121,7 +121,8 @@ pub fn needed_try_open(c: Channel, channel: u32) -> Channel
     )
 }
 
-// An open confirm needs the counterparty OPEN, which names this end.
+// The counterparty in a state, which names this end: an open confirm needs it OPEN, a close confirm and a time-out on
+// close need it CLOSED.
 pub fn needed_peer(state: u8, c: Channel) -> Channel
     ensures { λ r. ⌜ r ≡ neededPeer state c ⌝ }
 {

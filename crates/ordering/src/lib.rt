@@ -1,5 +1,5 @@
-// What depends on a channel's ordering: the tests 14 for 5, 15, 16 for 2, 19, and 20 for 2; whether a counter rises.
-// `tables` has the test 17; nothing else depends on it.
+// What depends on a channel's ordering: the tests 14 for 5 and 12, 15, 16 for 2, 19, and 20 for 2; whether a counter
+// rises. `tables` has the test 17; nothing else depends on it.
 use slots::Channel;
 use slots::Record;
 use tables::ordering::is_ordered;
@@ -41,7 +41,7 @@ pub fn acknowledges_in_order(c: Channel, sequence: u64) -> bool
     if_ordered(c, sequence == c.next.acknowledge)
 }
 
-// 15, for 5: the next receive that the verdict claims is not above the sequence, so that the packet was not taken.
+// 15, for 5 and 12: the next receive that the verdict claims is not above the sequence, so that the packet was not taken.
 pub fn times_out_in_order(c: Channel, sequence: u64, claimed: u64) -> bool
     ensures { λ r. ⌜ r ≡ timesOutInOrder c sequence claimed ⌝ }
 {
@@ -59,7 +59,7 @@ pub fn is_receipt_there(store: &[u8], count: usize, c: Channel, sequence: u64) -
     has_record(store, count, Record::RECEIPT, c.own.channel, sequence)
 }
 
-// 14, for 5: what a verdict has to claim of a packet that was not received, next receive or that there is no receipt.
+// 14, for 5 and 12: what a verdict has to claim of a packet that was not received, next receive or no receipt.
 pub fn absence_claim(c: Channel) -> u16
     ensures { λ r. ⌜ r ≡ claimNumber (absenceClaim c) ⌝ }
 {

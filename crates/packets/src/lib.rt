@@ -51,7 +51,7 @@ pub fn fits_destination(c: Channel, p: Packet) -> bool
     same_port_channel(source, counterparty)
 }
 
-// 9, for 4 and 5: the end is the packet's source.
+// 9, for 4, 5 and 12: the end is the packet's source.
 pub fn fits_source(c: Channel, p: Packet) -> bool
     ensures { λ r. ⌜ r ≡ fitsSource c p ⌝ }
 {

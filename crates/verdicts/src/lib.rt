@@ -6,11 +6,13 @@ use heights::same_timeout;
 use ordering::absence_claim;
 use ordering::absence_sequence;
 use slots::Channel;
+use slots::OtherHeight;
 use slots::PortChannel;
 use slots::Timeout;
 use wire::same_digest;
 ghost use mathlib.Core.Path.{_≡_};
-ghost use Rattle.rules.specs.Verdict.{firstDifference};
+ghost use Rattle.datagram.specs.Datagram.{AnyVerdict, blockHeight, blockTime};
+ghost use Rattle.rules.specs.Verdict.{firstDifference, blockDifference};
 ghost use Rattle.rules.specs.Refusals.{commitmentDifference, acknowledgementDifference, absenceDifference};
 ghost use Rattle.rules.specs.Refusals.{verdictNumber};
 
@@ -65,7 +67,7 @@ pub fn acknowledgement_difference(p: Packet, digest: [u8; 32], v: Verdict) -> u8
     first_difference(v, 2, destination, p.sequence, no_timeout(), digest)
 }
 
-// 14, for 5: at the packet's destination, that it was not received.
+// 14, for 5 and 12: at the packet's destination, that it was not received.
 pub fn absence_difference(c: Channel, p: Packet, v: Verdict) -> u8
     ensures { λ r. ⌜ r ≡ absenceDifference c p v ⌝ }
 {
@@ -73,6 +75,19 @@ pub fn absence_difference(c: Channel, p: Packet, v: Verdict) -> u8
     let destination = p.destination;
     let sequence = absence_sequence(c, p.sequence, v.sequence);
     first_difference(v, claim, destination, sequence, no_timeout(), [0u8; 32])
+}
+
+// 14, for 12: whether two verdicts, each of a height and a time, are of one block of the other ledger.
+pub fn block_difference(height: OtherHeight, time: u64, other: OtherHeight, other_time: u64) -> u8
+    ensures { λ r. ⌜
+        ((v w : AnyVerdict) → blockHeight v ≡ height → blockTime v ≡ time → blockHeight w ≡ other →
+        blockTime w ≡ «other_time» → r ≡ blockDifference v w)
+        ⌝ }
+{
+    if (height.0 == other.0) & (time == other_time) {
+        return 0;
+    }
+    7
 }
 
 // 14: one number for every difference.
