@@ -1,7 +1,7 @@
 -- What an accepted call tells the plan and the output, what is planned is what the rules say of the call, and an end at
 -- its slot. Assumes nothing.
-use Rattle.wire.proofs.Prelude.{_≡_, refl, sym, ap, _∙_, List, Option, none, some, ℕ, _≤_, _<_, arith, length}
-use Rattle.wire.proofs.Prelude.{ltb-false, not-false}
+use Rattle.wire.proofs.Prelude.{_≡_, refl, sym, ap, subst, _∙_, List, Option, none, some, ℕ, _≤_, _<_, arith}
+use Rattle.wire.proofs.Prelude.{length, ltb-false, not-false}
 use Rattle.wire.specs.Names.{Every}
 use Rattle.slots.specs.declared.Channel.{Channel}
 use Rattle.slots.specs.declared.Found.{Found}
@@ -13,7 +13,8 @@ use Rattle.slots.proofs.HeldLaws.{Held, held-store, held-channel}
 use Rattle.slots.proofs.SlotTestLaws.{channel-index}
 use Rattle.slots.proofs.ScanLaws.{set-insert, set-replace, insert-nothing, replace-nothing}
 use Rattle.datagram.specs.Names.{Kind, send, receive, write, acknowledge, timeOut, openInit, openTry, openAcknowledge}
-use Rattle.datagram.specs.Names.{openConfirm, kindOf, Datagram, datagramOf, datagramIn, kindIn, isSound}
+use Rattle.datagram.specs.Names.{openConfirm, closeInit, closeConfirm, timeOutOnClose, kindOf, Datagram, datagramOf}
+use Rattle.datagram.specs.Names.{datagramIn, kindIn, isSound}
 use Rattle.rules.specs.Names.{lowest, table, refusals, orNone, endFor, Effect, sends}
 use Rattle.rules.specs.Names.{receives, writesAcknowledgement, acknowledges, timesOut, makes, moves, effectOf}
 use Rattle.rules.specs.Names.{effectFor, placed, numberAfter, answerTo, effectIn}
@@ -29,23 +30,24 @@ module _ (s o d : List ℕ) (accepted : answerTo s o d ≡ 0) where
   abbrev channel : Channel
   channel = orNone (endFor (storeIn s) (datagramIn d))
 
-  left-for : (k : Option Kind) → lowest k (refusals s (length o) d) ≡ 0 →
-      Left k (storeIn s .next) channel (datagramIn d)
-  unfolding Left
-  left-for none h = tt
-  left-for (some send) h = send-ok s (length o) d (storeIn s) (datagramIn d) channel h .below
-  left-for (some receive) h = receive-ok s (length o) d (storeIn s) (datagramIn d) channel h .below
-  left-for (some write) h = tt
-  left-for (some acknowledge) h = acknowledge-ok s (length o) d (storeIn s) (datagramIn d) channel h .below
-  left-for (some timeOut) h = tt
-  left-for (some openInit) h =
-      let m = init-ok s (length o) d (storeIn s) (datagramIn d) channel h in
-      (m .number, m .version)
-  left-for (some openTry) h =
-      let m = try-ok s (length o) d (storeIn s) (datagramIn d) channel h .0 in
-      (m .number, m .version)
-  left-for (some openAcknowledge) h = tt
-  left-for (some openConfirm) h = tt
+  -- of its kind
+  of-kind : {k : Kind} → datagramIn d .kind ≡ some k → lowest (some k) (refusals s (length o) d) ≡ 0
+  unfolding answerTo
+  of-kind q = subst (λ (x : Option Kind). lowest x (refusals s (length o) d) ≡ 0) q accepted
+
+  left : Left (datagramIn d .kind) (storeIn s .next) channel (datagramIn d)
+  left =
+      record {
+        sends = λ q. send-ok s (length o) d (storeIn s) (datagramIn d) channel (of-kind q) .below;
+        receives = λ q. receive-ok s (length o) d (storeIn s) (datagramIn d) channel (of-kind q) .below;
+        acknowledges = λ q. acknowledge-ok s (length o) d (storeIn s) (datagramIn d) channel (of-kind q) .below;
+        inits = λ q.
+            let m = init-ok s (length o) d (storeIn s) (datagramIn d) channel (of-kind q) in
+            (m .number, m .version);
+        tries = λ q.
+            let m = try-ok s (length o) d (storeIn s) (datagramIn d) channel (of-kind q) .0 in
+            (m .number, m .version);
+      }
 
   -- what the lines of a number gave
   quiet : (n : ℕ) → Every (λ m. m ≡ 0) (givenAt n (datagramIn d .kind) (refusals s (length o) d))
@@ -53,12 +55,12 @@ module _ (s o d : List ℕ) (accepted : answerTo s o d ≡ 0) where
   quiet n = silent n (datagramIn d .kind) (refusals s (length o) d) accepted
 
   pub ready : Ready s d
-  unfolding answerTo table givenAt
+  unfolding table givenAt
   ready =
       record {
         fit = not-false (isFit s) (not-given _ 0 (quiet 1 .0));
         sound = not-false (isSound d) (not-given _ 2 (quiet 3 .0));
-        left = left-for (datagramIn d .kind) accepted;
+        left = left;
       }
 
   pub output-room : outputLimit ≤ length o
@@ -68,17 +70,20 @@ module _ (s o d : List ℕ) (accepted : answerTo s o d ≡ 0) where
 -- THE NEXT CHANNEL NUMBER can be raised where an end is added
 number-fits : (k : Option Kind) (n : ℕ) (c : Channel) (d : Datagram) → n ≤ top → Left k n c d →
     numberAfter (effectFor k n c d .ends) n ≤ top
-unfolding effectFor effectOf sends receives writesAcknowledgement acknowledges timesOut makes moves numberAfter Left
+unfolding effectFor effectOf sends receives writesAcknowledgement acknowledges timesOut makes moves numberAfter
 number-fits none n c d h l = h
 number-fits (some send) n c d h l = h
 number-fits (some receive) n c d h l = h
 number-fits (some write) n c d h l = h
 number-fits (some acknowledge) n c d h l = h
 number-fits (some timeOut) n c d h l = h
-number-fits (some openInit) n c d h l = omega (arith, l .0)
-number-fits (some openTry) n c d h l = omega (arith, l .0)
+number-fits (some openInit) n c d h l = omega (arith, l .inits refl .0)
+number-fits (some openTry) n c d h l = omega (arith, l .tries refl .0)
 number-fits (some openAcknowledge) n c d h l = h
 number-fits (some openConfirm) n c d h l = h
+number-fits (some closeInit) n c d h l = h
+number-fits (some closeConfirm) n c d h l = h
+number-fits (some timeOutOnClose) n c d h l = h
 
 -- WHAT IS READ: the kind, the next channel number and the end of the datagram's channel. What is left for the call is
 -- left for them, and the effect that is decided on them is the call's

@@ -1,17 +1,15 @@
 -- The effect that a decision tells, and what must be left for it.
 use mathlib.Core.Path.{_≡_}
-use mathlib.Core.Bool.{true, false}
-use mathlib.Core.Option.{Option, none, some}
-use Prim.Native.Nat.{ℕ, _≤_}
+use mathlib.Core.Bool.{false}
+use mathlib.Core.Option.{Option, some}
+use Prim.Native.Nat.{ℕ}
 use Rattle.slots.specs.declared.Channel.{Channel}
-use Rattle.slots.specs.Limits.{topChannel}
-use Rattle.slots.specs.Version.{versionFits}
-use Rattle.datagram.specs.Kind.{Kind, send, receive, write, acknowledge, timeOut}
-use Rattle.datagram.specs.Kind.{openInit, openTry, openAcknowledge, openConfirm}
+use Rattle.datagram.specs.Kind.{Kind, send, receive, acknowledge, openInit, openTry}
 use Rattle.datagram.specs.Datagram.{Datagram}
 use Rattle.emit.specs.Output.{emittedBy}
 use Rattle.rules.specs.Ordering.{isSendAtTop, isReceiveAtTop, isAcknowledgeAtTop}
 use Rattle.rules.specs.Acceptance.{EndEdit, leaves, puts, adds, Effect, effect}
+use Rattle.lifecycle.specs.Number.{NumberLeft}
 use Rattle.records.specs.Edited.{editBy}
 use Rattle.effects.specs.declared.EndAction.{EndAction}
 use Rattle.effects.specs.declared.EndAction.the-variants.{Leaves, Puts, Adds}
@@ -28,19 +26,10 @@ endsBy d = endEditOf (d .ends) (d .end)
 abbrev pub effectBy : Decision → Effect
 effectBy d = effect (endsBy d) (editBy (d .edit)) (emittedBy (d .emission))
 
--- a new end needs a channel number, and a version that fits
-abbrev pub NumberLeft : (next : ℕ) → Datagram → Type 0
-NumberLeft n d = (n ≤ topChannel) × (versionFits (d .version) ≡ true)
-
--- by kind: the counter that rises is below its top
-unfoldable pub Left : Option Kind → (next : ℕ) → Channel → Datagram → Type 0
-Left none n c d = Unit {0}
-Left (some send) n c d = isSendAtTop c ≡ false
-Left (some receive) n c d = isReceiveAtTop c ≡ false
-Left (some write) n c d = Unit {0}
-Left (some acknowledge) n c d = isAcknowledgeAtTop c ≡ false
-Left (some timeOut) n c d = Unit {0}
-Left (some openInit) n c d = NumberLeft n d
-Left (some openTry) n c d = NumberLeft n d
-Left (some openAcknowledge) n c d = Unit {0}
-Left (some openConfirm) n c d = Unit {0}
+-- WHAT MUST BE LEFT, by kind: a counter that rises is below its top, and there is a number for a new end
+pub record Left (k : Option Kind) (next : ℕ) (c : Channel) (d : Datagram) : Type 0 where
+  pub sends : k ≡ some send → isSendAtTop c ≡ false
+  pub receives : k ≡ some receive → isReceiveAtTop c ≡ false
+  pub acknowledges : k ≡ some acknowledge → isAcknowledgeAtTop c ≡ false
+  pub inits : k ≡ some openInit → NumberLeft next d
+  pub tries : k ≡ some openTry → NumberLeft next d

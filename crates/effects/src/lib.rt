@@ -1,7 +1,6 @@
 // What acceptance does, decided by reads alone: for each kind of datagram what becomes of the ends, the edit of the
-// packet records, and the record that is emitted. A new kind is one more such function, and a line of `decide`.
-pub mod opening; // the steps of the opening handshake
-
+// packet records, and the record that is emitted. A new kind is a line of `decide`, and one more such function where it
+// is about a packet.
 use datagram::Packet;
 use datagram::read::digest_in;
 use datagram::read::packet_in;
@@ -12,17 +11,21 @@ use emit::Emission;
 use emit::Form;
 use emit::SENT;
 use emit::TIMED_OUT;
+use emit::made;
+use emit::nothing;
 use ends::acknowledged_end;
 use ends::received_end;
 use ends::sent_end;
 use ends::timed_out_end;
-use opening::decide_init;
-use opening::decide_open_acknowledge;
-use opening::decide_open_confirm;
-use opening::decide_try;
+use lifecycle::answered_end;
+use lifecycle::closed_end;
+use lifecycle::init_end;
+use lifecycle::opened_end;
+use lifecycle::tried_end;
 use records::Action;
 use records::RecordEdit;
 use records::freed_commitment;
+use records::no_edit;
 use records::plain_record;
 use records::received_edit;
 use slots::Channel;
@@ -31,14 +34,14 @@ use slots::Timeout;
 ghost use mathlib.Core.Path.{_≡_};
 ghost use mathlib.Core.Bool.{true, false};
 ghost use mathlib.Core.Option.{some};
-ghost use Prim.Native.Nat.{_≤_};
+ghost use Prim.Native.Nat.{_+_, _≤_};
 ghost use lib.ListN.{length};
 ghost use Rattle.wire.specs.Choice.{isSome};
-ghost use Rattle.datagram.specs.Kind.{send, receive, write, acknowledge, timeOut, kindOf, sizeOf};
-ghost use Rattle.datagram.specs.Datagram.{packetFrom, sequenceFrom, digestFrom, datagramOf};
+ghost use Rattle.datagram.specs.Kind.{send, receive, write, acknowledge, kindOf, bodyFrom, packetSize, sizeOf};
+ghost use Rattle.datagram.specs.Datagram.{packetIn, packetFrom, sequenceFrom, digestFrom, datagramOf};
 ghost use Rattle.rules.specs.Ordering.{isSendAtTop, isReceiveAtTop, isAcknowledgeAtTop};
 ghost use Rattle.rules.specs.Acceptance.{sentPacket, commitment, sends, receives};
-ghost use Rattle.rules.specs.Acceptance.{writesAcknowledgement, acknowledges, timesOut, effectFor};
+ghost use Rattle.rules.specs.Acceptance.{writesAcknowledgement, acknowledges, timesOut, makes, moves, effectFor};
 ghost use Rattle.effects.specs.Decided.{effectBy, Left};
 
 // The ends stay, the one of this number becomes this one, or a new one takes the next channel number.
@@ -186,9 +189,10 @@ fn decide_acknowledge(d: &[u8], c: Channel) -> Decision
     }
 }
 
+// A time-out, and one on close: the packet stands at the front of the body of both.
 fn decide_time_out(d: &[u8], c: Channel) -> Decision
-    requires { ⌜ sizeOf (some timeOut) ≤ length (now d) ⌝ }
-    ensures { λ r. ⌜ effectBy r ≡ timesOut c (packetFrom (some timeOut) (now (d .entry))) ⌝ }
+    requires { ⌜ bodyFrom + packetSize ≤ length (now d) ⌝ }
+    ensures { λ r. ⌜ effectBy r ≡ timesOut c (packetIn bodyFrom (now (d .entry))) ⌝ }
 {
     let packet = packet_in(d);
     let edit = freed_commitment(c, packet.sequence);
@@ -205,6 +209,35 @@ fn decide_time_out(d: &[u8], c: Channel) -> Decision
     }
 }
 
+// A new end: its port and channel are emitted.
+fn decide_made(end: Channel) -> Decision
+    ensures { λ r. ⌜ effectBy r ≡ makes end ⌝ }
+{
+    let own = end.own;
+    let edit = no_edit();
+    let emission = made(own);
+    Decision {
+        ends: EndAction::Adds,
+        end: end,
+        edit: edit,
+        emission: emission,
+    }
+}
+
+// An end that opens or closes.
+fn decide_moved(end: Channel) -> Decision
+    ensures { λ r. ⌜ effectBy r ≡ moves end ⌝ }
+{
+    let edit = no_edit();
+    let emission = nothing();
+    Decision {
+        ends: EndAction::Puts,
+        end: end,
+        edit: edit,
+        emission: emission,
+    }
+}
+
 // An accepted datagram's kind is known, and what it needs is left: a counter below its top, or a channel number.
 pub fn decide(d: &[u8], kind: u16, next: u64, c: Channel) -> Decision
     requires { ⌜
@@ -218,10 +251,11 @@ pub fn decide(d: &[u8], kind: u16, next: u64, c: Channel) -> Decision
         2 => decide_receive(d, c),
         3 => decide_write(d, c),
         4 => decide_acknowledge(d, c),
-        5 => decide_time_out(d, c),
-        6 => decide_init(d, next),
-        7 => decide_try(d, next),
-        8 => decide_open_acknowledge(d, c),
-        _ => decide_open_confirm(c),
+        5 | 12 => decide_time_out(d, c),
+        6 => decide_made(init_end(d, next)),
+        7 => decide_made(tried_end(d, next)),
+        8 => decide_moved(answered_end(d, c)),
+        9 => decide_moved(opened_end(c)),
+        _ => decide_moved(closed_end(c)),
     }
 }

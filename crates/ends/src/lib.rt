@@ -1,5 +1,5 @@
 // The channel end that acceptance of a packet leaves, by the kind of datagram and the channel's ordering.
-use handshake::moved;
+use lifecycle::closed_end;
 use ordering::raises_counter;
 use slots::Channel;
 use slots::Counters;
@@ -82,9 +82,8 @@ pub fn acknowledged_end(c: Channel) -> Channel
 pub fn timed_out_end(c: Channel) -> Channel
     ensures { λ r. ⌜ r ≡ timedOutEnd c ⌝ }
 {
-    if !is_ordered(c) {
-        return c;
+    if is_ordered(c) {
+        return closed_end(c);
     }
-    let counterparty = c.counterparty;
-    moved(Channel::CLOSED, counterparty, c)
+    c
 }

@@ -1,8 +1,8 @@
 -- Field by field. Assumes nothing.
 use borrow.Author.Needs.{needs}
 use Rattle.rules.specs.Acceptance.{moves}
-use Rattle.effects.proofs.opening.decide_moved.Statement.{statement}
-use Rattle.effects.proofs.opening.decide_moved.Tie as tie
+use Rattle.effects.proofs.decide_moved.Statement.{statement}
+use Rattle.effects.proofs.decide_moved.Tie as tie
 
 returns : tie.Need-returns
 unfolding moves

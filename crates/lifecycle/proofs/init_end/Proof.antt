@@ -1,12 +1,11 @@
 -- The end that the datagram makes. Assumes nothing.
 use mathlib.Core.Path.{refl}
 use native.Mathlib.Omega.{arith}
-use borrow.Author.Needs.{needs}
 use Rattle.wire.specs.Choice.{_or_, withNumber}
 use Rattle.datagram.specs.Kind.{body, hasPart, partsSize, sizeBefore}
 use Rattle.datagram.specs.Datagram.{counterpartyFrom}
-use Rattle.effects.proofs.opening.decide_init.Statement.{statement}
-use Rattle.effects.proofs.opening.decide_init.Tie as tie
+use Rattle.lifecycle.proofs.init_end.Statement.{statement}
+use Rattle.lifecycle.proofs.init_end.Tie as tie
 
 counterparty-port-in-requires : tie.Need-counterparty-port-in-requires
 unfolding body partsSize
@@ -18,10 +17,7 @@ end-made-requires c κs = (refl, refl, c .before .before .pre .0, c .before .bef
 
 returns : tie.Need-returns
 unfolding withNumber counterpartyFrom body sizeBefore
-returns c =
-    let end = c .before in
-    rw (c .decide-made .ensures, end .end-made .ensures, end .before .counterparty-port-in .ensures)
+returns c = rw (c .end-made .ensures, c .before .counterparty-port-in .ensures)
 
-pub decide-init-spec : {M : Type 1} → statement M
-decide-init-spec =
-    tie.close (tie.spec counterparty-port-in-requires end-made-requires (λ c κs. search needs) returns)
+pub init-end-spec : {M : Type 1} → statement M
+init-end-spec = tie.close (tie.spec counterparty-port-in-requires end-made-requires returns)

@@ -10,8 +10,8 @@ use Rattle.datagram.specs.declared.Context.{Context}
 use Rattle.datagram.specs.Kind.{kindOf, bodyOf, versionPart}
 use Rattle.datagram.specs.Datagram.{versionFrom, datagramOf}
 use Rattle.datagram.proofs.KindLaws.{part-room}
-use Rattle.effects.proofs.opening.end_made.Statement.{statement}
-use Rattle.effects.proofs.opening.end_made.Tie as tie
+use Rattle.lifecycle.proofs.end_made.Statement.{statement}
+use Rattle.lifecycle.proofs.end_made.Tie as tie
 
 abbrev start : tie.After-version-place → tie.Start
 start v = v .before .before .before .before

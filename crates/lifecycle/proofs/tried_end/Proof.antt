@@ -1,12 +1,11 @@
 -- The end that the datagram makes. Assumes nothing.
 use mathlib.Core.Path.{refl}
 use native.Mathlib.Omega.{arith}
-use borrow.Author.Needs.{needs}
 use Rattle.wire.specs.Choice.{_or_, withNumber}
 use Rattle.datagram.specs.Kind.{body, hasPart, partsSize, sizeBefore}
 use Rattle.datagram.specs.Datagram.{counterpartyFrom}
-use Rattle.effects.proofs.opening.decide_try.Statement.{statement}
-use Rattle.effects.proofs.opening.decide_try.Tie as tie
+use Rattle.lifecycle.proofs.tried_end.Statement.{statement}
+use Rattle.lifecycle.proofs.tried_end.Tie as tie
 
 counterparty-port-in-requires : tie.Need-counterparty-port-in-requires
 unfolding body partsSize
@@ -23,17 +22,13 @@ end-made-requires c κs = let o = c .before .before .before in (refl, refl, o .p
 returns : tie.Need-returns
 unfolding withNumber counterpartyFrom body sizeBefore
 returns c =
-    let end = c .before in
-    let channel = end .before in
+    let channel = c .before in
     rw (
-      c .decide-made .ensures,
-      end .end-made .ensures,
+      c .end-made .ensures,
       channel .counterparty-channel-in .ensures,
       channel .before .counterparty-port-in .ensures,
     )
 
-pub decide-try-spec : {M : Type 1} → statement M
-decide-try-spec =
-    tie.close
-    (tie.spec
-    counterparty-port-in-requires counterparty-channel-in-requires end-made-requires (λ c κs. search needs) returns)
+pub tried-end-spec : {M : Type 1} → statement M
+tried-end-spec =
+    tie.close (tie.spec counterparty-port-in-requires counterparty-channel-in-requires end-made-requires returns)

@@ -1,17 +1,11 @@
-// What acceptance of a step of the opening handshake does: a new end, whose port and channel are emitted, or an end
-// that becomes another.
-use super::Decision;
-use super::EndAction;
+// The channel end that a step of a channel's lifecycle leaves: a new one, one that opens, or one that closes.
 use datagram::place::version_place;
 use datagram::read::context_in;
 use datagram::read::counterparty_channel_in;
 use datagram::read::counterparty_port_in;
 use datagram::read::order_in;
-use emit::made;
-use emit::nothing;
 use handshake::moved;
 use handshake::new_end;
-use records::no_edit;
 use slots::Channel;
 use slots::PortChannel;
 use versions::version_from;
@@ -23,9 +17,9 @@ ghost use lib.ListN.{length};
 ghost use Rattle.datagram.specs.Kind.{openInit, openTry, openAcknowledge, kindOf, sizeOf, bodyOf, hasPart};
 ghost use Rattle.datagram.specs.Kind.{orderPart, versionPart};
 ghost use Rattle.datagram.specs.Datagram.{datagramOf};
+ghost use Rattle.rules.specs.Ordering.{closed};
 ghost use Rattle.rules.specs.Handshake.{newEnd, initEnd, triedEnd, answeredEnd, openedEnd};
-ghost use Rattle.rules.specs.Acceptance.{makes, moves};
-ghost use Rattle.effects.specs.Decided.{effectBy, NumberLeft};
+ghost use Rattle.lifecycle.specs.Number.{NumberLeft};
 
 // The end that a datagram makes, by what it says of it.
 fn end_made(d: &[u8], kind: u16, next: u64, state: u8, counterparty: PortChannel) -> Channel
@@ -45,73 +39,52 @@ fn end_made(d: &[u8], kind: u16, next: u64, state: u8, counterparty: PortChannel
     new_end(state, order, own, counterparty, version)
 }
 
-fn decide_made(end: Channel) -> Decision
-    ensures { λ r. ⌜ effectBy r ≡ makes end ⌝ }
-{
-    let own = end.own;
-    let edit = no_edit();
-    let emission = made(own);
-    Decision {
-        ends: EndAction::Adds,
-        end: end,
-        edit: edit,
-        emission: emission,
-    }
-}
-
-fn decide_moved(end: Channel) -> Decision
-    ensures { λ r. ⌜ effectBy r ≡ moves end ⌝ }
-{
-    let edit = no_edit();
-    let emission = nothing();
-    Decision {
-        ends: EndAction::Puts,
-        end: end,
-        edit: edit,
-        emission: emission,
-    }
-}
-
-// 6: an INIT end, which knows its counterparty's port alone.
-pub fn decide_init(d: &[u8], next: u64) -> Decision
+// Open init (6): an INIT end, which knows its counterparty's port alone.
+pub fn init_end(d: &[u8], next: u64) -> Channel
     requires { ⌜ (sizeOf (some openInit) ≤ length (now d)) × NumberLeft next (datagramOf (some openInit) (now d)) ⌝ }
-    ensures { λ r. ⌜ effectBy r ≡ makes (initEnd next (datagramOf (some openInit) (now (d .entry)))) ⌝ }
+    ensures { λ r. ⌜ r ≡ initEnd next (datagramOf (some openInit) (now (d .entry))) ⌝ }
 {
     let counterparty = PortChannel {
         port: counterparty_port_in(d),
         channel: 0,
     };
-    decide_made(end_made(d, 6, next, Channel::INIT, counterparty))
+    end_made(d, 6, next, Channel::INIT, counterparty)
 }
 
-// 7: a TRYOPEN end, which names the INIT end.
-pub fn decide_try(d: &[u8], next: u64) -> Decision
+// Open try (7): a TRYOPEN end, which names the INIT end.
+pub fn tried_end(d: &[u8], next: u64) -> Channel
     requires { ⌜ (sizeOf (some openTry) ≤ length (now d)) × NumberLeft next (datagramOf (some openTry) (now d)) ⌝ }
-    ensures { λ r. ⌜ effectBy r ≡ makes (triedEnd next (datagramOf (some openTry) (now (d .entry)))) ⌝ }
+    ensures { λ r. ⌜ r ≡ triedEnd next (datagramOf (some openTry) (now (d .entry))) ⌝ }
 {
     let counterparty = PortChannel {
         port: counterparty_port_in(d),
         channel: counterparty_channel_in(d, 7),
     };
-    decide_made(end_made(d, 7, next, Channel::TRY_OPEN, counterparty))
+    end_made(d, 7, next, Channel::TRY_OPEN, counterparty)
 }
 
-// 8: the end becomes OPEN, and names the end that answered it.
-pub fn decide_open_acknowledge(d: &[u8], c: Channel) -> Decision
+// Open acknowledge (8): the end becomes OPEN, and names the end that answered it.
+pub fn answered_end(d: &[u8], c: Channel) -> Channel
     requires { ⌜ sizeOf (some openAcknowledge) ≤ length (now d) ⌝ }
-    ensures { λ r. ⌜ effectBy r ≡ moves (answeredEnd c (datagramOf (some openAcknowledge) (now (d .entry)))) ⌝ }
+    ensures { λ r. ⌜ r ≡ answeredEnd c (datagramOf (some openAcknowledge) (now (d .entry))) ⌝ }
 {
     let answering = PortChannel {
         port: c.counterparty.port,
         channel: counterparty_channel_in(d, 8),
     };
-    decide_moved(moved(Channel::OPEN, answering, c))
+    moved(Channel::OPEN, answering, c)
 }
 
-// 9: the end becomes OPEN.
-pub fn decide_open_confirm(c: Channel) -> Decision
-    ensures { λ r. ⌜ effectBy r ≡ moves (openedEnd c) ⌝ }
+// Open confirm (9).
+pub fn opened_end(c: Channel) -> Channel
+    ensures { λ r. ⌜ r ≡ openedEnd c ⌝ }
 {
-    let counterparty = c.counterparty;
-    decide_moved(moved(Channel::OPEN, counterparty, c))
+    moved(Channel::OPEN, c.counterparty, c)
+}
+
+// Close init (10), close confirm (11), and a time-out on an ordered channel.
+pub fn closed_end(c: Channel) -> Channel
+    ensures { λ r. ⌜ r ≡ closed c ⌝ }
+{
+    moved(Channel::CLOSED, c.counterparty, c)
 }

@@ -1,8 +1,8 @@
 -- Field by field. Assumes nothing.
 use borrow.Author.Needs.{needs}
 use Rattle.rules.specs.Acceptance.{makes}
-use Rattle.effects.proofs.opening.decide_made.Statement.{statement}
-use Rattle.effects.proofs.opening.decide_made.Tie as tie
+use Rattle.effects.proofs.decide_made.Statement.{statement}
+use Rattle.effects.proofs.decide_made.Tie as tie
 
 returns : tie.Need-returns
 unfolding makes
