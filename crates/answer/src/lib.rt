@@ -1,5 +1,8 @@
 // The answer to a datagram: the number of the first line of the table that applies, 0 where none does. Lines 1 to 4 are
-// for every kind, 5 and 7 for those about an end, 6 for those that need it OPEN. They stand here in their order.
+// for every kind, 5 and 7 for those about an end, 6 for the kinds 1 to 4. They stand here in their order.
+use closing::close_confirm_row;
+use closing::close_init_row;
+use closing::time_out_on_close_row;
 use datagram::Context;
 use datagram::place::version_place;
 use datagram::read::channel_in;
@@ -48,7 +51,7 @@ ghost use lib.ListN.{length};
 ghost use Rattle.slots.specs.declared.Channel.{Channel};
 ghost use Rattle.slots.specs.Layout.{recordsFrom, storeIn};
 ghost use Rattle.slots.specs.Fit.{isFit};
-ghost use Rattle.datagram.specs.Kind.{openTry, openAcknowledge, kindOf, sizeOf};
+ghost use Rattle.datagram.specs.Kind.{openTry, kindOf, sizeOf};
 ghost use Rattle.datagram.specs.Datagram.{contextIn, datagramOf, datagramIn, isSound};
 ghost use Rattle.rules.specs.Refusals.{lowest, makesEnd, refusals, orNone, endFor};
 ghost use Rattle.verdicts.specs.Lines.{numberBehind};
@@ -110,8 +113,8 @@ fn answer_on(store: &[u8], count: usize, datagram: &[u8], kind: u16, x: Context)
     requires { ⌜ Known (now store) count (now datagram) kind x × (makesEnd (kindOf kind) ≡ false) ⌝ }
     ensures { λ r. ⌜
         r ≡
-        numberBehind 4 (kindOf kind) (storeIn (now (store .entry))) (datagramIn (now (datagram .entry)))
-        (orNone (endFor (storeIn (now (store .entry))) (datagramIn (now (datagram .entry)))))
+        numberBehind 4 (kindOf kind) (storeIn (now (store .entry))) (datagramOf (kindOf kind) (now (datagram .entry)))
+        (orNone (endFor (storeIn (now (store .entry))) (datagramOf (kindOf kind) (now (datagram .entry)))))
         ⌝ }
 {
     let Found::At(j) = find_channel(store, channel_in(datagram, kind)) else {
@@ -128,43 +131,32 @@ fn answer_on(store: &[u8], count: usize, datagram: &[u8], kind: u16, x: Context)
 }
 
 // Lines 8 to 27: those of the datagram's own kind. Unknown kinds were refused with 3.
-fn answer_by_kind(
-    store: &[u8],
-    count: usize,
-    datagram: &[u8],
-    kind: u16,
-    x: Context,
-    c: Channel,
-) -> u8
-    requires { ⌜ Known (now store) count (now datagram) kind x ⌝ }
+fn answer_by_kind(store: &[u8], count: usize, d: &[u8], kind: u16, x: Context, c: Channel) -> u8
+    requires { ⌜ Known (now store) count (now d) kind x ⌝ }
     ensures { λ r. ⌜
-        r ≡ numberBehind 7 (kindOf kind) (storeIn (now (store .entry))) (datagramIn (now (datagram .entry))) c
+        r ≡ numberBehind 7 (kindOf kind) (storeIn (now (store .entry))) (datagramOf (kindOf kind) (now (d .entry))) c
         ⌝ }
 {
     match kind {
-        0 | 10..=65535 => 3,
-        1 => send_row(store, count, x, timeout_in(datagram), c),
-        2 => {
-            let p = packet_in(datagram);
-            receive_row(store, count, x, p, verdict_in(datagram, 2), c)
-        }
-        3 => {
-            let sequence = sequence_in(datagram);
-            write_row(store, count, sequence, digest_in(datagram, 3), c)
-        }
+        0 | 13..=65535 => 3,
+        1 => send_row(store, count, x, timeout_in(d), c),
+        2 => receive_row(store, count, x, packet_in(d), verdict_in(d, 2), c),
+        3 => write_row(store, count, sequence_in(d), digest_in(d, 3), c),
         4 => {
-            let p = packet_in(datagram);
-            let digest = digest_in(datagram, 4);
-            acknowledge_row(store, count, x, p, digest, verdict_in(datagram, 4), c)
+            let p = packet_in(d);
+            acknowledge_row(store, count, x, p, digest_in(d, 4), verdict_in(d, 4), c)
         }
-        5 => {
-            let p = packet_in(datagram);
-            time_out_row(store, count, p, verdict_in(datagram, 5), c)
+        5 => time_out_row(store, count, packet_in(d), verdict_in(d, 5), c),
+        6 => open_init_row(store, version_fits(d, version_place(6))),
+        7 => answer_try(store, d, x),
+        8 => open_acknowledge_row(x, counterparty_channel_in(d, 8), end_verdict_in(d, 8), c),
+        9 => open_confirm_row(x, end_verdict_in(d, 9), c),
+        10 => close_init_row(x, c),
+        11 => close_confirm_row(x, end_verdict_in(d, 11), c),
+        12 => {
+            let p = packet_in(d);
+            time_out_on_close_row(store, count, p, end_verdict_in(d, 12), verdict_in(d, 12), c)
         }
-        6 => open_init_row(store, version_fits(datagram, version_place(6))),
-        7 => answer_try(store, datagram, x),
-        8 => answer_open_acknowledge(datagram, x, c),
-        9 => open_confirm_row(x, end_verdict_in(datagram, 9), c),
     }
 }
 
@@ -200,16 +192,4 @@ fn answer_try(store: &[u8], datagram: &[u8], x: Context) -> u8
         true,
         version_from(datagram, at),
     )
-}
-
-fn answer_open_acknowledge(datagram: &[u8], x: Context, c: Channel) -> u8
-    requires { ⌜ (sizeOf (some openAcknowledge) ≤ length (now datagram)) × (contextIn (now datagram) ≡ x) ⌝ }
-    ensures { λ r. ⌜
-        ((s : Rattle.slots.specs.Layout.Store) →
-        r ≡
-        numberBehind 7 (some openAcknowledge) s (datagramOf (some openAcknowledge) (now (datagram .entry))) c)
-        ⌝ }
-{
-    let channel = counterparty_channel_in(datagram, 8);
-    open_acknowledge_row(x, channel, end_verdict_in(datagram, 8), c)
 }

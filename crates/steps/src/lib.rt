@@ -29,7 +29,7 @@ ghost use Rattle.datagram.specs.Datagram.{Datagram};
 ghost use Rattle.rules.specs.Handshake.{isFull};
 ghost use Rattle.rules.specs.Refusals.{lowest};
 ghost use Rattle.verdicts.specs.Lines.{numberBehind};
-ghost use Rattle.steps.specs.Opening.{openingLines};
+ghost use Rattle.steps.specs.Moving.{movingLines};
 
 // The largest channel number, as slots' specs/Limits.antt has it.
 const TOP_CHANNEL: u64 = 4294967295;
@@ -99,9 +99,9 @@ pub fn open_try_row(
     0
 }
 
-// Lines 8, 14, 26 and 27 of a step that opens an end, by the record that it needs and its prior state.
-fn opening_row(connected: bool, v: EndVerdict, needed: Channel, prior: u8, c: Channel) -> u8
-    ensures { λ r. ⌜ r ≡ lowest none (openingLines connected v needed prior c) ⌝ }
+// Lines 8, 14, 26 and 27 of a step that moves an end to another state, by the record that it needs and its prior state.
+pub fn moving_row(connected: bool, v: EndVerdict, needed: Channel, prior: u8, c: Channel) -> u8
+    ensures { λ r. ⌜ r ≡ lowest none (movingLines connected v needed prior c) ⌝ }
 {
     if !connected {
         return 8;
@@ -126,7 +126,7 @@ pub fn open_acknowledge_row(x: Context, channel: u32, v: EndVerdict, c: Channel)
         r ≡ numberBehind 7 (some openAcknowledge) s d c)
         ⌝ }
 {
-    opening_row(
+    moving_row(
         x.connected,
         v,
         needed_try_open(c, channel),
@@ -142,7 +142,7 @@ pub fn open_confirm_row(x: Context, v: EndVerdict, c: Channel) -> u8
         r ≡ numberBehind 7 (some openConfirm) s d c)
         ⌝ }
 {
-    opening_row(
+    moving_row(
         x.connected,
         v,
         needed_peer(Channel::OPEN, c),

@@ -1,25 +1,29 @@
 -- The clock, then whether the datagram makes an end. Assumes nothing.
 use mathlib.Core.Path.{_≡_, sym, ap, _∙_}
+use mathlib.Core.Bool.{true}
 use mathlib.Core.List.{List}
 use Prim.Native.Nat.{ℕ, _-_, _/_, _≤_}
 use native.Mathlib.Omega.{arith}
+use lib.Dec.{eqb}
 use lib.ListN.{length}
 use denote.Ref.{now}
 use borrow.Author.Needs.{needs}
-use Rattle.wire.specs.Choice.{_or_}
+use borrow.Author.Tests.{eqb-true}
+use Rattle.wire.specs.Choice.{_or_, withNumber}
+use Rattle.wire.proofs.ChoiceLaws.{cases}
 use Rattle.slots.specs.declared.Channel.{Channel}
 use Rattle.slots.specs.Height.{ownHeight}
-use Rattle.slots.specs.Layout.{slotSize, recordsFrom, roomIn, storeIn}
+use Rattle.slots.specs.Layout.{slotSize, recordsFrom, roomIn, Store, storeIn}
 use Rattle.slots.proofs.FitLaws.{Sized, fits-size}
 use Rattle.slots.proofs.HeldLaws.{fit-exact}
-use Rattle.datagram.specs.Kind.{kindOf, bodyFrom, sizeOf}
-use Rattle.datagram.specs.Datagram.{kindIn, contextIn, datagramIn}
-use Rattle.datagram.proofs.DatagramLaws.{sound-is}
-use Rattle.rules.specs.Refusals.{lowest, goesBack, table, orNone, endFor}
+use Rattle.datagram.specs.Kind.{openInit, openTry, kindOf, only, bodyFrom}
+use Rattle.datagram.specs.Datagram.{contextIn, Datagram, datagramOf, datagramIn}
+use Rattle.datagram.proofs.KindLaws.{of-number}
+use Rattle.datagram.proofs.DatagramLaws.{Sound, sound-is}
+use Rattle.rules.specs.Refusals.{makesEnd, lowest, goesBack, table, orNone, endFor}
 use Rattle.verdicts.specs.Lines.{behind, numberBehind}
 use Rattle.verdicts.proofs.TestedLaws.{came}
 use Rattle.answer.specs.Known.{Known}
-use Rattle.answer.proofs.KindLaws.{making-numbers, making-number}
 use Rattle.answer.proofs.answer_sound.Statement.{statement}
 use Rattle.answer.proofs.answer_sound.Tie as tie
 
@@ -34,11 +38,11 @@ module _ (o : tie.Start) where
   sized : Sized (length bytes)
   sized = fits-size (length bytes) (fit-exact bytes (o .pre .0) .size)
 
-  long : sizeOf (kindOf (kindIn sent)) ≤ length sent
-  long = sound-is sent (o .pre .1) .size
+  sound : Sound sent
+  sound = sound-is sent (o .pre .1)
 
   body : bodyFrom ≤ length sent
-  body = omega (arith, long)
+  body = omega (arith, sound .size)
 
 -- THE CLOCK
 abbrev start : tie.After-goes-back → tie.Start
@@ -85,18 +89,37 @@ known k =
     let o = origin k in
     record {
       size = sized o .whole;
-      sound = o .pre .1;
-      kinds = sym (k .kind-in .ensures);
+      known = rw (k .kind-in .ensures) (sound o .known);
+      long = rw (k .kind-in .ensures) (sound o .size);
       context = sym (k .before .before .before .before .before .context-in .ensures);
     }
 
 -- the answer is that of the lines behind the fourth, by the kind that is read
 past-4 : (k : tie.After-kind-in) (c : Channel) →
     let s = storeIn (bytes (origin k)) in
-    let d = datagramIn (sent (origin k)) in
-    numberBehind 3 (d .kind) s d c ≡ numberBehind 4 (kindOf (k .kind-in .result)) s d c
+    let b = sent (origin k) in
+    let n = k .kind-in .result in
+    numberBehind 3 (datagramIn b .kind) s (datagramIn b) c ≡ numberBehind 4 (kindOf n) s (datagramOf (kindOf n) b) c
 unfolding numberBehind behind table lowest datagramIn
 past-4 k c = rw (k .kind-in .ensures, came (clock (k .before .before)) (k .before .if1 .left))
+
+-- the end that it is about
+abbrev named : tie.After-kind-in → Channel
+named k = orNone (endFor (storeIn (bytes (origin k))) (datagramIn (sent (origin k))))
+
+-- an end is made by the kinds 6 and 7
+making-numbers : (n : ℕ) → makesEnd (kindOf n) ≡ (eqb n 6 or eqb n 7)
+unfolding only _or_
+making-numbers n =
+    rw (of-number openInit n, of-number openTry n)
+    (cases (eqb n 6) (λ e. rw e) (λ e. cases (eqb n 7) (λ f. rw (e, f)) (λ f. rw (e, f))))
+
+-- lines 5 to 7 are not for them, and theirs look at no end
+making-number : (n : ℕ) (s : Store) (d : Datagram) (c e : Channel) → (eqb n 6 or eqb n 7) ≡ true →
+    numberBehind 4 (kindOf n) s d c ≡ numberBehind 7 (kindOf n) s d e
+unfolding numberBehind behind table lowest only _or_ withNumber
+making-number n s d c e h =
+    cases (eqb n 6) (λ i. rw (eqb-true n 6 i)) (λ i. let j : eqb n 7 ≡ true = rw i at h in rw (eqb-true n 7 j))
 
 answer-by-kind-requires : tie.Need-answer-by-kind-requires
 answer-by-kind-requires c κs = known (c .before .before)
@@ -105,23 +128,21 @@ returns-2 : tie.Need-returns-2
 unfolding _or_
 returns-2 c =
     let k = c .before .before .before in
-    let s = storeIn (bytes (origin k)) in
-    let d = datagramIn (sent (origin k)) in
+    let n = k .kind-in .result in
     c .answer-by-kind .ensures ∙
-    sym (past-4 k (orNone (endFor s d)) ∙
-    making-number (k .kind-in .result) s d (orNone (endFor s d)) (c .before .no-channel .result)
-    (making-numbers (k .kind-in .result) ∙ c .before .before .if2 .taken))
+    sym (past-4 k (named k) ∙
+    making-number n (storeIn (bytes (origin k))) (datagramOf (kindOf n) (sent (origin k))) (named k)
+    (c .before .no-channel .result) (c .before .before .if2 .taken))
 
 answer-on-requires : tie.Need-answer-on-requires
 unfolding _or_
 answer-on-requires c κs = (known (c .before), making-numbers (c .before .kind-in .result) ∙ c .if2 .left)
 
 returns-3 : tie.Need-returns-3
+unfolding datagramIn
 returns-3 c =
     let k = c .before .before in
-    let s = storeIn (bytes (origin k)) in
-    let d = datagramIn (sent (origin k)) in
-    c .answer-on .ensures ∙ sym (past-4 k (orNone (endFor s d)))
+    c .answer-on .ensures ∙ sym (past-4 k (named k) ∙ rw (k .kind-in .ensures))
 
 pub answer-sound-spec : {M : Type 1} → statement M
 answer-sound-spec =

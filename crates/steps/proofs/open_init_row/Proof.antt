@@ -1,6 +1,5 @@
 -- The lines of an open init, one after another. Assumes nothing.
-use mathlib.Core.Path.{_≡_, sym, _∙_}
-use mathlib.Core.Bool.{not}
+use mathlib.Core.Path.{sym}
 use borrow.Author.Needs.{needs}
 use Rattle.wire.specs.Choice.{_or_}
 use Rattle.datagram.specs.Kind.{only}

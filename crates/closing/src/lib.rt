@@ -1,0 +1,111 @@
+// The answer to a datagram that closes an end, and to a time-out by the other end's close, by the lines of the table
+// that are for its kind, in their order: 0 where none applies. Each function takes the parts of a datagram that its
+// lines look at, and promises the answer for all that have them.
+use datagram::Context;
+use datagram::EndVerdict;
+use datagram::Packet;
+use datagram::Verdict;
+use handshake::end_difference;
+use handshake::has_version;
+use handshake::needed_peer;
+use ordering::times_out_in_order;
+use packets::fits_source;
+use packets::is_committed;
+use packets::lacks_connection;
+use slots::Channel;
+use steps::moving_row;
+use verdicts::absence_difference;
+use verdicts::block_difference;
+use verdicts::verdict_number;
+ghost use mathlib.Core.Path.{_≡_};
+ghost use mathlib.Core.Option.{some};
+ghost use lib.ListN.{length};
+ghost use Rattle.slots.specs.Layout.{Store, sizeFor, storeIn};
+ghost use Rattle.datagram.specs.Kind.{closeInit, closeConfirm, timeOutOnClose};
+ghost use Rattle.datagram.specs.Datagram.{Datagram};
+ghost use Rattle.verdicts.specs.Lines.{numberBehind};
+
+// Close init (10): lines 8 and 26, of an OPEN end.
+pub fn close_init_row(x: Context, c: Channel) -> u8
+    ensures { λ r. ⌜
+        ((s : Store) (d : Datagram) → d .context ≡ x → r ≡ numberBehind 7 (some closeInit) s d c)
+        ⌝ }
+{
+    if lacks_connection(x) {
+        return 8;
+    }
+    if c.state != Channel::OPEN {
+        return 26;
+    }
+    0
+}
+
+// Close confirm (11): of an OPEN end, whose counterparty is CLOSED.
+pub fn close_confirm_row(x: Context, v: EndVerdict, c: Channel) -> u8
+    ensures { λ r. ⌜
+        ((s : Store) (d : Datagram) → d .context ≡ x → d .endVerdict ≡ v →
+        r ≡ numberBehind 7 (some closeConfirm) s d c)
+        ⌝ }
+{
+    moving_row(
+        x.connected,
+        v,
+        needed_peer(Channel::CLOSED, c),
+        Channel::OPEN,
+        c,
+    )
+}
+
+// Time out on close (12): lines 9 and 13, then those of `closed_row`.
+pub fn time_out_on_close_row(
+    store: &[u8],
+    count: usize,
+    p: Packet,
+    v: EndVerdict,
+    w: Verdict,
+    c: Channel,
+) -> u8
+    requires { ⌜ length (now store) ≡ sizeFor count ⌝ }
+    ensures { λ r. ⌜
+        ((d : Datagram) → d .packet ≡ p → d .endVerdict ≡ v → d .verdict ≡ w →
+        r ≡ numberBehind 7 (some timeOutOnClose) (storeIn (now (store .entry))) d c)
+        ⌝ }
+{
+    if !fits_source(c, p) {
+        return 9;
+    }
+    if !is_committed(store, count, p) {
+        return 13;
+    }
+    closed_row(p, v, w, c)
+}
+
+// Lines 14, 15 and 27 of a time-out on close: the counterparty is CLOSED, and the packet was not received, both at one
+// block.
+fn closed_row(p: Packet, v: EndVerdict, w: Verdict, c: Channel) -> u8
+    ensures { λ r. ⌜
+        ((s : Store) (d : Datagram) → d .packet ≡ p → d .endVerdict ≡ v → d .verdict ≡ w →
+        r ≡ numberBehind 13 (some timeOutOnClose) s d c)
+        ⌝ }
+{
+    let needed = needed_peer(Channel::CLOSED, c);
+    let end = verdict_number(end_difference(v, needed));
+    if end != 0 {
+        return end;
+    }
+    let absence = verdict_number(absence_difference(c, p, w));
+    if absence != 0 {
+        return absence;
+    }
+    let block = verdict_number(block_difference(v.height, v.time, w.height, w.time));
+    if block != 0 {
+        return block;
+    }
+    if !times_out_in_order(c, p.sequence, w.sequence) {
+        return 15;
+    }
+    if !has_version(v, needed) {
+        return 27;
+    }
+    0
+}
