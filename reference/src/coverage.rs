@@ -1,17 +1,18 @@
 //! How often each answer came for each kind of datagram, and which cells were reached.
 
 pub mod cell;
+mod closing;
 mod step;
 
 use std::collections::BTreeMap;
 use std::fmt;
 
 use crate::bytes::get_u16;
-use crate::datagram::{read, Body};
-use crate::generate::{Call, Origin, Row, Task};
+use crate::datagram::{read, Body, Datagram};
+use crate::generate::{although, Call, Origin, Row, Task};
 use crate::places::frame;
 use crate::refusal::*;
-use crate::store::{find_channel, next_channel};
+use crate::store::{find_channel, next_channel, Channel, ORDERED};
 use crate::subject::Left;
 use crate::table::own_channel;
 use cell::{Cell, KINDS, SORTS};
@@ -138,23 +139,37 @@ fn cells_of_store(store: &[u8], bytes: &[u8], applying: &[u8]) -> Vec<Cell> {
     let Some(datagram) = read(bytes).filter(|_| !applying.contains(&STORE_NOT_FIT)) else {
         return Vec::new();
     };
+    let kind = get_u16(bytes, frame::KIND);
     let mut cells = step::reached(store, &datagram.body, applying);
-    cells.extend(cell_of_end(store, get_u16(bytes, frame::KIND), &datagram.body, applying));
+    let end = own_channel(&datagram.body).and_then(|number| find_channel(store, number)).map(|(_, end)| end);
+    if applying.is_empty() {
+        let order = match datagram.body {
+            Body::OpenInit { order, .. } | Body::OpenTry { order, .. } => Some(order),
+            _ => end.map(|end| end.order),
+        };
+        let row = Row { kind, ordered: order == Some(ORDERED) };
+        cells.push(Cell::Accepted(row));
+        let sequence = match &datagram.body {
+            Body::TimeOut { packet, .. } | Body::TimeOutOnClose { packet, .. } => packet.sequence,
+            _ => 0,
+        };
+        let met = end.map_or(Vec::new(), |end| although::met(row, store, &end, sequence));
+        cells.extend(met.into_iter().map(|index| Cell::Although(row, index)));
+    }
+    cells.extend(end.and_then(|end| cell_of_end(kind, &end, &datagram, applying)));
+    cells.extend(end.and_then(|end| closing::reached(&end, &datagram, applying)));
     cells
 }
 
 /// The cell of a time-out that is accepted, and of a refusal that applies alone on an end in another state than the
 /// one that the kind is for.
-fn cell_of_end(store: &[u8], kind: u16, body: &Body, applying: &[u8]) -> Option<Cell> {
-    let (_, end) = find_channel(store, own_channel(body)?)?;
-    let (ordered, state) = (end.is_ordered(), end.state);
-    match (applying, body) {
-        ([], Body::TimeOut { packet, verdict }) => {
-            Some(Cell::TimedOut { ordered, state, below: verdict.sequence < packet.sequence })
+fn cell_of_end(kind: u16, end: &Channel, datagram: &Datagram, applying: &[u8]) -> Option<Cell> {
+    let (row, state) = (Row { kind, ordered: end.is_ordered() }, end.state);
+    match (applying, &datagram.body) {
+        ([], Body::TimeOut { packet, verdict } | Body::TimeOutOnClose { packet, verdict, .. }) => {
+            Some(Cell::TimedOut { row, state, below: verdict.sequence < packet.sequence })
         }
-        ([number], _) if cell::state_for(kind) != Some(state) => {
-            Some(Cell::InState(Row { kind, ordered }, state, *number))
-        }
+        ([number], _) if cell::state_for(kind) != Some(state) => Some(Cell::InState(row, state, *number)),
         _ => None,
     }
 }

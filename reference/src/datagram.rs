@@ -2,7 +2,8 @@
 
 use crate::bytes::*;
 use crate::places::{
-    context, frame, open_acknowledge, open_confirm, open_init, open_try, packet, send, verdict, write,
+    close_init, confirm, context, frame, open_acknowledge, open_init, open_try, packet, send, time_out_on_close,
+    verdict, write,
 };
 use crate::store::{ORDERED, UNORDERED};
 use crate::verdict::{EndVerdict, Verdict};
@@ -16,10 +17,15 @@ pub const OPEN_INIT: u16 = 6;
 pub const OPEN_TRY: u16 = 7;
 pub const OPEN_ACKNOWLEDGE: u16 = 8;
 pub const OPEN_CONFIRM: u16 = 9;
+pub const CLOSE_INIT: u16 = 10;
+pub const CLOSE_CONFIRM: u16 = 11;
+pub const TIME_OUT_ON_CLOSE: u16 = 12;
 
-/// The five kinds that are about packets, and the four steps of the opening handshake.
+/// The five kinds that are about packets on channels in use, the four steps of the opening handshake, and closing: its
+/// two steps and the time-out on close.
 pub const PACKET_KINDS: [u16; 5] = [SEND, RECEIVE, WRITE, ACKNOWLEDGE, TIME_OUT];
 pub const HANDSHAKE_KINDS: [u16; 4] = [OPEN_INIT, OPEN_TRY, OPEN_ACKNOWLEDGE, OPEN_CONFIRM];
+pub const CLOSING_KINDS: [u16; 3] = [CLOSE_INIT, CLOSE_CONFIRM, TIME_OUT_ON_CLOSE];
 
 /// What the host says about the moment of the call.
 #[derive(Clone, Copy, Debug, PartialEq, Eq)]
@@ -55,6 +61,9 @@ pub enum Body<'a> {
     OpenTry { counterparty_port: u16, counterparty_channel: u32, order: u8, verdict: EndVerdict, version: &'a [u8] },
     OpenAcknowledge { channel: u32, counterparty_channel: u32, verdict: EndVerdict },
     OpenConfirm { channel: u32, verdict: EndVerdict },
+    CloseInit { channel: u32 },
+    CloseConfirm { channel: u32, verdict: EndVerdict },
+    TimeOutOnClose { packet: Packet, end_verdict: EndVerdict, verdict: Verdict },
 }
 
 #[derive(Clone, Copy, Debug, PartialEq, Eq)]
@@ -73,7 +82,9 @@ pub fn length_of(kind: u16) -> Option<usize> {
         OPEN_INIT => open_init::VERSION,
         OPEN_TRY => open_try::VERSION,
         OPEN_ACKNOWLEDGE => open_acknowledge::LENGTH,
-        OPEN_CONFIRM => open_confirm::LENGTH,
+        OPEN_CONFIRM | CLOSE_CONFIRM => confirm::LENGTH,
+        CLOSE_INIT => close_init::LENGTH,
+        TIME_OUT_ON_CLOSE => time_out_on_close::LENGTH,
         _ => return None,
     };
     Some(frame::BODY + context::LENGTH + behind)
@@ -84,6 +95,11 @@ const DIGEST_LENGTH: usize = 32;
 /// Whether a datagram of this kind ends with a version, which takes all bytes that are left.
 pub fn has_version(kind: u16) -> bool {
     matches!(kind, OPEN_INIT | OPEN_TRY)
+}
+
+/// Whether a datagram of this kind is a step of the handshake or of closing, and so about no packet.
+pub fn is_step(kind: u16) -> bool {
+    (OPEN_INIT..=CLOSE_CONFIRM).contains(&kind)
 }
 
 /// Whether a datagram of this kind can have that length.
@@ -136,7 +152,23 @@ fn read_body(kind: u16, bytes: &[u8]) -> Option<Body<'_>> {
         TIME_OUT => {
             Some(Body::TimeOut { packet: read_packet(bytes)?, verdict: Verdict::read(&bytes[packet::LENGTH..])? })
         }
+        CLOSE_INIT | CLOSE_CONFIRM | TIME_OUT_ON_CLOSE => read_closing(kind, bytes),
         _ => read_step(kind, bytes),
+    }
+}
+
+fn read_closing(kind: u16, bytes: &[u8]) -> Option<Body<'_>> {
+    match kind {
+        CLOSE_INIT => Some(Body::CloseInit { channel: get_u32(bytes, close_init::CHANNEL) }),
+        CLOSE_CONFIRM => Some(Body::CloseConfirm {
+            channel: get_u32(bytes, confirm::CHANNEL),
+            verdict: EndVerdict::read(&bytes[confirm::VERDICT..])?,
+        }),
+        _ => Some(Body::TimeOutOnClose {
+            packet: read_packet(bytes)?,
+            end_verdict: EndVerdict::read(&bytes[time_out_on_close::END_VERDICT..])?,
+            verdict: Verdict::read(&bytes[time_out_on_close::VERDICT..])?,
+        }),
     }
 }
 
@@ -161,8 +193,8 @@ fn read_step(kind: u16, bytes: &[u8]) -> Option<Body<'_>> {
             verdict: EndVerdict::read(&bytes[open_acknowledge::VERDICT..])?,
         }),
         OPEN_CONFIRM => Some(Body::OpenConfirm {
-            channel: get_u32(bytes, open_confirm::CHANNEL),
-            verdict: EndVerdict::read(&bytes[open_confirm::VERDICT..])?,
+            channel: get_u32(bytes, confirm::CHANNEL),
+            verdict: EndVerdict::read(&bytes[confirm::VERDICT..])?,
         }),
         _ => None,
     }

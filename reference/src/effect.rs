@@ -70,7 +70,7 @@ pub struct Effect {
     pub next_channel: Option<u64>,
     /// The packet record as it is afterwards, and its index; receiving on an ordered channel touches none.
     pub record: Option<(usize, Record)>,
-    /// The two steps that open an end emit nothing.
+    /// The steps that open or close an end emit nothing.
     pub emitted: Option<Emitted>,
 }
 

@@ -2,6 +2,7 @@
 //! number of calls is made, accepted ones and ones aimed at a refusal.
 
 pub mod accept;
+pub mod although;
 pub mod call;
 pub mod damage;
 pub mod draft;
@@ -44,9 +45,9 @@ impl Generator {
         }
         self.left -= 1;
         match self.rng.below(100) {
-            0..=24 => self.accepted(),
-            25..=49 => self.with_faults(false),
-            50..=71 => self.with_faults(true),
+            0..=22 => self.accepted(),
+            23..=45 => self.with_faults(false),
+            46..=71 => self.with_faults(true),
             72..=81 => self.damaged(),
             82..=87 => self.malformed(),
             88..=90 => self.garbage(),
@@ -60,33 +61,44 @@ impl Generator {
         (0..12).find_map(|_| grow::any_accepted(&mut self.rng, &self.store))
     }
 
-    /// A draft to be spoiled: it closes nothing, so all kinds come alike on channels of both orders. A time-out is as
-    /// good on an end that is not OPEN.
+    /// A draft to be spoiled: it closes nothing, so all kinds come alike on channels of both orders. A time-out of
+    /// either sort is as good on an end that is not OPEN.
     fn draft_to_spoil(&mut self) -> Option<Draft> {
-        let kind = if self.rng.one_in(4) { self.rng.pick(&HANDSHAKE_KINDS) } else { self.rng.pick(&PACKET_KINDS) };
+        let kind = match self.rng.below(16) {
+            0..=2 => self.rng.pick(&HANDSHAKE_KINDS),
+            3 => self.rng.pick(&[CLOSE_INIT, CLOSE_CONFIRM]),
+            4 | 5 => TIME_OUT_ON_CLOSE,
+            _ => self.rng.pick(&PACKET_KINDS),
+        };
         let ordered = self.rng.one_in(2);
         let mut store = self.store.clone();
         let mut draft = (0..30).find_map(|_| {
             shape::make_ready(&mut self.rng, &mut store, kind);
             accept::accepted(&mut self.rng, &store, kind).filter(|draft| draft.row().ordered == ordered)
         })?;
-        if kind == TIME_OUT && self.rng.one_in(2) {
+        if matches!(kind, TIME_OUT | TIME_OUT_ON_CLOSE) && self.rng.one_in(2) {
             draft.set_state(self.rng.pick(&[INIT, TRYOPEN, CLOSED]));
         }
         Some(draft)
     }
 
-    /// A call made for the answer 0; the store goes on with what it leaves.
+    /// A call made for the answer 0; mostly the store goes on with what it leaves. The store that the call itself gets
+    /// may hold something for which other kinds are refused.
     fn accepted(&mut self) -> Call {
         if self.rng.one_in(4) {
             shape::reshape(&mut self.rng, &mut self.store);
         }
-        let Some(draft) = self.draft() else {
+        let Some(mut draft) = self.draft() else {
             self.left = 0;
             return self.garbage();
         };
         let (output, datagram) = (self.output(), draft.encode());
-        crate::handle(&mut self.store, &mut output.clone(), &datagram);
+        if grow::may_go_on(&mut self.rng, &draft) {
+            crate::handle(&mut self.store, &mut output.clone(), &datagram);
+        }
+        if self.rng.one_in(3) {
+            although::bring_about(&mut self.rng, &mut draft);
+        }
         let task = Task::Handle { store: draft.store, output, datagram };
         Call { origin: Origin::Accepted, task, intended: Some(0) }
     }
@@ -108,8 +120,12 @@ impl Generator {
         self.garbage()
     }
 
+    /// To a time-out on close 14 applies for one of four parts, so it comes four times as often there.
     fn fault(&mut self, draft: &Draft) -> u8 {
-        let numbers = fault::aims(draft.row());
+        let mut numbers = fault::aims(draft.row());
+        if draft.kind == TIME_OUT_ON_CLOSE {
+            numbers.extend([OTHER_VERDICT; 3]);
+        }
         self.rng.pick(&numbers)
     }
 

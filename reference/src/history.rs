@@ -1,6 +1,7 @@
-//! Histories of two ledgers that open channels and send packets over them, with true and with lying verdicts, checked
-//! by counting.
+//! Histories of two ledgers that open channels, send packets over them and close them, with true and with lying
+//! verdicts, checked by counting.
 
+mod closing;
 mod ends;
 mod handshake;
 mod ledger;
@@ -138,14 +139,15 @@ impl History {
             return;
         }
         let emitted = left.output.get(..left.size as usize).unwrap_or_default();
-        self.tally.take(at, emitted, &left.store);
-        if get_u16(&datagram, frame::KIND) == SEND {
+        let kind = get_u16(&datagram, frame::KIND);
+        self.tally.take(at, kind, emitted, &left.store);
+        if kind == SEND {
             self.sent.push((at, Packet::read(&left.output[frame::BODY..])));
         }
         self.ledgers[at].accept(left.store);
     }
 
-    /// Whether the call keeps the history as true as it has to be; a verdict that does closes its block.
+    /// Whether the call keeps the history as true as it has to be; verdicts that do close their blocks.
     fn admit(&mut self, at: usize, bytes: &[u8]) -> bool {
         let Some(datagram) = read(bytes).filter(|_| self.truth != Truth::Nothing) else {
             return true;
@@ -154,15 +156,14 @@ impl History {
         if !refused_anyway && !self.ledgers[at].keeps_closed(&datagram.context) {
             return false;
         }
-        let shown = Shown::of(&datagram.body).filter(|_| self.truth.of(get_u16(bytes, frame::KIND)));
+        let mut shown = Shown::all_of(&datagram.body);
+        shown.retain(|_| self.truth.of(get_u16(bytes, frame::KIND)));
         let other = &mut self.ledgers[1 - at];
-        shown.is_none_or(|shown| {
-            let is_true = other.is_true(&shown);
-            if is_true {
-                other.close(&shown);
-            }
-            is_true
-        })
+        let are_true = shown.iter().all(|shown| other.is_true(shown));
+        if are_true {
+            shown.iter().for_each(|shown| other.close(shown));
+        }
+        are_true
     }
 
     /// Before an end is OPEN mostly a step of the handshake, and later mostly a packet's.
@@ -170,6 +171,9 @@ impl History {
         let is_open = channels(&self.ledgers[at].store).iter().any(|(_, end)| end.is_open());
         if self.rng.one_in(if is_open { 6 } else { 2 }) {
             return self.handshake(at);
+        }
+        if self.rng.one_in(7) {
+            return self.closing(at);
         }
         match self.rng.below(20) {
             0..=4 => self.send(at),
@@ -208,11 +212,12 @@ impl History {
         if self.rng.one_in(3) {
             return Some(garbage(&mut self.rng));
         }
-        let mut bytes = match self.rng.below(5) {
+        let mut bytes = match self.rng.below(6) {
             0 => self.send(at),
             1 => self.receive(at),
             2 => self.acknowledge(at),
             3 => self.time_out(at),
+            4 => self.closing(at),
             _ => self.handshake(at),
         }?;
         let place = self.rng.index(bytes.len());

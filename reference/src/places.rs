@@ -91,7 +91,7 @@ pub mod verdict {
     pub const DIGEST: usize = 48;
 }
 
-/// The verdict of a handshake's step, with the other end's whole channel record.
+/// A verdict with the other end's whole channel record.
 pub mod end_verdict {
     pub const LENGTH: usize = 82;
     pub const CLAIM: usize = 0;
@@ -141,11 +141,24 @@ pub mod open_acknowledge {
     pub const LENGTH: usize = VERDICT + super::end_verdict::LENGTH;
 }
 
-/// What stands behind the context of an open confirm.
-pub mod open_confirm {
+/// What stands behind the context of an open confirm and of a close confirm.
+pub mod confirm {
     pub const CHANNEL: usize = 0;
     pub const VERDICT: usize = 4;
     pub const LENGTH: usize = VERDICT + super::end_verdict::LENGTH;
+}
+
+/// What stands behind the context of a close init.
+pub mod close_init {
+    pub const CHANNEL: usize = 0;
+    pub const LENGTH: usize = 4;
+}
+
+/// What stands behind the context of a time-out on close, from the packet on.
+pub mod time_out_on_close {
+    pub const END_VERDICT: usize = super::packet::LENGTH;
+    pub const VERDICT: usize = END_VERDICT + super::end_verdict::LENGTH;
+    pub const LENGTH: usize = VERDICT + super::verdict::LENGTH;
 }
 
 pub mod opening {

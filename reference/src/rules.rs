@@ -1,6 +1,7 @@
-//! The handlers of packets; those of the opening handshake stand beside. Each asks its row of refusals in rising order
-//! and answers the effect of the acceptance.
+//! The handlers of packets; those of the opening handshake and of closing stand beside. Each asks its row of refusals
+//! in rising order and answers the effect of the acceptance.
 
+mod closing;
 mod handshake;
 
 use crate::bytes::*;
@@ -20,6 +21,11 @@ pub fn decide(store: &[u8], output_length: usize, bytes: &[u8]) -> Result<Effect
     let (height, time) = (last_height(store), last_time(store));
     let before = context.height < height || context.time < time;
     refuse_if(before || context.height == height && context.time != time, BEFORE_LAST)?;
+    decide_body(store, context, body)
+}
+
+/// The refusals from 5 on.
+fn decide_body(store: &[u8], context: Context, body: Body) -> Result<Effect, u8> {
     match body {
         Body::Send { channel, timeout_height, timeout_timestamp, digest } => {
             let call = Call::enter(store, context, channel)?;
@@ -43,6 +49,11 @@ pub fn decide(store: &[u8], output_length: usize, bytes: &[u8]) -> Result<Effect
             Call::find(store, context, channel)?.owned()?.open_acknowledge(counterparty_channel, verdict)
         }
         Body::OpenConfirm { channel, verdict } => Call::find(store, context, channel)?.owned()?.open_confirm(verdict),
+        Body::CloseInit { channel } => Call::find(store, context, channel)?.owned()?.close_init(),
+        Body::CloseConfirm { channel, verdict } => Call::find(store, context, channel)?.owned()?.close_confirm(verdict),
+        Body::TimeOutOnClose { packet, end_verdict, verdict } => {
+            Call::find(store, context, packet.source_channel)?.owned()?.time_out_on_close(packet, end_verdict, verdict)
+        }
     }
 }
 
@@ -144,19 +155,26 @@ impl Call<'_> {
     }
 
     fn time_out(&self, packet: Packet, verdict: Verdict) -> Result<Effect, u8> {
-        let mut end = self.end;
         refuse_if(!self.sent_here(&packet), WRONG_END)?;
         let passed = reached(verdict.proof_height, packet.timeout_height)
             || reached(verdict.proof_time, packet.timeout_timestamp);
         refuse_if(!passed, TIMEOUT_NOT_PASSED)?;
         let place = self.commitment(&packet).ok_or(NO_COMMITMENT)?;
-        refuse_if(!shows_not_received(&verdict, &packet, end.is_ordered()), OTHER_VERDICT)?;
-        if end.is_ordered() {
-            // Above the sequence, the claimed next receive says that the packet was taken.
-            refuse_if(verdict.sequence > packet.sequence, OUT_OF_ORDER)?;
-            end.state = CLOSED;
-        }
-        Ok(self.effect(end, Some((place, Record::FREE)), Emitted::TimedOut(packet)))
+        refuse_if(!shows_not_received(&verdict, &packet, self.end.is_ordered()), OTHER_VERDICT)?;
+        refuse_if(self.says_taken(&verdict, &packet), OUT_OF_ORDER)?;
+        Ok(self.given_back(place, packet))
+    }
+
+    /// Above the sequence, the next receive that is claimed of an ordered channel says that the packet was taken.
+    fn says_taken(&self, verdict: &Verdict, packet: &Packet) -> bool {
+        self.end.is_ordered() && verdict.sequence > packet.sequence
+    }
+
+    /// What both time-outs do, with the place of the commitment.
+    fn given_back(&self, place: usize, packet: Packet) -> Effect {
+        let state = if self.end.is_ordered() { CLOSED } else { self.end.state };
+        let end = Channel { state, ..self.end };
+        self.effect(end, Some((place, Record::FREE)), Emitted::TimedOut(packet))
     }
 
     /// At the sender the source is this end and the destination its counterparty.
@@ -179,6 +197,12 @@ impl Call<'_> {
     fn effect(&self, end: Channel, record: Option<(usize, Record)>, emitted: Emitted) -> Effect {
         let Context { height, time, .. } = self.context;
         Effect { height, time, end: (self.index, end), next_channel: None, record, emitted: Some(emitted) }
+    }
+
+    /// The end alone changes, and nothing is emitted.
+    fn moved(&self, end: Channel) -> Effect {
+        let Context { height, time, .. } = self.context;
+        Effect { height, time, end: (self.index, end), next_channel: None, record: None, emitted: None }
     }
 }
 

@@ -3,11 +3,10 @@
 use std::slice::{from_raw_parts, from_raw_parts_mut};
 
 use crate::bytes::*;
-use crate::datagram::{self, Body, Packet, ACKNOWLEDGE, RECEIVE};
+use crate::datagram::{self, Body, Packet, ACKNOWLEDGE, RECEIVE, TIME_OUT};
 use crate::places::{frame, header, PACKET_RECORDS};
 use crate::store::*;
 use crate::subject::{Handle, Subject};
-use crate::verdict::Verdict;
 
 pub const RIGHT: Subject = with(right);
 
@@ -69,8 +68,12 @@ macro_rules! behind_c {
     };
 }
 
-// Behind the macro, which it uses.
+// Behind the macro, which the first two use.
+pub mod closing;
 pub mod handshake;
+mod tools;
+
+use tools::{kind_of, refuse_where};
 
 behind_c!(right, crate::handle);
 
@@ -155,20 +158,21 @@ behind_c!(out_of_turn, |store, output, datagram| {
 
 // Leaves packets behind a timeout stranded on the end that it closed.
 behind_c!(asks_open, |store, output, datagram| {
-    refuse_where(store, output, datagram, 6, |end, _, _| !end.is_open())
+    refuse_where(store, output, datagram, (TIME_OUT, 6), |_, _, end| !end.is_open())
 });
 
 // The claimed next receive has to be the packet's sequence.
 behind_c!(next_alone, |store, output, datagram| {
-    refuse_where(store, output, datagram, 15, |end, packet, verdict| {
-        end.is_ordered() && verdict.sequence < packet.sequence
+    refuse_where(store, output, datagram, (TIME_OUT, 15), |body, _, end| match body {
+        Body::TimeOut { packet, verdict } => end.is_ordered() && verdict.sequence < packet.sequence,
+        _ => false,
     })
 });
 
 // Takes any claimed next receive.
 behind_c!(gives_back, |store, output, datagram| {
     let answer = crate::handle(store, output, datagram);
-    let Some((packet, _)) = time_out_of(datagram).filter(|_| answer.0 == 15) else {
+    let Some(packet) = time_out_of(datagram).filter(|_| answer.0 == 15) else {
         return answer;
     };
     let mut lower = datagram.to_vec();
@@ -180,7 +184,7 @@ behind_c!(gives_back, |store, output, datagram| {
 // On a CLOSED end any block is taken for a late one.
 behind_c!(early_if_closed, |store, output, datagram| {
     let answer = crate::handle(store, output, datagram);
-    let packet = time_out_of(datagram).filter(|_| answer.0 == 12).map(|(packet, _)| packet);
+    let packet = time_out_of(datagram).filter(|_| answer.0 == 12);
     let end = packet.and_then(|packet| find_channel(store, packet.source_channel)).map(|(_, end)| end);
     if end.is_none_or(|end| end.is_open()) {
         return answer;
@@ -235,34 +239,9 @@ unsafe extern "C" fn writes_behind(
     number
 }
 
-fn time_out_of(bytes: &[u8]) -> Option<(Packet, Verdict)> {
+fn time_out_of(bytes: &[u8]) -> Option<Packet> {
     match datagram::read(bytes)?.body {
-        Body::TimeOut { packet, verdict } => Some((packet, verdict)),
+        Body::TimeOut { packet, .. } => Some(packet),
         _ => None,
     }
-}
-
-/// Refuses a time-out that gets 0 or a higher refusal, where the test says so.
-fn refuse_where(
-    store: &mut [u8],
-    output: &mut [u8],
-    datagram: &[u8],
-    refusal: u8,
-    test: impl Fn(Channel, Packet, Verdict) -> bool,
-) -> (u8, u32) {
-    let (number, _) = crate::handle(&mut store.to_vec(), &mut output.to_vec(), datagram);
-    if number == 0 || number > refusal {
-        // The store is fit and the channel is there: both were asked before.
-        let call = time_out_of(datagram).and_then(|(packet, verdict)| {
-            find_channel(store, packet.source_channel).map(|(_, end)| (end, packet, verdict))
-        });
-        if call.is_some_and(|(end, packet, verdict)| test(end, packet, verdict)) {
-            return (refusal, 0);
-        }
-    }
-    crate::handle(store, output, datagram)
-}
-
-fn kind_of(datagram: &[u8]) -> u16 {
-    get_u16(datagram, frame::KIND)
 }

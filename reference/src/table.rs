@@ -1,6 +1,7 @@
 //! The table of refusals line by line. `rules` stops at the first refusal; here each line is asked by itself, so
 //! that the comparison knows whether a call is refused for one reason alone or for several.
 
+pub mod closing;
 mod handshake;
 
 use crate::bytes::*;
@@ -41,13 +42,16 @@ pub fn own_channel(body: &Body) -> Option<u32> {
     match body {
         Body::Send { channel, .. } | Body::Write { channel, .. } => Some(*channel),
         Body::Receive { packet, .. } => Some(packet.dest_channel),
-        Body::Acknowledge { packet, .. } | Body::TimeOut { packet, .. } => Some(packet.source_channel),
+        Body::Acknowledge { packet, .. } | Body::TimeOut { packet, .. } | Body::TimeOutOnClose { packet, .. } => {
+            Some(packet.source_channel)
+        }
         Body::OpenAcknowledge { channel, .. } | Body::OpenConfirm { channel, .. } => Some(*channel),
+        Body::CloseInit { channel } | Body::CloseConfirm { channel, .. } => Some(*channel),
         Body::OpenInit { .. } | Body::OpenTry { .. } => None,
     }
 }
 
-/// The lines behind 5: 6 for packets but not for a time-out, 7 for all, then those of the kind.
+/// The lines behind 5: 6 for packets but not for a time-out of either sort, 7 for all, then those of the kind.
 fn of_end(store: &[u8], datagram: &Datagram, end: &Channel) -> Vec<(u8, bool)> {
     let Datagram { context, body } = datagram;
     let asks_open =
@@ -63,6 +67,11 @@ fn of_end(store: &[u8], datagram: &Datagram, end: &Channel) -> Vec<(u8, bool)> {
             of_acknowledge(store, context, end, packet, acknowledgement, verdict)
         }
         Body::TimeOut { packet, verdict } => of_time_out(store, end, packet, verdict),
+        Body::CloseInit { .. } => closing::of_close(context, end, None),
+        Body::CloseConfirm { verdict, .. } => closing::of_close(context, end, Some(verdict)),
+        Body::TimeOutOnClose { packet, end_verdict, verdict } => {
+            closing::of_time_out_on_close(store, end, packet, end_verdict, verdict)
+        }
         _ => handshake::of_step(context, body, end),
     });
     lines

@@ -5,7 +5,7 @@ use std::collections::BTreeSet;
 use crate::compare::compare;
 use crate::generate::{Generator, Origin};
 use crate::history::{self, Truth};
-use crate::shim::{self, handshake};
+use crate::shim::{self, closing, handshake};
 use crate::workload::{workload, Workload, SEGMENT};
 
 const SEED: u64 = 20_240_601;
@@ -31,7 +31,7 @@ fn unmet_cells_are_told() {
 
 #[test]
 fn wrong_handlers_are_found() {
-    for (name, handle) in shim::WRONG.into_iter().chain(shim::handshake::WRONG) {
+    for (name, handle) in shim::WRONG.into_iter().chain(handshake::WRONG).chain(closing::WRONG) {
         let report = compare(&shim::with(handle), 5_000, SEED);
         println!("{name}: {} different calls", report.different_calls);
         assert!(report.different_calls > 0, "{name}");
@@ -94,6 +94,13 @@ fn wrong_histories_break_promises() {
         ("other versions", handshake::OTHER_VERSIONS, Truth::Openings, "an opened end is not paired"),
         ("names none", handshake::NAMES_NONE, Truth::Everything, "an opened end is not paired"),
         ("emits at open", handshake::EMITS_AT_OPEN, Truth::Nothing, "made ends are not those emitted"),
+        ("confirms any close", closing::CONFIRMS_ANY_CLOSE, Truth::Everything, "a close confirm answers no close"),
+        ("emits at close", closing::EMITS_AT_CLOSE, Truth::Nothing, "made ends are not those emitted"),
+        ("frees at close", closing::FREES_AT_CLOSE, Truth::Nothing, "left"),
+        ("other not closed", closing::OTHER_NOT_CLOSED, Truth::Everything, "delivered after its time-out on close"),
+        ("receives on closed", closing::RECEIVES_ON_CLOSED, Truth::Everything, "delivered after its time-out on close"),
+        ("two blocks", closing::TWO_BLOCKS, Truth::Everything, "timed out on close after its delivery"),
+        ("gives back", closing::GIVES_BACK_ON_CLOSE, Truth::Everything, "timed out on close after its delivery"),
     ] {
         let outcome = history::run(&shim::with(handle), 100, SEED, truth);
         println!("{name}: {} broken, first {:?}", outcome.broken.len(), outcome.broken.first());
@@ -101,16 +108,23 @@ fn wrong_histories_break_promises() {
     }
 }
 
-/// Lies about opened ends break what is promised with true ones, and lies about packets the rest: nothing less truth
-/// would do.
+/// Lies about opened ends break what is promised with true ones, and lies about packets, tries and closes the rest:
+/// nothing less truth would do.
 #[test]
 fn lies_break_promises() {
     let excused = |truth| history::run(&shim::RIGHT, 200, SEED, truth).excused;
-    let of_packets = ["not delivered as sent", "delivered after its time-out", "timed out after its delivery"];
+    let of_packets = [
+        "not delivered as sent",
+        "delivered after its time-out",
+        "timed out after its delivery",
+        "delivered after its time-out on close",
+        "timed out on close after its delivery",
+    ];
     let of_ends = ["an opened end is not paired", "two opened ends name one end", "delivered twice"];
     let (openings, nothing) = (excused(Truth::Openings), excused(Truth::Nothing));
     println!("{openings:?}\n{nothing:?}");
-    for name in of_packets.into_iter().chain(["a try answers no init"]) {
+    let answers = ["a try answers no init", "a close confirm answers no close"];
+    for name in of_packets.into_iter().chain(answers) {
         assert!(openings.contains_key(name) && nothing.contains_key(name), "{name}");
     }
     assert!(of_ends.iter().all(|name| !openings.contains_key(name) && nothing.contains_key(name)));

@@ -2,14 +2,30 @@
 
 use std::fmt;
 
+use super::closing::{self, Circumstance};
 use super::step::{self, Room, Text};
 use crate::datagram::*;
+use crate::generate::although::{self, Although};
 use crate::generate::{damage, fault, malform, Row};
 use crate::refusal::*;
 use crate::store::{CLOSED, INIT, OPEN, TRYOPEN};
+use crate::table::closing::Part;
 
 /// Names of the kinds, from kind 1.
-pub const KINDS: [&str; 9] = ["send", "receive", "write", "acknow.", "time out", "init", "try", "open ack.", "confirm"];
+pub const KINDS: [&str; 12] = [
+    "send",
+    "receive",
+    "write",
+    "acknow.",
+    "time out",
+    "init",
+    "try",
+    "open ack.",
+    "confirm",
+    "close",
+    "close cf.",
+    "on close",
+];
 /// What an accepted call can emit; 0 is nothing.
 const EMITTED: [u16; 7] = [0, 0x0101, 0x0102, 0x0103, 0x0104, 0x0105, 0x0107];
 
@@ -22,11 +38,19 @@ pub enum Cell {
     Alone(Row, u8),
     /// These two refusals applied, the lower one first.
     Pair(Row, u8, u8),
-    /// A time-out was accepted on an end of this order and state, its claimed sequence below the packet's or at it.
-    TimedOut { ordered: bool, state: u8, below: bool },
+    /// A call of this row was accepted.
+    Accepted(Row),
+    /// A call of this row was accepted although the store held the thing of this index.
+    Although(Row, usize),
+    /// A time-out of this row was accepted on an end in this state, its claimed sequence below the packet's or at it.
+    TimedOut { row: Row, state: u8, below: bool },
+    /// A time-out on close was accepted so.
+    OnClose(Circumstance),
+    /// To a time-out on close 14 applied for this part of its verdicts alone, and no other number but this one, or 0.
+    Part(Row, Part, u8),
     /// On an end in this state, which is not the one that the kind is for, this refusal applied and no other.
     InState(Row, u8, u8),
-    /// A step of the handshake had a version of this sort, and was accepted or refused for it alone.
+    /// A datagram had or showed a version of this sort, and was accepted or refused for it alone.
     Version(u16, Text),
     /// A step that makes an end met a store with this much room, and was accepted or refused for it alone.
     Room(u16, Room),
@@ -45,11 +69,14 @@ pub enum Cell {
 }
 
 /// The sorts of cells, as a run tells them.
-pub const SORTS: [&str; 13] = [
+pub const SORTS: [&str; 17] = [
     "answers by kind",
     "refusals alone",
     "pairs",
+    "accepted by order",
     "time-outs accepted",
+    "accepted on close",
+    "parts of 14",
     "alone by state",
     "versions",
     "room for an end",
@@ -59,6 +86,7 @@ pub const SORTS: [&str; 13] = [
     "maker's answers",
     "maker's next numbers",
     "lengths",
+    "accepted although",
 ];
 
 impl Cell {
@@ -68,16 +96,20 @@ impl Cell {
             Cell::Answer(..) => 0,
             Cell::Alone(..) => 1,
             Cell::Pair(..) => 2,
-            Cell::TimedOut { .. } => 3,
-            Cell::InState(..) => 4,
-            Cell::Version(..) => 5,
-            Cell::Room(..) => 6,
-            Cell::Emitted(_) => 7,
-            Cell::Damage(_) => 8,
-            Cell::Way(..) => 9,
-            Cell::Maker(_) => 10,
-            Cell::Next(_) => 11,
-            Cell::Length => 12,
+            Cell::Accepted(_) => 3,
+            Cell::TimedOut { .. } => 4,
+            Cell::OnClose(_) => 5,
+            Cell::Part(..) => 6,
+            Cell::InState(..) => 7,
+            Cell::Version(..) => 8,
+            Cell::Room(..) => 9,
+            Cell::Emitted(_) => 10,
+            Cell::Damage(_) => 11,
+            Cell::Way(..) => 12,
+            Cell::Maker(_) => 13,
+            Cell::Next(_) => 14,
+            Cell::Length => 15,
+            Cell::Although(..) => 16,
         }
     }
 }
@@ -98,11 +130,18 @@ impl fmt::Display for Cell {
             Cell::Answer(kind, number) => write!(out, "{}: answer {number}", name(*kind)),
             Cell::Alone(row, number) => write!(out, "{row}: {number} alone"),
             Cell::Pair(row, low, high) => write!(out, "{row}: {low} with {high}"),
-            Cell::TimedOut { ordered, state, below } => {
+            Cell::Accepted(row) => write!(out, "{row}: accepted"),
+            Cell::Although(row, index) => {
+                let Although { name, refusal, .. } = &although::ALL[*index];
+                write!(out, "{row}: no {refusal} although {name}")
+            }
+            Cell::TimedOut { row, state, below } => {
                 let claimed = if *below { "below" } else { "at" };
-                let row = Row { kind: TIME_OUT, ordered: *ordered };
                 write!(out, "{row}: accepted, end {}, claim {claimed} the sequence", state_name(*state))
             }
+            Cell::OnClose(circumstance) => write!(out, "{circumstance}"),
+            Cell::Part(row, part, 0) => write!(out, "{row}: 14 by {part} alone"),
+            Cell::Part(row, part, beside) => write!(out, "{row}: 14 by {part} with {beside}"),
             Cell::InState(row, state, number) => write!(out, "{row}: {number} alone, end {}", state_name(*state)),
             Cell::Version(kind, text) => write!(out, "{}: version {text}", name(*kind)),
             Cell::Room(kind, room) => write!(out, "{}: {room}", name(*kind)),
@@ -127,7 +166,7 @@ fn state_name(state: u8) -> &'static str {
 }
 
 pub fn kinds() -> impl Iterator<Item = u16> {
-    PACKET_KINDS.into_iter().chain(HANDSHAKE_KINDS)
+    PACKET_KINDS.into_iter().chain(HANDSHAKE_KINDS).chain(CLOSING_KINDS)
 }
 
 /// The order is the end's, or the one that a new end is to have.
@@ -186,16 +225,23 @@ pub fn state_for(kind: u16) -> Option<u8> {
 }
 
 /// The refusals that can apply alone in this row on an end in another state than the one that it is for. There 6 or 26
-/// applies to all kinds but a time-out; behind 1, 3 and 5 there is no end to look at.
+/// applies to all kinds but the two time-outs; behind 1, 3 and 5 there is no end to look at.
 fn alone_by_state(row: Row) -> Vec<Cell> {
     let mut numbers = fault::aims(row);
     numbers.retain(|number| match row.kind {
-        TIME_OUT => !matches!(*number, STORE_NOT_FIT | MALFORMED | NO_CHANNEL),
+        TIME_OUT | TIME_OUT_ON_CLOSE => !matches!(*number, STORE_NOT_FIT | MALFORMED | NO_CHANNEL),
         _ => matches!(*number, NOT_OPEN | NOT_PRIOR_STATE),
     });
     let usual = state_for(row.kind);
     let others = [INIT, TRYOPEN, OPEN, CLOSED].into_iter().filter(|state| usual.is_some_and(|usual| usual != *state));
     others.flat_map(|state| numbers.iter().map(move |number| Cell::InState(row, state, *number))).collect()
+}
+
+/// The time-outs of this kind that can be accepted.
+fn timed_out(kind: u16) -> Vec<Cell> {
+    let claims = [(false, false), (true, false), (true, true)];
+    let of_state = |state| claims.map(|(ordered, below)| Cell::TimedOut { row: Row { kind, ordered }, state, below });
+    [INIT, TRYOPEN, OPEN, CLOSED].into_iter().flat_map(of_state).collect()
 }
 
 /// Every cell that a run can reach.
@@ -207,12 +253,12 @@ pub fn possible() -> Vec<Cell> {
         let ways = malform::WAYS.iter().enumerate().filter(|(_, (_, kinds, _))| kinds.contains(&kind));
         cells.extend(ways.map(|(way, _)| Cell::Way(kind, way)));
     }
-    for state in [INIT, TRYOPEN, OPEN, CLOSED] {
-        let claims = [(false, false), (true, false), (true, true)];
-        cells.extend(claims.map(|(ordered, below)| Cell::TimedOut { ordered, state, below }));
-    }
+    cells.extend(rows().map(Cell::Accepted));
+    cells.extend(rows().flat_map(|row| although::possible(row).map(move |index| Cell::Although(row, index))));
+    cells.extend([TIME_OUT, TIME_OUT_ON_CLOSE].into_iter().flat_map(timed_out));
     cells.extend(rows().flat_map(alone_by_state));
     cells.extend(step::possible());
+    cells.extend(closing::possible());
     cells.extend(EMITTED.map(Cell::Emitted));
     cells.extend((0..damage::KINDS.len()).map(Cell::Damage));
     cells.extend(maker.map(Cell::Maker));

@@ -1,15 +1,15 @@
-//! What the steps of the opening handshake have to meet beside their refusals: versions of every sort, and stores with
-//! little room for another end.
+//! What steps have to meet beside their refusals: versions of every sort, and stores with little room for another end.
 
 use std::fmt;
 
 use super::cell::Cell;
 use crate::datagram::*;
-use crate::places::CHANNELS;
+use crate::places::{channel, CHANNELS};
 use crate::refusal::*;
 use crate::store::*;
+use crate::verdict::EndVerdict;
 
-/// A version in a datagram, or the one in its verdict.
+/// A version in a datagram, or else the one that its verdict shows.
 #[derive(Clone, Copy, Debug, PartialEq, Eq, PartialOrd, Ord)]
 pub enum Text {
     Empty,
@@ -20,7 +20,7 @@ pub enum Text {
     ZeroInside,
     /// Padded, it would be a version.
     ZeroLast,
-    /// Not the one in the verdict.
+    /// The one in the verdict is not the needed one.
     Other,
 }
 
@@ -50,31 +50,43 @@ pub fn possible() -> Vec<Cell> {
         cells.extend(ACCEPTED_TEXTS.iter().chain(&REFUSED_TEXTS).map(|text| Cell::Version(kind, *text)));
         cells.extend(ROOMS.map(|room| Cell::Room(kind, room)));
     }
-    cells.extend([OPEN_TRY, OPEN_ACKNOWLEDGE, OPEN_CONFIRM].map(|kind| Cell::Version(kind, Text::Other)));
+    cells.push(Cell::Version(OPEN_TRY, Text::Other));
+    for kind in [OPEN_ACKNOWLEDGE, OPEN_CONFIRM, CLOSE_CONFIRM, TIME_OUT_ON_CLOSE] {
+        cells.extend(ACCEPTED_TEXTS.iter().chain(&[Text::Other]).map(|text| Cell::Version(kind, *text)));
+    }
     cells
 }
 
 /// The cells that a call on a fit store reaches, with all refusals that applied to it.
 pub fn reached(store: &[u8], body: &Body, applying: &[u8]) -> Vec<Cell> {
     let (kind, version) = match body {
-        Body::OpenInit { version, .. } => (OPEN_INIT, Some(*version)),
-        Body::OpenTry { version, .. } => (OPEN_TRY, Some(*version)),
-        Body::OpenAcknowledge { .. } => (OPEN_ACKNOWLEDGE, None),
-        Body::OpenConfirm { .. } => (OPEN_CONFIRM, None),
+        Body::OpenInit { version, .. } => (OPEN_INIT, *version),
+        Body::OpenTry { version, .. } => (OPEN_TRY, *version),
+        Body::OpenAcknowledge { verdict, .. } => (OPEN_ACKNOWLEDGE, shown(verdict)),
+        Body::OpenConfirm { verdict, .. } => (OPEN_CONFIRM, shown(verdict)),
+        Body::CloseConfirm { verdict, .. } => (CLOSE_CONFIRM, shown(verdict)),
+        Body::TimeOutOnClose { end_verdict, .. } => (TIME_OUT_ON_CLOSE, shown(end_verdict)),
         _ => return Vec::new(),
     };
     let mut cells = Vec::new();
-    match (applying, version.map(text)) {
-        ([], Some(text)) => cells.push(Cell::Version(kind, text)),
-        ([WRONG_VERSION], text) => {
-            let wrong = text.filter(|text| REFUSED_TEXTS.contains(text));
+    match applying {
+        [] => cells.push(Cell::Version(kind, text(version))),
+        [WRONG_VERSION] => {
+            let wrong = Some(text(version)).filter(|text| has_version(kind) && REFUSED_TEXTS.contains(text));
             cells.push(Cell::Version(kind, wrong.unwrap_or(Text::Other)));
         }
         _ => {}
     }
-    let rooms = if version.is_some() && matches!(applying, [] | [NO_FREE_CHANNEL]) { rooms(store) } else { Vec::new() };
+    let rooms = if has_version(kind) && matches!(applying, [] | [NO_FREE_CHANNEL]) { rooms(store) } else { Vec::new() };
     cells.extend(rooms.into_iter().map(|room| Cell::Room(kind, room)));
     cells
+}
+
+/// The version that a verdict shows, without the zeros behind it.
+fn shown(verdict: &EndVerdict) -> &[u8] {
+    let padded = &verdict.record[channel::VERSION..];
+    let length = padded.iter().rposition(|byte| *byte != 0).map_or(0, |last| last + 1);
+    &padded[..length]
 }
 
 fn text(version: &[u8]) -> Text {

@@ -1,5 +1,6 @@
 //! Drafts of calls that a given fit store accepts.
 
+mod closing;
 mod handshake;
 
 use super::draft::{Draft, NO_VERDICT};
@@ -15,9 +16,9 @@ pub fn accepted(rng: &mut Rng, store: &[u8], kind: u16) -> Option<Draft> {
     if has_version(kind) {
         return handshake::making_an_end(rng, store, kind);
     }
-    // A time-out is taken in every state.
+    // A time-out of either sort is taken in every state.
     let takes = |end: Channel| match kind {
-        TIME_OUT => true,
+        TIME_OUT | TIME_OUT_ON_CLOSE => true,
         OPEN_ACKNOWLEDGE => end.state == INIT,
         OPEN_CONFIRM => end.state == TRYOPEN,
         _ => end.is_open(),
@@ -30,7 +31,8 @@ pub fn accepted(rng: &mut Rng, store: &[u8], kind: u16) -> Option<Draft> {
         SEND => fill_send(rng, &mut draft, &end)?,
         RECEIVE => fill_receive(rng, &mut draft, &end)?,
         WRITE => fill_write(rng, &mut draft, &end)?,
-        OPEN_ACKNOWLEDGE | OPEN_CONFIRM => handshake::fill_step(rng, &mut draft, &end),
+        OPEN_ACKNOWLEDGE | OPEN_CONFIRM | CLOSE_INIT | CLOSE_CONFIRM => handshake::fill_step(rng, &mut draft, &end),
+        TIME_OUT_ON_CLOSE => closing::fill_on_close(rng, &mut draft, &end)?,
         _ => fill_finish(rng, &mut draft, &end)?,
     }
     draft.match_verdict();
@@ -55,7 +57,7 @@ pub fn later(rng: &mut Rng, height: u64, time: u64) -> (u64, u64) {
 
 fn blank(rng: &mut Rng, store: &[u8], index: usize, kind: u16) -> Draft {
     let (height, time) = later(rng, last_height(store), last_time(store));
-    let needs_connection = matches!(kind, RECEIVE | ACKNOWLEDGE | OPEN_TRY | OPEN_ACKNOWLEDGE | OPEN_CONFIRM);
+    let needs_connection = matches!(kind, RECEIVE | ACKNOWLEDGE) || is_step(kind) && kind != OPEN_INIT;
     let connection = u8::from(needs_connection || !rng.one_in(6));
     let end = Channel::read(&store[channel_place(index)..]);
     let packet = Packet {
@@ -132,6 +134,15 @@ fn fill_write(rng: &mut Rng, draft: &mut Draft, end: &Channel) -> Option<()> {
 
 /// Acknowledge and time out: both finish a packet whose commitment is there.
 fn fill_finish(rng: &mut Rng, draft: &mut Draft, end: &Channel) -> Option<()> {
+    fill_committed(rng, draft, end)?;
+    match draft.kind {
+        ACKNOWLEDGE => Some(()),
+        _ => pass_timeout(rng, &draft.packet, &mut draft.verdict),
+    }
+}
+
+/// A packet whose commitment is there, and for a time-out the claim that it was not received.
+fn fill_committed(rng: &mut Rng, draft: &mut Draft, end: &Channel) -> Option<()> {
     let record = if end.is_ordered() && draft.kind == ACKNOWLEDGE {
         record_at(&draft.store, find_record(&draft.store, COMMITMENT, end.channel, end.next_sequence_ack)?)
     } else {
@@ -141,11 +152,10 @@ fn fill_finish(rng: &mut Rng, draft: &mut Draft, end: &Channel) -> Option<()> {
     draft.packet.timeout_height = record.timeout_height;
     draft.packet.timeout_timestamp = record.timeout_timestamp;
     draft.packet.digest = record.digest;
-    if draft.kind == ACKNOWLEDGE {
-        return Some(());
+    if draft.kind != ACKNOWLEDGE {
+        draft.claimed = rng.between(0, record.sequence);
     }
-    draft.claimed = rng.between(0, record.sequence);
-    pass_timeout(rng, &draft.packet, &mut draft.verdict)
+    Some(())
 }
 
 /// Lets the proof reach one of the timeouts, or both.
@@ -162,6 +172,16 @@ fn pass_timeout(rng: &mut Rng, packet: &Packet, verdict: &mut Verdict) -> Option
     let beside = if rng.one_in(2) { other.saturating_sub(1) } else { rng.number() };
     (verdict.proof_height, verdict.proof_time) = if by_height { (after, beside) } else { (beside, after) };
     Some(())
+}
+
+/// The proof comes short of both timeouts; where there is no timeout it may be anything.
+pub fn come_short(rng: &mut Rng, packet: &Packet, verdict: &mut Verdict) {
+    let mut short_of = |timeout: u64| match timeout.checked_sub(1) {
+        Some(before) => rng.between(0, before),
+        None => rng.number(),
+    };
+    verdict.proof_height = short_of(packet.timeout_height);
+    verdict.proof_time = short_of(packet.timeout_timestamp);
 }
 
 /// One of the records of that kind on that channel.

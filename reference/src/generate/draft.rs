@@ -4,12 +4,13 @@ use super::call::Row;
 use super::step::Step;
 use crate::bytes::*;
 use crate::datagram::*;
-use crate::places::{context, frame, packet, send, write};
+use crate::places::{context, frame, packet, send, time_out_on_close, write};
 use crate::store::*;
 use crate::verdict::*;
 
 /// One draft for all kinds. A send takes timeouts, digest and source channel from the packet; a written
-/// acknowledgement takes sequence and destination channel from it; the handshake has its step instead.
+/// acknowledgement takes sequence and destination channel from it; the handshake and closing have their step instead,
+/// and a time-out on close has both.
 #[derive(Clone, Debug)]
 pub struct Draft {
     pub store: Vec<u8>,
@@ -20,7 +21,7 @@ pub struct Draft {
     pub packet: Packet,
     pub acknowledgement: Digest,
     pub verdict: Verdict,
-    /// What the verdict of an ordered time-out says the next receive is.
+    /// What the packet's verdict of an ordered time-out says the next receive is.
     pub claimed: u64,
     pub step: Step,
 }
@@ -45,7 +46,7 @@ impl Draft {
         let named = if state == INIT { 0 } else { end.counterparty_channel };
         let other = match self.kind {
             RECEIVE => Some(&mut self.packet.source_channel),
-            ACKNOWLEDGE | TIME_OUT => Some(&mut self.packet.dest_channel),
+            ACKNOWLEDGE | TIME_OUT | TIME_OUT_ON_CLOSE => Some(&mut self.packet.dest_channel),
             _ => None,
         };
         if let Some(other) = other.filter(|other| **other == end.counterparty_channel) {
@@ -58,16 +59,18 @@ impl Draft {
     pub fn own_channel(&mut self) -> &mut u32 {
         match self.kind {
             RECEIVE | WRITE => &mut self.packet.dest_channel,
-            OPEN_ACKNOWLEDGE | OPEN_CONFIRM => &mut self.step.channel,
+            OPEN_ACKNOWLEDGE | OPEN_CONFIRM | CLOSE_INIT | CLOSE_CONFIRM => &mut self.step.channel,
             _ => &mut self.packet.source_channel,
         }
     }
 
-    /// Makes the verdict the needed one for the packet or step as it is now. Proof height and time stay.
+    /// Makes the verdicts the needed ones for the packet or step as it is now. Proof heights and times stay.
     pub fn match_verdict(&mut self) {
         let end = self.end();
-        if HANDSHAKE_KINDS.contains(&self.kind) {
+        if is_step(self.kind) || self.kind == TIME_OUT_ON_CLOSE {
             self.step.match_verdict(self.kind, &end, self.context.port);
+        }
+        if is_step(self.kind) {
             return;
         }
         let ordered = end.is_ordered();
@@ -78,10 +81,11 @@ impl Draft {
     }
 
     pub fn encode(&self) -> Vec<u8> {
-        if HANDSHAKE_KINDS.contains(&self.kind) {
-            return self.step.encode(self.kind, &self.context);
+        match self.kind {
+            TIME_OUT_ON_CLOSE => encode_on_close(&self.context, &self.packet, &self.step.verdict, &self.verdict),
+            kind if is_step(kind) => self.step.encode(kind, &self.context),
+            kind => encode(kind, &self.context, &self.packet, self.acknowledgement, &self.verdict),
         }
-        encode(self.kind, &self.context, &self.packet, self.acknowledgement, &self.verdict)
     }
 }
 
@@ -98,7 +102,7 @@ pub const NO_VERDICT: Verdict = Verdict {
     digest: NO_DIGEST,
 };
 
-/// The verdict that a receive, an acknowledge or a time-out of this packet needs.
+/// The verdict about this packet that a receive, an acknowledge or a time-out of either sort needs.
 pub fn needed_verdict(kind: u16, ordered: bool, packet: &Packet, acknowledgement: Digest, claimed: u64) -> Verdict {
     let about_destination =
         Verdict { port: packet.dest_port, channel: packet.dest_channel, sequence: packet.sequence, ..NO_VERDICT };
@@ -118,13 +122,9 @@ pub fn needed_verdict(kind: u16, ordered: bool, packet: &Packet, acknowledgement
     }
 }
 
-/// The bytes of a datagram that is about a packet.
+/// The bytes of a datagram that is about a packet and has one verdict or none.
 pub fn encode(kind: u16, context: &Context, packet: &Packet, acknowledgement: Digest, verdict: &Verdict) -> Vec<u8> {
-    let mut bytes = vec![0; length_of(kind).unwrap_or(frame::BODY)];
-    let length = bytes.len() as u32;
-    put_u32(&mut bytes, frame::LENGTH, length);
-    put_u16(&mut bytes, frame::KIND, kind);
-    write_context(context, &mut bytes[frame::BODY..]);
+    let mut bytes = begun(kind, context);
     let body = &mut bytes[frame::BODY + context::LENGTH..];
     match kind {
         SEND => {
@@ -151,7 +151,27 @@ pub fn encode(kind: u16, context: &Context, packet: &Packet, acknowledgement: Di
     bytes
 }
 
-pub fn write_context(context: &Context, bytes: &mut [u8]) {
+/// The bytes of a time-out on close, with its two verdicts.
+pub fn encode_on_close(context: &Context, packet: &Packet, closed: &EndVerdict, verdict: &Verdict) -> Vec<u8> {
+    let mut bytes = begun(TIME_OUT_ON_CLOSE, context);
+    let body = &mut bytes[frame::BODY + context::LENGTH..];
+    packet.write(body);
+    closed.write(&mut body[time_out_on_close::END_VERDICT..]);
+    verdict.write(&mut body[time_out_on_close::VERDICT..]);
+    bytes
+}
+
+/// A datagram of this kind, without a version, of which frame and context are written.
+pub fn begun(kind: u16, context: &Context) -> Vec<u8> {
+    let mut bytes = vec![0; length_of(kind).unwrap_or(frame::BODY)];
+    let length = bytes.len() as u32;
+    put_u32(&mut bytes, frame::LENGTH, length);
+    put_u16(&mut bytes, frame::KIND, kind);
+    write_context(context, &mut bytes[frame::BODY..]);
+    bytes
+}
+
+fn write_context(context: &Context, bytes: &mut [u8]) {
     put_u64(bytes, context::HEIGHT, context.height);
     put_u64(bytes, context::TIME, context.time);
     put_u64(bytes, context::CLIENT_HEIGHT, context.client_height);

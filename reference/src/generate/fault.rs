@@ -1,8 +1,9 @@
 //! Spoils a call that would be accepted, so that one refusal of the table applies and no lower one begins to.
 
+mod closing;
 mod handshake;
 
-use super::accept::pick_record;
+use super::accept::{come_short, pick_record};
 use super::call::Row;
 use super::draft::Draft;
 use super::rng::Rng;
@@ -25,7 +26,10 @@ pub fn possible(kind: u16, ordered: bool) -> &'static [u8] {
         (ACKNOWLEDGE, false) => &[4, 5, 6, 7, 8, 9, 13, 14],
         (OPEN_INIT, _) => &[4, 25, 27],
         (OPEN_TRY, _) => &[4, 8, 14, 25, 27],
-        (OPEN_ACKNOWLEDGE | OPEN_CONFIRM, _) => &[4, 5, 7, 8, 14, 26, 27],
+        (OPEN_ACKNOWLEDGE | OPEN_CONFIRM | CLOSE_CONFIRM, _) => &[4, 5, 7, 8, 14, 26, 27],
+        (CLOSE_INIT, _) => &[4, 5, 7, 8, 26],
+        (TIME_OUT_ON_CLOSE, true) => &[4, 5, 7, 9, 13, 14, 15, 27],
+        (TIME_OUT_ON_CLOSE, false) => &[4, 5, 7, 9, 13, 14, 27],
         (_, true) => &[4, 5, 7, 9, 12, 13, 14, 15],
         (_, false) => &[4, 5, 7, 9, 12, 13, 14],
     }
@@ -65,9 +69,10 @@ pub fn spoil(rng: &mut Rng, draft: &mut Draft, number: u8) -> bool {
         WRONG_END => wrong_end(rng, draft),
         NO_TIMEOUT => (draft.packet.timeout_height, draft.packet.timeout_timestamp) = (0, 0),
         TIMEOUT_PASSED => return pass(rng, draft),
-        TIMEOUT_NOT_PASSED => not_yet(rng, draft),
+        TIMEOUT_NOT_PASSED => come_short(rng, &draft.packet, &mut draft.verdict),
         NO_COMMITMENT => other_commitment(rng, draft),
-        OTHER_VERDICT if HANDSHAKE_KINDS.contains(&draft.kind) => handshake::other_end(rng, draft),
+        OTHER_VERDICT if is_step(draft.kind) => handshake::other_end(rng, draft),
+        OTHER_VERDICT if draft.kind == TIME_OUT_ON_CLOSE => closing::other_of_two(rng, draft),
         OTHER_VERDICT => other_verdict(rng, draft),
         OUT_OF_ORDER => return out_of_order(rng, draft),
         ALREADY_THERE => return already_there(rng, draft),
@@ -119,16 +124,6 @@ fn pass(rng: &mut Rng, draft: &mut Draft) -> bool {
     true
 }
 
-/// The proof comes short of both timeouts; where there is no timeout it may be anything.
-fn not_yet(rng: &mut Rng, draft: &mut Draft) {
-    let mut short_of = |timeout: u64| match timeout.checked_sub(1) {
-        Some(before) => rng.between(0, before),
-        None => rng.number(),
-    };
-    draft.verdict.proof_height = short_of(draft.packet.timeout_height);
-    draft.verdict.proof_time = short_of(draft.packet.timeout_timestamp);
-}
-
 /// The commitment goes, or differs from the packet in one value.
 fn other_commitment(rng: &mut Rng, draft: &mut Draft) {
     let Some(index) = find_record(&draft.store, COMMITMENT, draft.end().channel, draft.packet.sequence) else {
@@ -160,7 +155,7 @@ fn other_sender(rng: &mut Rng, store: &[u8], record: &Record) -> Option<u32> {
 }
 
 fn other_verdict(rng: &mut Rng, draft: &mut Draft) {
-    let any_sequence = draft.kind == TIME_OUT && draft.end().is_ordered();
+    let any_sequence = matches!(draft.kind, TIME_OUT | TIME_OUT_ON_CLOSE) && draft.end().is_ordered();
     let verdict = &mut draft.verdict;
     match rng.below(7) {
         0 => verdict.port = rng.other_u16(verdict.port),

@@ -6,20 +6,34 @@
 use super::rng::Rng;
 use crate::bytes::*;
 use crate::datagram::*;
-use crate::places::{context, frame, open_acknowledge, open_confirm, open_init, open_try, packet, write};
+use crate::places::{confirm, context, frame, open_acknowledge, open_init, open_try, packet, time_out_on_close, write};
 use crate::store::{ORDERED, UNORDERED};
 
 type Way = fn(&mut Rng, &mut Vec<u8>) -> Option<()>;
 
-const ALL_KINDS: &[u16] =
-    &[SEND, RECEIVE, WRITE, ACKNOWLEDGE, TIME_OUT, OPEN_INIT, OPEN_TRY, OPEN_ACKNOWLEDGE, OPEN_CONFIRM];
-const WITH_SEQUENCE: &[u16] = &[RECEIVE, WRITE, ACKNOWLEDGE, TIME_OUT];
-const WITH_VERDICT: &[u16] = &[RECEIVE, ACKNOWLEDGE, TIME_OUT, OPEN_TRY, OPEN_ACKNOWLEDGE, OPEN_CONFIRM];
+const ALL_KINDS: &[u16] = &[
+    SEND,
+    RECEIVE,
+    WRITE,
+    ACKNOWLEDGE,
+    TIME_OUT,
+    OPEN_INIT,
+    OPEN_TRY,
+    OPEN_ACKNOWLEDGE,
+    OPEN_CONFIRM,
+    CLOSE_INIT,
+    CLOSE_CONFIRM,
+    TIME_OUT_ON_CLOSE,
+];
+const WITH_SEQUENCE: &[u16] = &[RECEIVE, WRITE, ACKNOWLEDGE, TIME_OUT, TIME_OUT_ON_CLOSE];
+const WITH_VERDICT: &[u16] =
+    &[RECEIVE, ACKNOWLEDGE, TIME_OUT, OPEN_TRY, OPEN_ACKNOWLEDGE, OPEN_CONFIRM, CLOSE_CONFIRM, TIME_OUT_ON_CLOSE];
+const WITH_TWO_VERDICTS: &[u16] = &[TIME_OUT_ON_CLOSE];
 const WITH_ORDER: &[u16] = &[OPEN_INIT, OPEN_TRY];
 
 /// Each way with its name and the kinds of datagrams that have a place for it. A way answers nothing when the dice
 /// leave the datagram as it was.
-pub const WAYS: [(&str, &[u16], Way); 10] = [
+pub const WAYS: [(&str, &[u16], Way); 11] = [
     ("under 6 bytes", ALL_KINDS, under_six),
     ("length field", ALL_KINDS, length_field),
     ("kind unknown", ALL_KINDS, kind_unknown),
@@ -29,6 +43,7 @@ pub const WAYS: [(&str, &[u16], Way); 10] = [
     ("own height 0", ALL_KINDS, |_, bytes| zero(bytes, frame::BODY + context::HEIGHT)),
     ("sequence 0", WITH_SEQUENCE, sequence_zero),
     ("claim", WITH_VERDICT, claim),
+    ("second claim", WITH_TWO_VERDICTS, |rng, bytes| unknown_claim(rng, bytes, time_out_on_close::VERDICT)),
     ("order", WITH_ORDER, order),
 ];
 
@@ -81,7 +96,7 @@ fn length_field(rng: &mut Rng, bytes: &mut Vec<u8>) -> Option<()> {
 /// Kinds of other records, high bytes that a careless reader drops, neighbours.
 fn kind_unknown(rng: &mut Rng, bytes: &mut Vec<u8>) -> Option<()> {
     let kind = get_u16(bytes, frame::KIND);
-    let unknown = rng.pick(&[0, 10, 11, 0x0010, 0x0020, 0x0101, 0x0401, 0xffff, kind | 0x0100, kind | 0x8000]);
+    let unknown = rng.pick(&[0, 13, 14, 0x0010, 0x0020, 0x0101, 0x0401, 0xffff, kind | 0x0100, kind | 0x8000]);
     put_u16(bytes, frame::KIND, unknown);
     Some(())
 }
@@ -134,16 +149,21 @@ fn sequence_zero(_: &mut Rng, bytes: &mut Vec<u8>) -> Option<()> {
     }
 }
 
+/// That of the only verdict, or of the first.
 fn claim(rng: &mut Rng, bytes: &mut Vec<u8>) -> Option<()> {
-    let body = frame::BODY + context::LENGTH;
     let at = match get_u16(bytes, frame::KIND) {
         ACKNOWLEDGE => packet::LENGTH + 32,
         OPEN_TRY => open_try::VERDICT,
         OPEN_ACKNOWLEDGE => open_acknowledge::VERDICT,
-        OPEN_CONFIRM => open_confirm::VERDICT,
+        OPEN_CONFIRM | CLOSE_CONFIRM => confirm::VERDICT,
         _ => packet::LENGTH,
     };
-    put_u16(bytes, body + at, rng.pick(&[0, 6, 7, 0x0100, 0x0101, 0x0205, 0x8004, 0xffff]));
+    unknown_claim(rng, bytes, at)
+}
+
+/// In the verdict at this place behind the context.
+fn unknown_claim(rng: &mut Rng, bytes: &mut [u8], at: usize) -> Option<()> {
+    put_u16(bytes, frame::BODY + context::LENGTH + at, rng.pick(&[0, 6, 7, 0x0100, 0x0101, 0x0205, 0x8004, 0xffff]));
     Some(())
 }
 
@@ -155,7 +175,7 @@ fn order(rng: &mut Rng, bytes: &mut Vec<u8>) -> Option<()> {
 
 /// Bytes that nobody made as a datagram; some have a good frame, and those may even be well formed.
 pub fn garbage(rng: &mut Rng) -> Vec<u8> {
-    let kind = 1 + rng.below(10) as u16;
+    let kind = 1 + rng.below(13) as u16;
     let length = match (rng.below(3), length_of(kind)) {
         (0, _) => rng.index(300),
         (1, _) => rng.index(12),

@@ -9,6 +9,9 @@ use crate::datagram::{OPEN_ACKNOWLEDGE, OPEN_CONFIRM};
 use crate::places::{header, CHANNELS, RECORD};
 use crate::store::*;
 
+/// Above every number that a channel can have.
+const USED_UP: u64 = u32::MAX as u64 + 1;
+
 /// The channel records in use.
 pub fn channels(store: &[u8]) -> Vec<(usize, Channel)> {
     (0..CHANNELS).filter_map(|index| Some((index, channel_at(store, index)?))).collect()
@@ -73,6 +76,12 @@ pub fn fill_channels(rng: &mut Rng, store: &mut [u8], left: usize) {
     }
 }
 
+/// Leaves no number for another end.
+pub fn use_up_numbers(rng: &mut Rng, store: &mut [u8]) {
+    let any = rng.between(USED_UP, u64::MAX);
+    put_u64(store, header::NEXT_CHANNEL, rng.pick(&[USED_UP, USED_UP + 1, u64::MAX, any]));
+}
+
 /// Mostly the next number, and else one that was left out.
 fn unused_number(rng: &mut Rng, store: &[u8]) -> u32 {
     loop {
@@ -126,7 +135,7 @@ pub fn make_ready(rng: &mut Rng, store: &mut [u8], kind: u16) {
 
 /// One random change after which a fit store is still fit.
 pub fn reshape(rng: &mut Rng, store: &mut [u8]) {
-    match rng.below(12) {
+    match rng.below(13) {
         0 => swap_records(store, channel_place(rng.index(CHANNELS)), channel_place(rng.index(CHANNELS))),
         1 | 2 => {
             let count = record_count(store);
@@ -147,7 +156,18 @@ pub fn reshape(rng: &mut Rng, store: &mut [u8]) {
             let left = rng.index(3);
             fill_channels(rng, store, left);
         }
+        8 => without_timeouts(rng, store),
         _ => other_counters(rng, store),
+    }
+}
+
+/// Some commitments lose their timeouts, which no send leads to.
+fn without_timeouts(rng: &mut Rng, store: &mut [u8]) {
+    for index in 0..record_count(store) {
+        let record = record_at(store, index);
+        if record.kind == COMMITMENT && rng.one_in(3) {
+            Record { timeout_height: 0, timeout_timestamp: 0, ..record }.write(&mut store[record_place(index)..]);
+        }
     }
 }
 
@@ -166,13 +186,12 @@ fn swap_records(store: &mut [u8], one: usize, other: usize) {
     put(store, other, kept);
 }
 
-/// An acknowledgement or commitment with as much zero in it as a fit store allows, or a freed commitment.
+/// An acknowledgement or commitment without a digest, or a freed commitment.
 fn plain_record(rng: &mut Rng, store: &mut [u8]) {
     let index = rng.index(record_count(store));
     let mut record = record_at(store, index);
     match (record.kind, rng.below(3)) {
         (COMMITMENT, 0) => record = Record::FREE,
-        (COMMITMENT, 1) => (record.timeout_height, record.timeout_timestamp) = (0, 0),
         (COMMITMENT | ACKNOWLEDGEMENT, _) => record.digest = NO_DIGEST,
         _ => {}
     }

@@ -1,17 +1,17 @@
-//! A step of the opening handshake in the making: what a draft of it has in place of a packet.
+//! A step of the opening handshake or of closing in the making: what a draft of it has in place of a packet.
 
-use super::draft::write_context;
+use super::draft::begun;
 use super::rng::Rng;
 use crate::bytes::*;
 use crate::datagram::*;
-use crate::places::{channel, context, frame, open_acknowledge, open_confirm, open_init, open_try, RECORD};
+use crate::places::{channel, close_init, confirm, context, frame, open_acknowledge, open_init, open_try, RECORD};
 use crate::store::*;
 use crate::verdict::*;
 
-/// One for all four steps; each takes what its datagram has a place for.
+/// One for all steps; each takes what its datagram has a place for. A time-out on close takes the verdict.
 #[derive(Clone, Debug)]
 pub struct Step {
-    /// The end of this ledger that is to be opened.
+    /// The end of this ledger that is to be opened or closed.
     pub channel: u32,
     pub counterparty_port: u16,
     pub counterparty_channel: u32,
@@ -57,7 +57,8 @@ impl Step {
                 ..*end
             },
             OPEN_ACKNOWLEDGE => naming_it(TRYOPEN, self.counterparty_channel),
-            _ => naming_it(OPEN, end.counterparty_channel),
+            OPEN_CONFIRM => naming_it(OPEN, end.counterparty_channel),
+            _ => naming_it(CLOSED, end.counterparty_channel),
         };
         self.verdict.claim = END_SHOWN;
         self.verdict.record[..channel::VERSION].copy_from_slice(&needed.shown()[..channel::VERSION]);
@@ -69,9 +70,7 @@ impl Step {
     }
 
     pub fn encode(&self, kind: u16, context: &Context) -> Vec<u8> {
-        let mut bytes = vec![0; length_of(kind).unwrap_or(frame::BODY)];
-        put_u16(&mut bytes, frame::KIND, kind);
-        write_context(context, &mut bytes[frame::BODY..]);
+        let mut bytes = begun(kind, context);
         let body = &mut bytes[frame::BODY + context::LENGTH..];
         match kind {
             OPEN_INIT => {
@@ -89,16 +88,17 @@ impl Step {
                 put_u32(body, open_acknowledge::COUNTERPARTY_CHANNEL, self.counterparty_channel);
                 self.verdict.write(&mut body[open_acknowledge::VERDICT..]);
             }
+            CLOSE_INIT => put_u32(body, close_init::CHANNEL, self.channel),
             _ => {
-                put_u32(body, open_confirm::CHANNEL, self.channel);
-                self.verdict.write(&mut body[open_confirm::VERDICT..]);
+                put_u32(body, confirm::CHANNEL, self.channel);
+                self.verdict.write(&mut body[confirm::VERDICT..]);
             }
         }
         if has_version(kind) {
             bytes.extend(&self.version);
+            let length = bytes.len() as u32;
+            put_u32(&mut bytes, frame::LENGTH, length);
         }
-        let length = bytes.len() as u32;
-        put_u32(&mut bytes, frame::LENGTH, length);
         bytes
     }
 }

@@ -63,7 +63,7 @@ fn made(first: &[u8]) -> Vec<u8> {
 
 /// A record with a length that the replay program takes: mostly a datagram that is accepted.
 fn record(rng: &mut Rng, store: &mut [u8]) -> Vec<u8> {
-    let draft = if store.is_empty() { None } else { (0..8).find_map(|_| grow::any_accepted(rng, store)) };
+    let draft = if store.is_empty() { None } else { (0..8).find_map(|_| grow::next_accepted(rng, store)) };
     let mut bytes = match draft {
         None => garbage(rng),
         Some(draft) => {

@@ -4,6 +4,7 @@
 use std::collections::{BTreeMap, BTreeSet};
 
 use super::Truth;
+use crate::datagram::{CLOSE_CONFIRM, CLOSE_INIT};
 use crate::generate::shape::channels;
 use crate::store::*;
 
@@ -21,6 +22,8 @@ pub struct Ends {
     joined: BTreeSet<End>,
     /// The states in which ends were made by calls.
     begun: BTreeMap<End, u8>,
+    /// Of the ends that calls have closed, the kinds of their datagrams.
+    closed: BTreeMap<End, u16>,
 }
 
 impl Ends {
@@ -37,6 +40,10 @@ impl Ends {
         self.last.get(end).is_some_and(Channel::is_ordered)
     }
 
+    pub fn is_closed(&self, end: &End) -> bool {
+        self.last.get(end).is_some_and(|end| end.state == CLOSED)
+    }
+
     pub fn is_joined(&self, end: &End) -> bool {
         self.joined.contains(end)
     }
@@ -46,9 +53,9 @@ impl Ends {
         self.begun.contains_key(end)
     }
 
-    /// Takes the store that an accepted call on this ledger left and the end that it said it made, and answers the
-    /// promises that are broken now.
-    pub fn take(&mut self, ledger: usize, store: &[u8], said: Option<(u16, u32)>) -> Vec<Broken> {
+    /// Takes the store that an accepted call of this kind on this ledger left and the end that it said it made, and
+    /// answers the promises that are broken now.
+    pub fn take(&mut self, ledger: usize, kind: u16, store: &[u8], said: Option<(u16, u32)>) -> Vec<Broken> {
         let found: BTreeMap<End, Channel> =
             channels(store).into_iter().map(|(_, end)| ((ledger, end.channel), end)).collect();
         let mut broken = Vec::new();
@@ -67,9 +74,12 @@ impl Ends {
                 Some(before) => changed(at, before, &end),
                 None => self.made(at, &end),
             });
-            let was_open = self.last.insert(at, end).is_some_and(|before| before.state >= OPEN);
-            if end.state >= OPEN && !was_open {
+            let before = self.last.insert(at, end).map_or(0, |before| before.state);
+            if end.state >= OPEN && before < OPEN {
                 self.joined.insert(at);
+            }
+            if end.state == CLOSED && before < CLOSED {
+                broken.extend(self.closed(at, &end, kind));
             }
         }
         broken.extend(self.not_paired());
@@ -91,6 +101,15 @@ impl Ends {
         let broken = told(at, faults);
         self.begun.insert(at, end.state);
         broken
+    }
+
+    /// An end that is CLOSED now. A close confirm has closed it only if its counterparty is there, is CLOSED and names
+    /// it, with the same order and version.
+    fn closed(&mut self, at: End, end: &Channel, kind: u16) -> Vec<Broken> {
+        self.closed.insert(at, kind);
+        let other = self.last.get(&(1 - at.0, end.counterparty_channel));
+        let answers = other.is_some_and(|other| other.state == CLOSED && are_peers(end, other));
+        told(at, [(Truth::Everything, kind == CLOSE_CONFIRM && !answers, "a close confirm answers no close")])
     }
 
     /// The counterparty of an opened end is there, is not INIT and names it, with the same order and version.
@@ -120,6 +139,11 @@ impl Ends {
             begun.filter(|(at, _)| !opened || self.joined.contains(at)).count() as u64
         };
         [count(INIT, false), count(TRYOPEN, false), count(INIT, true), count(TRYOPEN, true)]
+    }
+
+    /// Ends closed by init and by confirm.
+    pub fn closes(&self) -> [u64; 2] {
+        [CLOSE_INIT, CLOSE_CONFIRM].map(|kind| self.closed.values().filter(|by| **by == kind).count() as u64)
     }
 
     /// Ends that two or more tries have answered.

@@ -79,7 +79,7 @@ impl History {
     }
 
     /// The step with the verdict that it needs, in which this version is shown.
-    fn proved_step(
+    pub fn proved_step(
         &mut self,
         at: usize,
         kind: u16,
@@ -92,7 +92,8 @@ impl History {
         step.show_version(version);
         // A true verdict about the end as it is, which may not be what the step needs.
         if self.rng.one_in(5) {
-            let named = if kind == OPEN_CONFIRM { end.counterparty_channel } else { step.counterparty_channel };
+            let is_named = matches!(kind, OPEN_CONFIRM | CLOSE_CONFIRM);
+            let named = if is_named { end.counterparty_channel } else { step.counterparty_channel };
             step.verdict.record = find_channel(&self.ledgers[1 - at].store, named)?.1.shown();
         }
         if let Shown::End(verdict) = self.proved(1 - at, kind, Shown::End(step.verdict))? {

@@ -15,15 +15,20 @@ pub enum Shown {
 }
 
 impl Shown {
-    pub fn of(body: &Body) -> Option<Shown> {
+    /// Every verdict of a datagram.
+    pub fn all_of(body: &Body) -> Vec<Shown> {
         match body {
             Body::Receive { verdict, .. } | Body::Acknowledge { verdict, .. } | Body::TimeOut { verdict, .. } => {
-                Some(Shown::Packet(*verdict))
+                vec![Shown::Packet(*verdict)]
             }
             Body::OpenTry { verdict, .. }
             | Body::OpenAcknowledge { verdict, .. }
-            | Body::OpenConfirm { verdict, .. } => Some(Shown::End(*verdict)),
-            Body::Send { .. } | Body::Write { .. } | Body::OpenInit { .. } => None,
+            | Body::OpenConfirm { verdict, .. }
+            | Body::CloseConfirm { verdict, .. } => vec![Shown::End(*verdict)],
+            Body::TimeOutOnClose { end_verdict, verdict, .. } => {
+                vec![Shown::End(*end_verdict), Shown::Packet(*verdict)]
+            }
+            Body::Send { .. } | Body::Write { .. } | Body::OpenInit { .. } | Body::CloseInit { .. } => Vec::new(),
         }
     }
 
@@ -35,7 +40,7 @@ impl Shown {
         }
     }
 
-    fn moment(&self) -> (u64, u64) {
+    pub fn moment(&self) -> (u64, u64) {
         match self {
             Shown::Packet(verdict) => (verdict.proof_height, verdict.proof_time),
             Shown::End(verdict) => (verdict.proof_height, verdict.proof_time),

@@ -29,7 +29,7 @@ impl History {
     }
 
     /// A packet that this ledger sent: mostly one that is wanted, by the two ledgers as they are, and else any.
-    fn some_sent(&mut self, by: usize, wanted: impl Fn(&[Ledger; 2], &Packet) -> bool) -> Option<Packet> {
+    pub fn some_sent(&mut self, by: usize, wanted: impl Fn(&[Ledger; 2], &Packet) -> bool) -> Option<Packet> {
         let any = self.rng.one_in(4);
         let own = self.sent.iter().filter(|(ledger, _)| *ledger == by).map(|(_, packet)| *packet);
         let choice: Vec<Packet> = own.filter(|packet| any || wanted(&self.ledgers, packet)).collect();
@@ -93,11 +93,7 @@ impl History {
         let packet = self.some_sent(at, |ledgers, packet| unfinished(&ledgers[at], packet))?;
         let ordered = find_channel(&self.ledgers[at].store, packet.source_channel)?.1.is_ordered();
         let other = &self.ledgers[1 - at];
-        let claim_at = |moment: (u64, u64)| {
-            let next = other.next_recv_at(moment.0, packet.dest_channel);
-            let claimed = next.filter(|_| self.truth == Truth::Everything).unwrap_or(packet.sequence);
-            at_moment(needed_verdict(TIME_OUT, ordered, &packet, [0; 32], claimed), moment)
-        };
+        let claim_at = |moment: (u64, u64)| absence(other, self.truth, &packet, ordered, moment);
         let good = |verdict: &Verdict| other.is_true(&Shown::Packet(*verdict)) && verdict.sequence <= packet.sequence;
         let passed = |verdict: &Verdict| {
             packet.timeout_height != 0 && verdict.proof_height >= packet.timeout_height
@@ -118,12 +114,17 @@ impl History {
     }
 }
 
-fn unfinished(sender: &Ledger, packet: &Packet) -> bool {
-    find_record(&sender.store, COMMITMENT, packet.source_channel, packet.sequence).is_some()
+/// That the other ledger did not receive a packet, as a time-out of either sort needs it, at a moment. The next receive
+/// that is claimed of an ordered channel is the one that it had, where it has to be true.
+pub fn absence(other: &Ledger, truth: Truth, packet: &Packet, ordered: bool, moment: (u64, u64)) -> Verdict {
+    let next = other.next_recv_at(moment.0, packet.dest_channel);
+    let claimed = next.filter(|_| truth == Truth::Everything).unwrap_or(packet.sequence);
+    let (proof_height, proof_time) = moment;
+    Verdict { proof_height, proof_time, ..needed_verdict(TIME_OUT, ordered, packet, [0; 32], claimed) }
 }
 
-fn at_moment(verdict: Verdict, (proof_height, proof_time): (u64, u64)) -> Verdict {
-    Verdict { proof_height, proof_time, ..verdict }
+pub fn unfinished(sender: &Ledger, packet: &Packet) -> bool {
+    find_record(&sender.store, COMMITMENT, packet.source_channel, packet.sequence).is_some()
 }
 
 /// The very timeout where it is little ahead: that is where mistakes of one are made.

@@ -5,7 +5,7 @@ use std::collections::{BTreeMap, BTreeSet};
 use super::ends::{Broken, End, Ends};
 use super::Truth;
 use crate::bytes::*;
-use crate::datagram::Packet;
+use crate::datagram::{Packet, TIME_OUT_ON_CLOSE};
 use crate::places::{frame, packet};
 use crate::store::*;
 
@@ -21,7 +21,7 @@ struct Sums {
 }
 
 /// What is counted, besides the promises.
-pub const TOTALS: [&str; 12] = [
+pub const TOTALS: [&str; 16] = [
     "packets sent",
     "delivered at paired ends",
     "of them at ends of the handshake",
@@ -34,6 +34,10 @@ pub const TOTALS: [&str; 12] = [
     "by confirm",
     "inits that were tried twice",
     "crossing handshakes that both opened",
+    "ends closed by init",
+    "by confirm",
+    "packets timed out on close",
+    "delivered packets stranded on a closed end",
 ];
 
 #[derive(Default)]
@@ -46,9 +50,10 @@ pub struct Tally {
     sent: BTreeMap<Name, [u8; packet::LENGTH]>,
     delivered: BTreeSet<Name>,
     finished: BTreeSet<Name>,
-    timed_out: BTreeSet<Name>,
-    /// Time-outs behind the first one of an ordered end, which closed it.
-    behind: u64,
+    /// With the kind of the datagram.
+    timed_out: BTreeMap<Name, u16>,
+    /// Time-outs on an end that was CLOSED before.
+    on_closed: u64,
     /// Deliveries at ends that a handshake has opened.
     at_handshake: u64,
     last_delivered: BTreeMap<End, u64>,
@@ -71,24 +76,38 @@ impl Tally {
             [self.sent.len(), self.delivered.len(), acknowledged, timed_out].map(|count| count as u64);
         let [inits, tries, by_acknowledge, by_confirm] = self.ends.steps();
         let (twice, crossing) = (self.ends.answered_twice(), self.ends.crossing());
+        let [by_close_init, by_close_confirm] = self.ends.closes();
+        let on_close = self.timed_out.values().filter(|kind| **kind == TIME_OUT_ON_CLOSE).count() as u64;
         [
             sent,
             delivered,
             self.at_handshake,
             acknowledged,
             timed_out,
-            self.behind,
+            self.on_closed,
             inits,
             tries,
             by_acknowledge,
             by_confirm,
             twice,
             crossing,
+            by_close_init,
+            by_close_confirm,
+            on_close,
+            self.stranded(),
         ]
     }
 
-    /// Takes what an accepted call on this ledger emitted, if anything, and the store that it left.
-    pub fn take(&mut self, ledger: usize, emitted: &[u8], store: &[u8]) {
+    /// Packets that stay committed for good, unless a verdict lies: they were delivered, so they are not timed out, and
+    /// their end is CLOSED, so they are not acknowledged.
+    fn stranded(&self) -> u64 {
+        let committed = self.sent.keys().filter(|name| !self.finished.contains(name));
+        let delivered = committed.filter(|name| self.delivered.contains(name));
+        delivered.filter(|(ledger, channel, _)| self.ends.is_closed(&(*ledger, *channel))).count() as u64
+    }
+
+    /// Takes what an accepted call of this kind on this ledger emitted, if anything, and the store that it left.
+    pub fn take(&mut self, ledger: usize, datagram: u16, emitted: &[u8], store: &[u8]) {
         let (kind, bytes) = match emitted.get(frame::BODY..) {
             Some(bytes) => (get_u16(emitted, frame::KIND), bytes),
             None => (0, emitted),
@@ -97,11 +116,11 @@ impl Tally {
         match kind {
             0x0101 => self.take_sent(ledger, get(bytes, 0)),
             0x0102 => self.take_delivered(ledger, get(bytes, 0)),
-            0x0104 => self.take_finished(ledger, &Packet::read(bytes), false),
-            0x0105 => self.take_finished(ledger, &Packet::read(bytes), true),
+            0x0104 => self.take_finished(ledger, &Packet::read(bytes), None),
+            0x0105 => self.take_finished(ledger, &Packet::read(bytes), Some(datagram)),
             _ => {}
         }
-        let broken = self.ends.take(ledger, store, made);
+        let broken = self.ends.take(ledger, datagram, store, made);
         self.note(broken);
         self.check_sums(ledger, store);
     }
@@ -126,30 +145,41 @@ impl Tally {
             return;
         }
         self.at_handshake += u64::from(self.ends.is_of_handshake(&end));
+        let timed_out = self.timed_out.get(&name);
+        let late = if timed_out == Some(&TIME_OUT_ON_CLOSE) {
+            "delivered after its time-out on close"
+        } else {
+            "delivered after its time-out"
+        };
         let faults = [
             (Truth::Openings, !self.delivered.insert(name), "delivered twice"),
             (Truth::Everything, self.sent.get(&name) != Some(&bytes), "not delivered as sent"),
-            (Truth::Everything, self.timed_out.contains(&name), "delivered after its time-out"),
+            (Truth::Everything, timed_out.is_some(), late),
         ];
         self.note_packet(name, &faults);
     }
 
-    fn take_finished(&mut self, ledger: usize, packet: &Packet, by_timeout: bool) {
+    /// By a time-out, with the kind of its datagram, or by an acknowledgement.
+    fn take_finished(&mut self, ledger: usize, packet: &Packet, by_timeout: Option<u16>) {
         let name = (ledger, packet.source_channel, packet.sequence);
         let end = (ledger, packet.source_channel);
         let sums = self.sums.entry(end).or_default();
-        if by_timeout {
-            self.behind += u64::from(sums.timed_out > 0 && self.ends.is_ordered(&end));
+        if let Some(kind) = by_timeout {
+            self.on_closed += u64::from(self.ends.is_closed(&end));
             sums.timed_out += 1;
-            self.timed_out.insert(name);
+            self.timed_out.insert(name, kind);
         } else {
             sums.acknowledged += 1;
         }
-        let delivered = by_timeout && self.delivered.contains(&name);
+        let given_back = match by_timeout {
+            Some(TIME_OUT_ON_CLOSE) => "timed out on close after its delivery",
+            _ => "timed out after its delivery",
+        };
+        let delivered = by_timeout.is_some() && self.delivered.contains(&name);
         let faults = [
             (Truth::Nothing, !self.finished.insert(name), "finished twice"),
             (Truth::Nothing, !self.sent.contains_key(&name), "finished and never sent"),
-            (Truth::Everything, delivered, "timed out after its delivery"),
+            (Truth::Everything, delivered, given_back),
         ];
         self.note_packet(name, &faults);
     }

@@ -45,22 +45,22 @@ impl Call<'_> {
     /// The initiator learns which end answers it.
     pub fn open_acknowledge(&self, counterparty_channel: u32, verdict: EndVerdict) -> Result<Effect, u8> {
         let named = Channel { counterparty_channel, ..self.end };
-        self.open(INIT, named, Channel { state: TRYOPEN, ..other_end(&named) }, verdict)
+        let opened = Channel { state: OPEN, ..named };
+        self.step(INIT, opened, Channel { state: TRYOPEN, ..other_end(&named) }, verdict)
     }
 
     pub fn open_confirm(&self, verdict: EndVerdict) -> Result<Effect, u8> {
-        self.open(TRYOPEN, self.end, Channel { state: OPEN, ..other_end(&self.end) }, verdict)
+        let opened = Channel { state: OPEN, ..self.end };
+        self.step(TRYOPEN, opened, Channel { state: OPEN, ..other_end(&self.end) }, verdict)
     }
 
-    /// Opens the end, with the counterparty that it has now, when the verdict shows the other end.
-    fn open(&self, prior: u8, end: Channel, other: Channel, verdict: EndVerdict) -> Result<Effect, u8> {
+    /// From its prior state the end becomes this one, when the verdict shows the other end.
+    pub fn step(&self, prior: u8, end: Channel, other: Channel, verdict: EndVerdict) -> Result<Effect, u8> {
         refuse_if(self.context.connection != 1, CONNECTION_NOT_OPEN)?;
         refuse_if(!shows_end(&verdict, &other), OTHER_VERDICT)?;
         refuse_if(self.end.state != prior, NOT_PRIOR_STATE)?;
         refuse_if(!has_version(&verdict, &self.end.version), WRONG_VERSION)?;
-        let Context { height, time, .. } = self.context;
-        let end = (self.index, Channel { state: OPEN, ..end });
-        Ok(Effect { height, time, end, next_channel: None, record: None, emitted: None })
+        Ok(self.moved(end))
     }
 }
 
@@ -96,7 +96,7 @@ fn fresh(port: u16, channel: u32, counterparty: (u16, u32), order: u8, version: 
 }
 
 /// The end that this one names, if that one names it; the state is the caller's to set.
-fn other_end(end: &Channel) -> Channel {
+pub fn other_end(end: &Channel) -> Channel {
     let named = (end.port, end.channel);
     fresh(end.counterparty_port, end.counterparty_channel, named, end.order, end.version)
 }
@@ -108,10 +108,10 @@ fn made(store: &[u8], context: Context, index: usize, end: Channel) -> Effect {
 }
 
 /// All of the record is compared but the version, which has a refusal of its own.
-fn shows_end(verdict: &EndVerdict, end: &Channel) -> bool {
+pub fn shows_end(verdict: &EndVerdict, end: &Channel) -> bool {
     verdict.claim == END_SHOWN && verdict.record[..channel::VERSION] == end.shown()[..channel::VERSION]
 }
 
-fn has_version(verdict: &EndVerdict, version: &Version) -> bool {
+pub fn has_version(verdict: &EndVerdict, version: &Version) -> bool {
     verdict.record[channel::VERSION..] == *version
 }

@@ -2,12 +2,14 @@
 
 use std::slice::{from_raw_parts, from_raw_parts_mut};
 
-use super::kind_of;
+use super::tools::{change_where, emits_end, end_of, kind_of};
 use crate::bytes::*;
 use crate::datagram::*;
 use crate::generate::shape::channels;
 use crate::generate::step::Step;
-use crate::places::{channel, context, end_verdict, frame, header, open_acknowledge, open_confirm, open_try};
+use crate::places::{
+    channel, confirm, context, end_verdict, frame, header, open_acknowledge, open_try, time_out_on_close,
+};
 use crate::store::*;
 use crate::subject::Handle;
 use crate::table::own_channel;
@@ -28,6 +30,9 @@ pub const WRONG: [(&str, Handle); 13] = [
     ("gives 26 before 14", state_first),
 ];
 
+/// The steps that open an end.
+const OPENING: [u16; 2] = [OPEN_ACKNOWLEDGE, OPEN_CONFIRM];
+
 pub const TRIES_ANY: Handle = tries_any;
 pub const ACKNOWLEDGES_ANY: Handle = acknowledges_any;
 pub const CONFIRMS_ANY: Handle = confirms_any;
@@ -43,8 +48,8 @@ behind_c!(acknowledges_any, |store, output, datagram| compares_nothing(store, ou
 
 behind_c!(confirms_any, |store, output, datagram| compares_nothing(store, output, datagram, OPEN_CONFIRM));
 
-/// Takes any verdict for the needed one in datagrams of this kind; the version is compared.
-fn compares_nothing(store: &mut [u8], output: &mut [u8], datagram: &[u8], kind: u16) -> (u8, u32) {
+/// Takes any end verdict for the needed one in datagrams of this kind; the version is compared.
+pub fn compares_nothing(store: &mut [u8], output: &mut [u8], datagram: &[u8], kind: u16) -> (u8, u32) {
     let answer = crate::handle(store, output, datagram);
     let Some(Datagram { context, body }) = read(datagram).filter(|_| answer.0 == 14 && kind_of(datagram) == kind)
     else {
@@ -67,27 +72,21 @@ fn compares_nothing(store: &mut [u8], output: &mut [u8], datagram: &[u8], kind: 
     crate::handle(store, output, &matched)
 }
 
-fn verdict_place(kind: u16) -> usize {
+/// Where the end verdict of a datagram of this kind begins.
+pub fn verdict_place(kind: u16) -> usize {
     let behind = match kind {
         OPEN_TRY => open_try::VERDICT,
         OPEN_ACKNOWLEDGE => open_acknowledge::VERDICT,
-        _ => open_confirm::VERDICT,
+        TIME_OUT_ON_CLOSE => time_out_on_close::END_VERDICT,
+        _ => confirm::VERDICT,
     };
     frame::BODY + context::LENGTH + behind
-}
-
-/// The end that an open acknowledge or an open confirm is about, where it got this answer, for which the store is fit.
-fn end_of(store: &[u8], datagram: &[u8], answer: (u8, u32), number: u8) -> Option<(usize, Channel)> {
-    match read(datagram).filter(|_| answer.0 == number)?.body {
-        Body::OpenAcknowledge { channel, .. } | Body::OpenConfirm { channel, .. } => find_channel(store, channel),
-        _ => None,
-    }
 }
 
 // Takes an OPEN end for one that no end has answered yet.
 behind_c!(acknowledges_again, |store, output, datagram| {
     let answer = crate::handle(store, output, datagram);
-    let end = end_of(store, datagram, answer, 26).filter(|_| kind_of(datagram) == OPEN_ACKNOWLEDGE);
+    let end = end_of(store, datagram, &[OPEN_ACKNOWLEDGE], answer, 26);
     let Some((index, end)) = end.filter(|(_, end)| end.is_open()) else {
         return answer;
     };
@@ -108,36 +107,24 @@ behind_c!(skips_numbers, |store, output, datagram| {
     answer
 });
 
-behind_c!(other_versions, |store, output, datagram| {
-    let answer = crate::handle(store, output, datagram);
-    let Some((_, end)) = end_of(store, datagram, answer, 27) else {
-        return answer;
-    };
-    let mut same = datagram.to_vec();
-    put(&mut same, verdict_place(kind_of(datagram)) + end_verdict::RECORD + channel::VERSION, end.version);
-    crate::handle(store, output, &same)
-});
+behind_c!(other_versions, |store, output, datagram| takes_version(store, output, datagram, &OPENING));
+
+/// Takes any version for the needed one in datagrams of these kinds.
+pub fn takes_version(store: &mut [u8], output: &mut [u8], datagram: &[u8], kinds: &[u16]) -> (u8, u32) {
+    change_where(store, output, datagram, (kinds, 27), |bytes, end| {
+        put(bytes, verdict_place(kind_of(bytes)) + end_verdict::RECORD + channel::VERSION, end.version);
+    })
+}
 
 behind_c!(names_none, |store, output, datagram| {
     let answer = crate::handle(store, output, datagram);
-    let end = end_of(store, datagram, answer, 0).filter(|_| kind_of(datagram) == OPEN_ACKNOWLEDGE);
-    if let Some((index, end)) = end {
+    if let Some((index, end)) = end_of(store, datagram, &[OPEN_ACKNOWLEDGE], answer, 0) {
         Channel { counterparty_channel: 0, ..end }.write(&mut store[channel_place(index)..]);
     }
     answer
 });
 
-behind_c!(emits_at_open, |store, output, datagram| {
-    let answer = crate::handle(store, output, datagram);
-    let Some((_, end)) = end_of(store, datagram, answer, 0) else {
-        return answer;
-    };
-    put_u32(output, frame::LENGTH, 12);
-    put_u16(output, frame::KIND, 0x0107);
-    put_u16(output, frame::BODY, end.port);
-    put_u32(output, frame::BODY + 2, end.channel);
-    (0, 12)
-});
+behind_c!(emits_at_open, |store, output, datagram| emits_end(store, output, datagram, &OPENING));
 
 behind_c!(changes_output, |store, output, datagram| {
     let answer = crate::handle(store, output, datagram);
@@ -186,7 +173,7 @@ behind_c!(numbers_again, |store, output, datagram| {
 
 behind_c!(state_first, |store, output, datagram| {
     let answer = crate::handle(store, output, datagram);
-    let Some((_, end)) = end_of(store, datagram, answer, 14) else {
+    let Some((_, end)) = end_of(store, datagram, &OPENING, answer, 14) else {
         return answer;
     };
     let prior = if kind_of(datagram) == OPEN_ACKNOWLEDGE { INIT } else { TRYOPEN };

@@ -57,7 +57,7 @@ pub fn of_step(context: &Context, body: &Body, end: &Channel) -> Vec<(u8, bool)>
 }
 
 /// Whether the verdict shows an end with these values, whatever its version is.
-fn is_shown(verdict: &EndVerdict, state: u8, order: u8, own: Named, named: Named) -> bool {
+pub fn is_shown(verdict: &EndVerdict, state: u8, order: u8, own: Named, named: Named) -> bool {
     let end = Channel::read(&verdict.record);
     verdict.claim == END_SHOWN
         && get_u16(&verdict.record, channel::KIND) == CHANNEL_KIND

@@ -1,4 +1,4 @@
-//! Steps of the opening handshake that a given fit store accepts.
+//! Steps of the opening handshake and of closing that a given fit store accepts.
 
 use super::blank;
 use crate::generate::draft::Draft;
@@ -23,14 +23,14 @@ pub fn making_an_end(rng: &mut Rng, store: &[u8], kind: u16) -> Option<Draft> {
     Some(draft)
 }
 
-/// An open acknowledge or an open confirm of this end; the one names any channel, the other has it named already.
+/// A step of this end. An open acknowledge names any channel, the others have it named already.
 pub fn fill_step(rng: &mut Rng, draft: &mut Draft, end: &Channel) {
     draft.step.channel = end.channel;
     draft.step.counterparty_channel = rng.number() as u32;
     show(rng, draft, end.version);
 }
 
-fn show(rng: &mut Rng, draft: &mut Draft, version: Version) {
+pub fn show(rng: &mut Rng, draft: &mut Draft, version: Version) {
     (draft.step.verdict.proof_height, draft.step.verdict.proof_time) = (rng.number(), rng.number());
     draft.step.show_version(version);
 }

@@ -1,17 +1,14 @@
-//! The refusals that the steps of the opening handshake have for themselves.
+//! The refusals that the steps of the opening handshake and of closing have for themselves.
 
 use crate::bytes::*;
 use crate::datagram::*;
 use crate::generate::draft::Draft;
 use crate::generate::rng::Rng;
-use crate::generate::shape::fill_channels;
+use crate::generate::shape::{fill_channels, use_up_numbers};
 use crate::generate::step::padded;
-use crate::places::{channel, header};
+use crate::places::channel;
 use crate::store::*;
 use crate::verdict::*;
-
-/// Above every number that a channel can have.
-const USED_UP: u64 = u32::MAX as u64 + 1;
 
 /// Another claim, or one bit of the record changed anywhere but in the version.
 pub fn other_end(rng: &mut Rng, draft: &mut Draft) {
@@ -37,8 +34,7 @@ pub fn no_free_channel(rng: &mut Rng, draft: &mut Draft) {
         fill_channels(rng, &mut draft.store, 0);
     }
     if which <= 1 {
-        let any = rng.between(USED_UP, u64::MAX);
-        put_u64(&mut draft.store, header::NEXT_CHANNEL, rng.pick(&[USED_UP, USED_UP + 1, u64::MAX, any]));
+        use_up_numbers(rng, &mut draft.store);
     }
 }
 

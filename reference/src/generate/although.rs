@@ -1,0 +1,107 @@
+//! What a store may hold at an accepted call, although calls of other kinds are refused for it.
+
+use super::call::Row;
+use super::draft::Draft;
+use super::rng::Rng;
+use super::shape::{fill, fill_channels, use_up_numbers};
+use crate::datagram::*;
+use crate::refusal::*;
+use crate::store::*;
+
+/// Something for which these kinds are not refused.
+pub struct Although {
+    pub name: &'static str,
+    /// The refusal that other kinds get for it.
+    pub refusal: u8,
+    kinds: &'static [u16],
+    /// Whether it is so in this store, at this end, for the packet of this sequence; 0 where there is no packet.
+    holds: fn(&[u8], &Channel, u64) -> bool,
+    bring_about: fn(&mut Rng, &mut Draft),
+}
+
+const TIME_OUTS: &[u16] = &[TIME_OUT, TIME_OUT_ON_CLOSE];
+/// About an end that is there, and nothing is stored beside it.
+const NEED_NO_ROOM: &[u16] = &[OPEN_ACKNOWLEDGE, OPEN_CONFIRM, CLOSE_INIT, CLOSE_CONFIRM, TIME_OUT_ON_CLOSE];
+
+pub const ALL: [Although; 7] = [
+    Although {
+        name: "next send is 2^64 - 1",
+        refusal: COUNTER_AT_END,
+        kinds: TIME_OUTS,
+        holds: |_, end, _| end.next_sequence_send == u64::MAX,
+        bring_about: |_, draft| draft.set_end(Channel { next_sequence_send: u64::MAX, ..draft.end() }),
+    },
+    Although {
+        name: "next receive is 2^64 - 1",
+        refusal: COUNTER_AT_END,
+        kinds: TIME_OUTS,
+        holds: |_, end, _| end.next_sequence_recv == u64::MAX,
+        bring_about: |_, draft| draft.set_end(Channel { next_sequence_recv: u64::MAX, ..draft.end() }),
+    },
+    Although {
+        name: "next acknowledge is 2^64 - 1",
+        refusal: COUNTER_AT_END,
+        kinds: TIME_OUTS,
+        holds: |_, end, _| end.next_sequence_ack == u64::MAX,
+        bring_about: |_, draft| draft.set_end(Channel { next_sequence_ack: u64::MAX, ..draft.end() }),
+    },
+    Although {
+        name: "the end has a receipt of that sequence",
+        refusal: ALREADY_THERE,
+        kinds: TIME_OUTS,
+        holds: |store, end, sequence| find_record(store, RECEIPT, end.channel, sequence).is_some(),
+        bring_about: put_receipt,
+    },
+    Although {
+        name: "no packet record is free",
+        refusal: NO_FREE_RECORD,
+        kinds: NEED_NO_ROOM,
+        holds: |store, _, _| first_free(store).is_none(),
+        bring_about: |rng, draft| {
+            fill(rng, &mut draft.store, 0, None);
+        },
+    },
+    Although {
+        name: "no channel record is free",
+        refusal: NO_FREE_CHANNEL,
+        kinds: NEED_NO_ROOM,
+        holds: |store, _, _| first_free_channel(store).is_none(),
+        bring_about: |rng, draft| fill_channels(rng, &mut draft.store, 0),
+    },
+    Although {
+        name: "no channel number is left",
+        refusal: NO_FREE_CHANNEL,
+        kinds: NEED_NO_ROOM,
+        holds: |store, _, _| next_channel(store) > u64::from(u32::MAX),
+        bring_about: |rng, draft| use_up_numbers(rng, &mut draft.store),
+    },
+];
+
+/// The indices of those that calls of this row can meet. An ordered end has no receipts.
+pub fn possible(row: Row) -> impl Iterator<Item = usize> {
+    let meets = move |it: &Although| it.kinds.contains(&row.kind) && !(it.refusal == ALREADY_THERE && row.ordered);
+    (0..ALL.len()).filter(move |index| meets(&ALL[*index]))
+}
+
+/// The indices of those that an accepted call of this row has met.
+pub fn met(row: Row, store: &[u8], end: &Channel, sequence: u64) -> Vec<usize> {
+    possible(row).filter(|index| (ALL[*index].holds)(store, end, sequence)).collect()
+}
+
+/// Lets a call that is accepted meet one more of them, if it can.
+pub fn bring_about(rng: &mut Rng, draft: &mut Draft) {
+    let indices: Vec<usize> = possible(draft.row()).collect();
+    if let Some(index) = rng.pick_any(&indices) {
+        (ALL[index].bring_about)(rng, draft);
+    }
+}
+
+/// In a free place only, as the commitment of the packet has to stay.
+fn put_receipt(_: &mut Rng, draft: &mut Draft) {
+    let (channel, sequence) = (draft.end().channel, draft.packet.sequence);
+    let there = find_record(&draft.store, RECEIPT, channel, sequence).is_some();
+    if let Some(index) = first_free(&draft.store).filter(|_| !there) {
+        let receipt = Record { kind: RECEIPT, channel, sequence, ..Record::FREE };
+        receipt.write(&mut draft.store[record_place(index)..]);
+    }
+}

@@ -1,0 +1,66 @@
+//! What wrong handlers are made of: the right one, called with something changed where it gave a certain answer.
+
+use crate::bytes::*;
+use crate::datagram::*;
+use crate::places::frame;
+use crate::store::*;
+use crate::table::own_channel;
+
+pub fn kind_of(datagram: &[u8]) -> u16 {
+    get_u16(datagram, frame::KIND)
+}
+
+/// The end that a datagram of one of these kinds is about, where it got this answer, for which the store is fit.
+pub fn end_of(store: &[u8], datagram: &[u8], kinds: &[u16], answer: (u8, u32), number: u8) -> Option<(usize, Channel)> {
+    let read = read(datagram).filter(|_| answer.0 == number && kinds.contains(&kind_of(datagram)))?;
+    find_channel(store, own_channel(&read.body)?)
+}
+
+/// Handles a changed datagram where one of these kinds gets this refusal.
+pub fn change_where(
+    store: &mut [u8],
+    output: &mut [u8],
+    datagram: &[u8],
+    (kinds, refusal): (&[u16], u8),
+    change: impl Fn(&mut [u8], &Channel),
+) -> (u8, u32) {
+    let answer = crate::handle(store, output, datagram);
+    let Some((_, end)) = end_of(store, datagram, kinds, answer, refusal) else {
+        return answer;
+    };
+    let mut changed = datagram.to_vec();
+    change(&mut changed, &end);
+    crate::handle(store, output, &changed)
+}
+
+/// Refuses a datagram of this kind that gets 0 or a higher refusal, where the test says so.
+pub fn refuse_where(
+    store: &mut [u8],
+    output: &mut [u8],
+    datagram: &[u8],
+    (kind, refusal): (u16, u8),
+    test: impl Fn(&Body, &Context, &Channel) -> bool,
+) -> (u8, u32) {
+    let answer = crate::handle(&mut store.to_vec(), &mut output.to_vec(), datagram);
+    if answer.0 == 0 || answer.0 > refusal {
+        let end = end_of(store, datagram, &[kind], answer, answer.0).map(|(_, end)| end);
+        let call = read(datagram).zip(end);
+        if call.is_some_and(|(Datagram { context, body }, end)| test(&body, &context, &end)) {
+            return (refusal, 0);
+        }
+    }
+    crate::handle(store, output, datagram)
+}
+
+/// Emits port and channel where a datagram of one of these kinds is accepted, which emits nothing.
+pub fn emits_end(store: &mut [u8], output: &mut [u8], datagram: &[u8], kinds: &[u16]) -> (u8, u32) {
+    let answer = crate::handle(store, output, datagram);
+    let Some((_, end)) = end_of(store, datagram, kinds, answer, 0) else {
+        return answer;
+    };
+    put_u32(output, frame::LENGTH, 12);
+    put_u16(output, frame::KIND, 0x0107);
+    put_u16(output, frame::BODY, end.port);
+    put_u32(output, frame::BODY + 2, end.channel);
+    (0, 12)
+}
