@@ -1,6 +1,7 @@
 /* The packet handler of one ledger: a datagram goes in, a number and a record come out. The functions are those of the
  * static library libroute.a, which `rt staticlib route` writes. docs/FORMAT.md and docs/DATAGRAMS.md have the
- * layouts; docs/ANSWERS.md has what to do about each answer.
+ * layouts; docs/ANSWERS.md has what to do about each answer. Who opens or closes a channel reads docs/CHANNELS.md: it
+ * has the order of steps in which a close strands no packet.
  *
  * WHAT HOLDS FOR EVERY POINTER. It is valid for as many bytes as the length beside it says: to be read, and also to be
  * written where it is not const. The memory lent to one call does not overlap: not the store with the output, the
@@ -40,8 +41,8 @@ extern "C" {
 /* The length of one opening in a list of openings. */
 #define ROUTE_OPENING_LENGTH 20
 
-/* The lengths of the nine datagrams, and of the emitted records. An open init and an open try have the version behind
- * these bytes. */
+/* The lengths of the datagrams, and of the emitted records. An open init and an open try have the version behind these
+ * bytes. */
 #define ROUTE_SEND_LENGTH 90
 #define ROUTE_RECEIVE_LENGTH 186
 #define ROUTE_WRITE_LENGTH 82
@@ -51,6 +52,9 @@ extern "C" {
 #define ROUTE_OPEN_TRY_LENGTH 127
 #define ROUTE_OPEN_ACKNOWLEDGE_LENGTH 128
 #define ROUTE_OPEN_CONFIRM_LENGTH 124
+#define ROUTE_CLOSE_INIT_LENGTH 42
+#define ROUTE_CLOSE_CONFIRM_LENGTH 124
+#define ROUTE_TIME_OUT_ON_CLOSE_LENGTH 268
 #define ROUTE_SENT_LENGTH 74
 #define ROUTE_DELIVERED_LENGTH 74
 #define ROUTE_WRITTEN_LENGTH 52
@@ -68,10 +72,14 @@ enum route_datagram {
     ROUTE_OPEN_INIT = 6,
     ROUTE_OPEN_TRY = 7,
     ROUTE_OPEN_ACKNOWLEDGE = 8,
-    ROUTE_OPEN_CONFIRM = 9
+    ROUTE_OPEN_CONFIRM = 9,
+    ROUTE_CLOSE_INIT = 10,
+    ROUTE_CLOSE_CONFIRM = 11,
+    ROUTE_TIME_OUT_ON_CLOSE = 12 /* packet, end verdict and verdict; emits ROUTE_TIMED_OUT */
 };
 
-/* Kinds of emitted records. ROUTE_OPEN_ACKNOWLEDGE and ROUTE_OPEN_CONFIRM emit none. */
+/* Kinds of emitted records. ROUTE_OPEN_ACKNOWLEDGE, ROUTE_OPEN_CONFIRM, ROUTE_CLOSE_INIT and ROUTE_CLOSE_CONFIRM emit
+ * none. */
 enum route_emitted {
     ROUTE_SENT = 0x0101,
     ROUTE_DELIVERED = 0x0102,
@@ -86,7 +94,7 @@ enum route_state {
     ROUTE_STATE_INIT = 1,    /* an open init made it; it waits for its open acknowledge */
     ROUTE_STATE_TRYOPEN = 2, /* an open try made it; it waits for its open confirm */
     ROUTE_STATE_OPEN = 3,
-    ROUTE_STATE_CLOSED = 4
+    ROUTE_STATE_CLOSED = 4   /* by a close, or by a time-out on an ordered channel; it takes time-outs only */
 };
 
 /* Answers. Where several refusals apply, the lowest number is given; none is given otherwise. Behind each stand the
@@ -100,14 +108,15 @@ enum route_answer {
     ROUTE_NO_CHANNEL = 5,            /* all but 6, 7: the channel is not in the store */
     ROUTE_NOT_OPEN = 6,              /* 1, 2, 3, 4: the channel is not OPEN */
     ROUTE_NOT_OWNER = 7,             /* all but 6, 7: the caller's port is not the channel's port */
-    ROUTE_NO_CONNECTION = 8,         /* 2, 4, 7, 8, 9: the connection is not open */
-    ROUTE_WRONG_END = 9,             /* 2, 4, 5: the packet's ports and other channel do not fit this end */
+    ROUTE_NO_CONNECTION = 8,         /* 2, 4, 7 to 11: the connection is not open */
+    ROUTE_WRONG_END = 9,             /* 2, 4, 5, 12: the packet's ports and other channel do not fit this end */
     ROUTE_NO_TIMEOUT = 10,           /* 1: both timeouts are zero */
     ROUTE_TIMEOUT_PASSED = 11,       /* 1, 2: the timeout has passed */
     ROUTE_TIMEOUT_NOT_PASSED = 12,   /* 5: the timeout has not passed */
-    ROUTE_NO_COMMITMENT = 13,        /* 4, 5: no commitment with this sequence, timeouts and digest */
-    ROUTE_OTHER_VERDICT = 14,        /* 2, 4, 5, 7, 8, 9: the verdict is about something else */
-    ROUTE_OUT_OF_ORDER = 15,         /* on an ordered channel, 2, 4: another packet's turn; 5: it was received */
+    ROUTE_NO_COMMITMENT = 13,        /* 4, 5, 12: no commitment with this sequence, timeouts and digest */
+    ROUTE_OTHER_VERDICT = 14,        /* 2, 4, 5, 7, 8, 9, 11, 12: the verdict is not the one needed;
+                                        12: one of the two is not, or they are of different blocks */
+    ROUTE_OUT_OF_ORDER = 15,         /* on an ordered channel, 2, 4: another packet's turn; 5, 12: it was received */
     ROUTE_ALREADY_THERE = 16,        /* 2 on an unordered channel: the receipt; 3: the acknowledgement */
     ROUTE_NOT_RECEIVED = 17,         /* 3: the packet was not received */
     ROUTE_EMPTY_ACKNOWLEDGEMENT = 18, /* 3: the digest is all zero */
@@ -118,9 +127,9 @@ enum route_answer {
     ROUTE_TOO_MANY_OPENINGS = 23,    /* maker: more than ROUTE_MAX_CHANNELS openings */
     ROUTE_CHANNEL_TWICE = 24,        /* maker: a channel number stands in two openings */
     ROUTE_NO_FREE_CHANNEL = 25,      /* 6, 7: all channel records are in use, or all channel numbers given out */
-    ROUTE_WRONG_STATE = 26,          /* 8: the end is not INIT; 9: it is not TRYOPEN */
+    ROUTE_WRONG_STATE = 26,          /* 8: the end is not INIT; 9: it is not TRYOPEN; 10, 11: it is not OPEN */
     ROUTE_WRONG_VERSION = 27         /* 6, 7: the version is longer than ROUTE_MAX_VERSION or has a zero byte;
-                                        7, 8, 9: it is not the one in the verdict */
+                                        7, 8, 9, 11, 12: it is not the one in the verdict */
 };
 
 /* Answers one datagram and carries it out. Answers 0 to 20 and 25 to 27.
@@ -131,9 +140,9 @@ enum route_answer {
  * size                     takes the length of the emitted record, 0 where none is emitted; never NULL
  *
  * With ROUTE_ACCEPTED the store is changed, the emitted record stands at the front of the output, *size is its length,
- * and the bytes of the output behind it are as they were. An open acknowledge and an open confirm emit nothing: *size
- * is 0, and no byte of the output has changed. With any other answer no byte of store or output has changed. *size is
- * written in every case, and what it was before has no effect. */
+ * and the bytes of the output behind it are as they were. Kinds 8 to 11 emit nothing: *size is 0, and no byte of the
+ * output has changed. With any other answer no byte of store or output has changed. *size is written in every case, and
+ * what it was before has no effect. */
 uint8_t route_handle(uint8_t *store, size_t store_len, uint8_t *output, size_t output_len, const uint8_t *datagram,
                      size_t datagram_len, uint32_t *size);
 

@@ -38,22 +38,33 @@ static void make_send(uint8_t *datagram, uint64_t timeout_height)
     datagram[58] = 1; /* digest */
 }
 
-/* A time-out of a packet that was sent with timeout height 60, where the other end waits for the first one. */
+/* A packet that was sent by make_send with timeout height 60. */
+static void put_packet(uint8_t *at, uint64_t sequence)
+{
+    put(at, sequence, 8);
+    put(at + 8, 60, 8);
+    put(at + 24, 5, 2);
+    put(at + 26, 7, 4);
+    put(at + 30, 6, 2);
+    put(at + 32, 9, 4);
+    at[36] = 1;
+}
+
+/* What a verdict says: the other end waits for the first packet. */
+static void put_not_received(uint8_t *at, uint64_t proof_height)
+{
+    put(at, 4, 2); /* claim 4: next receive equals the verdict's sequence */
+    put(at + 2, proof_height, 8);
+    put(at + 18, 6, 2);
+    put(at + 20, 9, 4);
+    put(at + 24, 1, 8);
+}
+
 static void make_time_out(uint8_t *datagram, uint64_t sequence, uint64_t proof_height)
 {
     start(datagram, ROUTE_TIME_OUT_LENGTH, ROUTE_TIME_OUT);
-    put(datagram + 38, sequence, 8);
-    put(datagram + 46, 60, 8);
-    put(datagram + 62, 5, 2);
-    put(datagram + 64, 7, 4);
-    put(datagram + 68, 6, 2);
-    put(datagram + 70, 9, 4);
-    datagram[74] = 1;
-    put(datagram + 106, 4, 2); /* claim 4: next receive equals the verdict's sequence */
-    put(datagram + 108, proof_height, 8);
-    put(datagram + 124, 6, 2);
-    put(datagram + 126, 9, 4);
-    put(datagram + 130, 1, 8);
+    put_packet(datagram + 38, sequence);
+    put_not_received(datagram + 106, proof_height);
 }
 
 /* Port 5 opens a channel with port 6, ordered, with the version "v1". */
@@ -65,8 +76,9 @@ static void make_open_init(uint8_t *datagram)
     memcpy(datagram + 41, "v1", 2);
 }
 
-/* What an end verdict says: channel 9 of port 6 is in this state and names this channel of port 5. */
-static void put_end_verdict(uint8_t *at, uint8_t state, uint32_t counterparty)
+/* What an end verdict says, at height 50: channel 9 of port 6 is in this state, names this channel of port 5, and has
+ * this version. */
+static void put_end_verdict(uint8_t *at, uint8_t state, uint32_t counterparty, const char *version)
 {
     put(at, 5, 2); /* claim 5: the other end has this record, once its counters are set to zero */
     put(at + 2, 50, 8);
@@ -78,7 +90,7 @@ static void put_end_verdict(uint8_t *at, uint8_t state, uint32_t counterparty)
     put(record + 8, 6, 2);
     put(record + 10, 5, 2);
     put(record + 12, counterparty, 4);
-    memcpy(record + 40, "v1", 2);
+    memcpy(record + 40, version, strlen(version));
 }
 
 static void make_open_try(uint8_t *datagram)
@@ -87,8 +99,30 @@ static void make_open_try(uint8_t *datagram)
     put(datagram + 38, 6, 2);
     put(datagram + 40, 9, 4);
     datagram[44] = 1;
-    put_end_verdict(datagram + 45, ROUTE_STATE_INIT, 0);
+    put_end_verdict(datagram + 45, ROUTE_STATE_INIT, 0, "v1");
     memcpy(datagram + 127, "v1", 2);
+}
+
+static void make_close_init(uint8_t *datagram)
+{
+    start(datagram, ROUTE_CLOSE_INIT_LENGTH, ROUTE_CLOSE_INIT);
+    put(datagram + 38, 7, 4);
+}
+
+/* Channel 7 was made with the store, so it has the empty version. */
+static void make_close_confirm(uint8_t *datagram, uint8_t state, const char *version)
+{
+    start(datagram, ROUTE_CLOSE_CONFIRM_LENGTH, ROUTE_CLOSE_CONFIRM);
+    put(datagram + 38, 7, 4);
+    put_end_verdict(datagram + 42, state, 7, version);
+}
+
+static void make_time_out_on_close(uint8_t *datagram, uint64_t sequence, uint8_t state, uint64_t proof_height)
+{
+    start(datagram, ROUTE_TIME_OUT_ON_CLOSE_LENGTH, ROUTE_TIME_OUT_ON_CLOSE);
+    put_packet(datagram + 38, sequence);
+    put_end_verdict(datagram + 106, state, 7, "");
+    put_not_received(datagram + 188, proof_height);
 }
 
 #endif

@@ -1,5 +1,5 @@
-/* The library through its header, from C: a fresh store, sends, a time-out, the steps that open a channel, refusals,
- * lengths that are wrong. */
+/* The library through its header, from C: a fresh store, sends, a time-out, the steps that open and close a channel, a
+ * time-out on close, refusals, lengths that are wrong. */
 
 #include "datagrams.h"
 #include "route.h"
@@ -165,9 +165,9 @@ static void test_open_init(void)
     start(acknowledge, sizeof acknowledge, ROUTE_OPEN_ACKNOWLEDGE);
     put(acknowledge + 38, 1, 4);
     put(acknowledge + 42, 9, 4);
-    put_end_verdict(acknowledge + 46, ROUTE_STATE_OPEN, 1);
+    put_end_verdict(acknowledge + 46, ROUTE_STATE_OPEN, 1, "v1");
     EXPECT(call(acknowledge, sizeof acknowledge) == ROUTE_OTHER_VERDICT);
-    put_end_verdict(acknowledge + 46, ROUTE_STATE_TRYOPEN, 1);
+    put_end_verdict(acknowledge + 46, ROUTE_STATE_TRYOPEN, 1, "v1");
     EXPECT(call(acknowledge, sizeof acknowledge) == ROUTE_ACCEPTED && size == 0 && all_are(output, OUTPUT, FILL));
     EXPECT(store[28] == 2 && store[66] == ROUTE_STATE_OPEN && store[76] == 9);
     EXPECT(call(acknowledge, sizeof acknowledge) == ROUTE_WRONG_STATE);
@@ -187,10 +187,60 @@ static void test_open_try(void)
     EXPECT(store[28] == 2 && store[66] == ROUTE_STATE_TRYOPEN && store[76] == 9);
     start(confirm, sizeof confirm, ROUTE_OPEN_CONFIRM);
     put(confirm + 38, 1, 4);
-    put_end_verdict(confirm + 42, ROUTE_STATE_OPEN, 1);
+    put_end_verdict(confirm + 42, ROUTE_STATE_OPEN, 1, "v1");
     EXPECT(call(confirm, sizeof confirm) == ROUTE_ACCEPTED && size == 0 && all_are(output, OUTPUT, FILL));
     EXPECT(store[66] == ROUTE_STATE_OPEN);
     EXPECT(call(confirm, sizeof confirm) == ROUTE_WRONG_STATE);
+}
+
+/* A channel that is closed here, and one that is closed since the other end is. */
+static void test_close(void)
+{
+    uint8_t init[ROUTE_CLOSE_INIT_LENGTH], confirm[ROUTE_CLOSE_CONFIRM_LENGTH], send[ROUTE_SEND_LENGTH];
+    fresh();
+    make_close_init(init);
+    init[32] = 0;
+    EXPECT(call(init, sizeof init) == ROUTE_NO_CONNECTION);
+    make_close_init(init);
+    EXPECT(call(init, sizeof init) == ROUTE_ACCEPTED && size == 0 && all_are(output, OUTPUT, FILL));
+    EXPECT(store[66] == ROUTE_STATE_CLOSED);
+    EXPECT(call(init, sizeof init) == ROUTE_WRONG_STATE);
+    make_send(send, 60);
+    EXPECT(call(send, sizeof send) == ROUTE_NOT_OPEN);
+    fresh();
+    make_close_confirm(confirm, ROUTE_STATE_OPEN, "");
+    EXPECT(call(confirm, sizeof confirm) == ROUTE_OTHER_VERDICT);
+    make_close_confirm(confirm, ROUTE_STATE_CLOSED, "v1");
+    EXPECT(call(confirm, sizeof confirm) == ROUTE_WRONG_VERSION);
+    make_close_confirm(confirm, ROUTE_STATE_CLOSED, "");
+    EXPECT(call(confirm, sizeof confirm) == ROUTE_ACCEPTED && size == 0 && all_are(output, OUTPUT, FILL));
+    EXPECT(store[66] == ROUTE_STATE_CLOSED);
+    EXPECT(call(confirm, sizeof confirm) == ROUTE_WRONG_STATE);
+}
+
+/* Two packets come back since the other end is closed, the later one first, before their timeout. */
+static void test_time_out_on_close(void)
+{
+    uint8_t send[ROUTE_SEND_LENGTH], time_out[ROUTE_TIME_OUT_ON_CLOSE_LENGTH];
+    fresh();
+    make_send(send, 60);
+    EXPECT(call(send, sizeof send) == ROUTE_ACCEPTED);
+    EXPECT(call(send, sizeof send) == ROUTE_ACCEPTED);
+    make_time_out_on_close(time_out, 2, ROUTE_STATE_OPEN, 50);
+    EXPECT(call(time_out, sizeof time_out) == ROUTE_OTHER_VERDICT);
+    make_time_out_on_close(time_out, 2, ROUTE_STATE_CLOSED, 51); /* the end verdict is of height 50 */
+    EXPECT(call(time_out, sizeof time_out) == ROUTE_OTHER_VERDICT);
+    make_time_out_on_close(time_out, 2, ROUTE_STATE_CLOSED, 50);
+    put(time_out + 212, 3, 8); /* the other end waits for the third one */
+    EXPECT(call(time_out, sizeof time_out) == ROUTE_OUT_OF_ORDER);
+    for (uint64_t sequence = 2; sequence >= 1; sequence--) {
+        make_time_out_on_close(time_out, sequence, ROUTE_STATE_CLOSED, 50);
+        EXPECT(call(time_out, sizeof time_out) == ROUTE_ACCEPTED && size == ROUTE_TIMED_OUT_LENGTH);
+        EXPECT(output[4] == (ROUTE_TIMED_OUT & 0xff) && output[5] == ROUTE_TIMED_OUT >> 8);
+        EXPECT(memcmp(output + 6, time_out + 38, 68) == 0 && store[66] == ROUTE_STATE_CLOSED);
+        EXPECT(call(time_out, sizeof time_out) == ROUTE_NO_COMMITMENT);
+    }
+    EXPECT(all_are(store + 1088, 128, 0));
 }
 
 static void test_lengths(void)
@@ -210,6 +260,8 @@ int main(void)
     test_time_out();
     test_open_init();
     test_open_try();
+    test_close();
+    test_time_out_on_close();
     test_lengths();
     printf(failed ? "%d of the C test's expectations failed\n" : "the C test passed\n", failed);
     return failed != 0;

@@ -1,6 +1,6 @@
 //! Two ledgers in one program. They open two channels, and warehouse receipts are moved: one arrives and is
 //! acknowledged, one does not arrive in time and is given back, one closes an ordered channel, and the one behind it is
-//! given back too.
+//! given back too. At last the other channel is closed, and a receipt that was on its way is given back.
 //!
 //! Run it with `cargo run --example two_ledgers`.
 
@@ -55,6 +55,10 @@ impl Ledger {
 /// it finds there what the verdict says.
 fn look_at(other: &mut Ledger, verdict_at: impl Fn(Block) -> Verdict) -> Verdict {
     let verdict = verdict_at(other.close_block());
+    found(other, verdict)
+}
+
+fn found(other: &Ledger, verdict: Verdict) -> Verdict {
     assert!(other.store.holds(&verdict), "{} does not show {verdict:?}", other.name);
     verdict
 }
@@ -124,15 +128,43 @@ fn acknowledge(at: &mut Ledger, other: &mut Ledger, packet: &Packet, text: &str)
     at.call(Datagram::acknowledge(&context, packet, acknowledgement, &verdict))
 }
 
-/// What the other ledger has to show depends on the order of the channel.
-fn time_out(at: &mut Ledger, other: &mut Ledger, packet: &Packet) -> Result<Option<Emitted>, Refusal> {
+/// That a packet was not received, as the other ledger has to show it by the order of the channel. The block takes no
+/// more calls.
+fn not_received(other: &Ledger, packet: &Packet, block: Block) -> Verdict {
     let end = other.store.channel(packet.destination.channel).expect("the end that the packet is for");
-    let verdict = look_at(other, |block| match end.order {
+    let verdict = match end.order {
         Order::Ordered => Verdict::next_receive(packet, end.next_receive, block),
         _ => Verdict::receipt_absent(packet, block),
-    });
-    let context = at.context(verdict.block.height);
+    };
+    found(other, verdict)
+}
+
+fn time_out(at: &mut Ledger, other: &mut Ledger, packet: &Packet) -> Result<Option<Emitted>, Refusal> {
+    let block = other.close_block();
+    let verdict = not_received(other, packet, block);
+    let context = at.context(block.height);
     at.call(Datagram::time_out(&context, packet, &verdict))
+}
+
+fn close_init(at: &mut Ledger, other: &Ledger, end: End) -> Result<(), Refusal> {
+    let context = at.context(other.height.seen_across());
+    at.call(Datagram::close_init(&context, end.channel))?;
+    Ok(())
+}
+
+fn close_confirm(at: &mut Ledger, other: &mut Ledger, end: End, closed: End) -> Result<(), Refusal> {
+    let verdict = look_at_end(other, closed);
+    let context = at.context(verdict.block.height);
+    at.call(Datagram::close_confirm(&context, end.channel, &verdict))?;
+    Ok(())
+}
+
+/// Both verdicts are of one block.
+fn time_out_on_close(at: &mut Ledger, other: &mut Ledger, packet: &Packet) -> Result<Option<Emitted>, Refusal> {
+    let end = look_at_end(other, packet.destination);
+    let verdict = not_received(other, packet, end.block);
+    let context = at.context(end.block.height);
+    at.call(Datagram::time_out_on_close(&context, packet, &end, &verdict))
 }
 
 /// A timeout so many blocks of the other ledger ahead.
@@ -208,6 +240,31 @@ fn closed(north: &mut Ledger, south: &mut Ledger, channel: u32) -> Result<(), Re
     Ok(())
 }
 
+fn on_its_way(north: &mut Ledger, south: &mut Ledger, channel: u32) -> Result<(), Refusal> {
+    println!("South closes the unordered channel while a receipt is on its way.");
+    let packet = send(north, south, channel, blocks_ahead(south, 100), "receipt 6: 9 t of maize")?;
+    // All that south sent is finished, and all that it received is acknowledged: nothing else is left open.
+    close_init(south, north, packet.destination)?;
+    let refused = receive(south, north, &packet);
+    assert_eq!(refused, Err(Refusal::NotOpen));
+    println!("  The receipt is given back at once, long before its timeout.");
+    let early = time_out(north, south, &packet);
+    assert_eq!(early, Err(Refusal::TimeoutNotPassed));
+    time_out_on_close(north, south, &packet)?;
+    println!("  North closes its end too.");
+    close_confirm(north, south, packet.source, packet.destination)
+}
+
+/// Closes south's end of a channel whose other end is closed already.
+fn other_end(north: &mut Ledger, south: &mut Ledger, channel: u32) -> Result<(), Refusal> {
+    println!("South closes its end of the ordered channel.");
+    let closed = north.store.channel(channel).expect("the end is there");
+    close_confirm(south, north, closed.counterparty, closed.own)?;
+    let again = close_init(south, north, closed.counterparty);
+    assert_eq!(again, Err(Refusal::WrongState));
+    Ok(())
+}
+
 fn main() -> Result<(), Refusal> {
     let mut north = Ledger::new("north", 5, 10)?;
     let mut south = Ledger::new("south", 6, 70)?;
@@ -216,6 +273,8 @@ fn main() -> Result<(), Refusal> {
     delivered(&mut north, &mut south, wheat)?;
     late(&mut north, &mut south, wheat)?;
     closed(&mut north, &mut south, oats)?;
+    other_end(&mut north, &mut south, oats)?;
+    on_its_way(&mut north, &mut south, wheat)?;
     println!("What is left in the stores:");
     for Ledger { name, store, .. } in [&north, &south] {
         println!("  {name}: next channel {}, {} of 8 records free", store.next_channel(), store.free_records());

@@ -14,8 +14,8 @@ pub struct Context {
     pub client: OtherHeight,
     /// The port of the caller. Only the port that owns a channel may use it.
     pub port: u16,
-    /// Whether the connection is open. A receive, an acknowledge, and all steps of opening a channel but the init ask
-    /// for it.
+    /// Whether the connection is open. A receive, an acknowledge, all steps of opening a channel but the init, and both
+    /// steps of closing one ask for it.
     pub connected: bool,
 }
 

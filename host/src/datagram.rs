@@ -1,4 +1,4 @@
-//! The nine datagrams.
+//! The datagrams.
 
 use crate::bytes::Writer;
 use crate::{Context, Digest, End, EndVerdict, Order, Packet, Timeout, Verdict};
@@ -95,6 +95,29 @@ impl Datagram {
     /// [`Open`](crate::State::Open), and that it names this one.
     pub fn open_confirm(context: &Context, channel: u32, verdict: &EndVerdict) -> Datagram {
         Datagram::new(9, context, 4 + EndVerdict::LENGTH, |to| verdict.write(to.u32(channel)))
+    }
+
+    /// Closes an end that is [`Open`](crate::State::Open). Nothing is asked about packets: one that was delivered stays
+    /// committed for good if it is not acknowledged before its sender's end closes, or its acknowledgement not written
+    /// before its receiver's end does, so the port first writes what it has to answer and finishes what it sent:
+    /// docs/CHANNELS.md.
+    pub fn close_init(context: &Context, channel: u32) -> Datagram {
+        Datagram::new(10, context, 4, |to| to.u32(channel))
+    }
+
+    /// Closes an end that is [`Open`](crate::State::Open), since its counterparty is closed. The verdict needed shows
+    /// the counterparty's end as [`Closed`](crate::State::Closed), and that it names this one.
+    pub fn close_confirm(context: &Context, channel: u32, verdict: &EndVerdict) -> Datagram {
+        Datagram::new(11, context, 4 + EndVerdict::LENGTH, |to| verdict.write(to.u32(channel)))
+    }
+
+    /// Times out a packet that this ledger sent and the other did not receive before its end was closed. No timeout has
+    /// to have passed. Two verdicts of one block are needed: the first shows the counterparty's end as
+    /// [`Closed`](crate::State::Closed), and that it names this one; the second is that of a
+    /// [`time_out`](Datagram::time_out).
+    pub fn time_out_on_close(context: &Context, packet: &Packet, end: &EndVerdict, verdict: &Verdict) -> Datagram {
+        let body = |to: Writer| verdict.write(end.write(packet.write(to)));
+        Datagram::new(12, context, 148 + EndVerdict::LENGTH, body)
     }
 
     /// Its bytes.

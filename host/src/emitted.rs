@@ -5,7 +5,7 @@ use std::fmt;
 use crate::bytes::Reader;
 use crate::{Digest, End, Packet};
 
-/// What an accepted datagram emits. An open acknowledge and an open confirm emit nothing.
+/// What an accepted datagram emits. An open acknowledge, an open confirm and both closes emit nothing.
 #[derive(Clone, Copy, Debug, PartialEq, Eq, Hash)]
 #[non_exhaustive]
 pub enum Emitted {
@@ -29,7 +29,8 @@ pub enum Emitted {
         /// The acknowledgement's digest.
         acknowledgement: Digest,
     },
-    /// A packet is finished: it was not received in time. What it carried is to be given back.
+    /// A packet is finished: it was not received in time, or not before the other end was closed. What it carried is to
+    /// be given back.
     TimedOut(Packet),
     /// A channel end was made, with a new number, by an open init or an open try.
     NewEnd(End),

@@ -13,13 +13,16 @@
 //! - [`Datagram::send`] takes a packet's digest and timeout, and gives out the packet.
 //! - [`Datagram::receive`] delivers a packet of the other ledger, and [`Datagram::write`] answers it.
 //! - [`Datagram::acknowledge`] and [`Datagram::time_out`] finish a packet that was sent.
+//! - [`Datagram::close_init`] closes a channel end, [`close_confirm`](Datagram::close_confirm) the other end of the
+//!   channel, and [`time_out_on_close`](Datagram::time_out_on_close) finishes a packet that a closed end has not
+//!   received.
 //!
-//! The last two and the receive carry a [`Verdict`], and all steps of opening but the first an [`EndVerdict`]: what the
-//! host's light client found about the other ledger. That verdicts are true is the host's part. So is it that each call
-//! gets the store that the last accepted call on its ledger left: nobody else changes the bytes, and no older copy is
-//! put back. An older copy is fit too, so no refusal tells; but a packet that was delivered or finished since would be
-//! delivered or finished again. The proof is about lists of calls in which this holds. So a host saves
-//! [`Store::as_bytes`] before it hands on the emitted record.
+//! A receive, an acknowledge and a time-out carry a [`Verdict`], all steps of opening but the first and a close confirm
+//! an [`EndVerdict`], and a time-out on close one of each: what the host's light client found about the other ledger.
+//! That verdicts are true is the host's part. So is it that each call gets the store that the last accepted call on its
+//! ledger left: nobody else changes the bytes, and no older copy is put back. An older copy is fit too, so no refusal
+//! tells; but a packet that was delivered or finished since would be delivered or finished again. The proof is about
+//! lists of calls in which this holds. So a host saves [`Store::as_bytes`] before it hands on the emitted record.
 //!
 //! `examples/two_ledgers.rs` has two ledgers in one program.
 

@@ -25,7 +25,7 @@ pub enum Refusal {
     GoesBack = 4,
     /// The channel is not in the store.
     NoChannel = 5,
-    /// The channel is not open: not yet, or not any more. A time-out does not ask for it.
+    /// The channel is not open: not yet, or not any more. Neither time-out asks for it.
     NotOpen = 6,
     /// The caller's port does not own the channel.
     NotOwner = 7,
@@ -41,9 +41,9 @@ pub enum Refusal {
     TimeoutNotPassed = 12,
     /// There is no commitment with this sequence, timeouts and digest.
     NoCommitment = 13,
-    /// The verdict is about something else.
+    /// The verdict is not the one needed; or, at a time-out on close, the two verdicts are of different blocks.
     OtherVerdict = 14,
-    /// It is another packet's turn on this ordered channel; or, at a time-out, the packet was received.
+    /// It is another packet's turn on this ordered channel; or, at either time-out, the packet was received.
     OutOfOrder = 15,
     /// The receipt, or the acknowledgement, is already there.
     AlreadyThere = 16,
@@ -65,7 +65,7 @@ pub enum Refusal {
     ChannelTwice = 24,
     /// All channel records are in use, or all channel numbers are given out. Nothing frees one.
     NoFreeChannel = 25,
-    /// The end is not in the state before this step of opening a channel.
+    /// The end is not in the state before this step of opening or closing a channel.
     WrongState = 26,
     /// The version has more than 24 bytes or a zero byte, or it is not the one of the other end.
     WrongVersion = 27,
@@ -123,7 +123,7 @@ impl Refusal {
             Refusal::TimeoutPassed => "timeout passed",
             Refusal::TimeoutNotPassed => "timeout not passed",
             Refusal::NoCommitment => "no such commitment",
-            Refusal::OtherVerdict => "verdict is about something else",
+            Refusal::OtherVerdict => "verdict is not the one needed",
             Refusal::OutOfOrder => "out of order",
             Refusal::AlreadyThere => "already there",
             Refusal::NotReceived => "packet not received",

@@ -121,7 +121,7 @@ impl Store {
     }
 
     /// Answers a datagram and carries it out: a [`Datagram`](crate::Datagram), or any bytes. Gives what is emitted; an
-    /// open acknowledge and an open confirm emit nothing.
+    /// open acknowledge, an open confirm and both closes emit nothing.
     ///
     /// # Errors
     ///

@@ -73,12 +73,12 @@ impl Verdict {
         Verdict { claim, digest: acknowledgement, ..Verdict::of_receiver(packet, block) }
     }
 
-    /// The receiver has no receipt: what a time-out on an unordered channel needs.
+    /// The receiver has no receipt: what either time-out on an unordered channel needs.
     pub fn receipt_absent(packet: &Packet, block: Block) -> Verdict {
         Verdict::of_receiver(packet, block)
     }
 
-    /// The receiver's next receive is this: what a time-out on an ordered channel needs, with a number that is not
+    /// The receiver's next receive is this: what either time-out on an ordered channel needs, with a number that is not
     /// above the packet's sequence.
     pub fn next_receive(packet: &Packet, next: u64, block: Block) -> Verdict {
         Verdict { claim: Claim::NextReceive, sequence: next, ..Verdict::of_receiver(packet, block) }
@@ -110,7 +110,7 @@ impl Verdict {
 }
 
 /// What the light client found of a channel end, at a block of the other ledger to which no more calls are added. The
-/// later three steps of opening a channel need one.
+/// later three steps of opening a channel need one, and so do a close confirm and a time-out on close.
 ///
 /// [`Store::shows`](crate::Store::shows) tells whether it is so of a store that is at hand.
 #[derive(Clone, Copy, Debug, PartialEq, Eq, Hash)]

@@ -13,7 +13,7 @@ pub enum State {
     TryOpen,
     /// It takes packets.
     Open,
-    /// It takes time-outs only. A packet was timed out on it while it was ordered, and nothing opens it again.
+    /// It takes time-outs only. A close closed it, or a time-out on an ordered channel, and nothing opens it again.
     Closed,
 }
 

@@ -6,7 +6,6 @@ use common::*;
 use route::*;
 
 const NORTH: Context = CONTEXT;
-const SOUTH: Context = Context { port: 6, ..CONTEXT };
 
 fn empty() -> Store {
     Store::make(2, &[]).expect("a good list")
@@ -36,10 +35,6 @@ fn made(state: State, own: End, counterparty: End) -> Channel {
 
 fn init() -> Datagram {
     Datagram::open_init(&NORTH, 6, Order::Ordered, "v1")
-}
-
-fn shown(end: Channel) -> EndVerdict {
-    EndVerdict::of(&end, block(50))
 }
 
 /// The step that answers an end of the other ledger, with the verdict that shows it.
@@ -109,34 +104,6 @@ fn a_step_that_emits_nothing_leaves_the_output() {
     assert_eq!(output, [0xaa; 106]);
 }
 
-/// An end that differs in one field, other than its version.
-fn others(end: Channel) -> Vec<Channel> {
-    let state = if end.state == State::Closed { State::Open } else { State::Closed };
-    let own = |port, channel| Channel { own: End { port, channel }, ..end };
-    let counterparty = |port, channel| Channel { counterparty: End { port, channel }, ..end };
-    vec![
-        Channel { state, ..end },
-        Channel { order: Order::Unordered, ..end },
-        own(end.own.port + 1, end.own.channel),
-        own(end.own.port, end.own.channel + 1),
-        counterparty(end.counterparty.port + 1, end.counterparty.channel),
-        counterparty(end.counterparty.port, end.counterparty.channel + 1),
-        Channel { next_send: 1, ..end },
-        Channel { next_receive: 1, ..end },
-        Channel { next_acknowledge: 1, ..end },
-    ]
-}
-
-/// The verdicts that differ from one that is needed, each with its refusal.
-fn wrong_verdicts(needed: EndVerdict) -> Vec<(EndVerdict, Refusal)> {
-    let other = |verdict| (verdict, Refusal::OtherVerdict);
-    let mut wrong: Vec<_> = others(needed.end).iter().map(|end| other(EndVerdict { end: *end, ..needed })).collect();
-    wrong.push(other(EndVerdict { claim: Claim::NextReceive, ..needed }));
-    let version = Version::new("v2").unwrap();
-    wrong.push((EndVerdict { end: Channel { version, ..needed.end }, ..needed }, Refusal::WrongVersion));
-    wrong
-}
-
 #[test]
 fn open_init_refused() {
     let version = |bytes: &[u8]| Datagram::open_init(&NORTH, 6, Order::Ordered, bytes);
@@ -173,25 +140,6 @@ fn open_try_refused() {
     for version in [b"v2".as_slice(), b"v1\0", b"", &[b'v'; 25]] {
         assert_eq!(call(&SOUTH, &needed, version), Err(Refusal::WrongVersion), "{version:?}");
     }
-}
-
-/// What refuses a step that opens an end; then it is accepted, once.
-fn step_refused(
-    store: &mut Store,
-    context: Context,
-    needed: EndVerdict,
-    step: fn(&Context, u32, &EndVerdict) -> Datagram,
-) {
-    let mut call = |context: &Context, channel, verdict: &EndVerdict| store.handle(step(context, channel, verdict));
-    let own = needed.end.counterparty.channel;
-    assert_eq!(call(&context, 9, &needed), Err(Refusal::NoChannel));
-    assert_eq!(call(&Context { port: 9, ..context }, own, &needed), Err(Refusal::NotOwner));
-    assert_eq!(call(&Context { connected: false, ..context }, own, &needed), Err(Refusal::NoConnection));
-    for (verdict, refusal) in wrong_verdicts(needed) {
-        assert_eq!(call(&context, own, &verdict), Err(refusal), "{verdict:?}");
-    }
-    assert_eq!(call(&context, own, &needed), Ok(None));
-    assert_eq!(call(&context, own, &needed), Err(Refusal::WrongState));
 }
 
 #[test]

@@ -2,6 +2,8 @@
 
 #![allow(dead_code)]
 
+pub mod ledgers;
+
 use route::*;
 
 pub const ORDERED: Opening =
@@ -12,6 +14,8 @@ pub const UNORDERED: Opening =
 pub const CONTEXT: Context =
     Context { height: OwnHeight(100), time: 1000, client: OtherHeight(50), port: 5, connected: true };
 pub const DIGEST: Digest = [1; 32];
+/// The same moment at the other end.
+pub const SOUTH: Context = Context { port: 6, ..CONTEXT };
 
 /// Two packet records; port 5 owns channel 7, ordered, and 8, unordered.
 pub fn fresh() -> Store {
@@ -49,4 +53,56 @@ pub fn sent() -> Packet {
 
 pub fn time_out(packet: &Packet, proof_height: u64, claimed: u64) -> Datagram {
     Datagram::time_out(&CONTEXT, packet, &Verdict::next_receive(packet, claimed, block(proof_height)))
+}
+
+pub fn shown(end: Channel) -> EndVerdict {
+    EndVerdict::of(&end, block(50))
+}
+
+/// An end that differs in one field, other than its version.
+pub fn others(end: Channel) -> Vec<Channel> {
+    let state = if end.state == State::Closed { State::Open } else { State::Closed };
+    let order = if end.order == Order::Ordered { Order::Unordered } else { Order::Ordered };
+    let own = |port, channel| Channel { own: End { port, channel }, ..end };
+    let counterparty = |port, channel| Channel { counterparty: End { port, channel }, ..end };
+    vec![
+        Channel { state, ..end },
+        Channel { order, ..end },
+        own(end.own.port + 1, end.own.channel),
+        own(end.own.port, end.own.channel + 1),
+        counterparty(end.counterparty.port + 1, end.counterparty.channel),
+        counterparty(end.counterparty.port, end.counterparty.channel + 1),
+        Channel { next_send: 1, ..end },
+        Channel { next_receive: 1, ..end },
+        Channel { next_acknowledge: 1, ..end },
+    ]
+}
+
+/// The verdicts that differ from one that is needed, each with its refusal.
+pub fn wrong_verdicts(needed: EndVerdict) -> Vec<(EndVerdict, Refusal)> {
+    let other = |verdict| (verdict, Refusal::OtherVerdict);
+    let mut wrong: Vec<_> = others(needed.end).iter().map(|end| other(EndVerdict { end: *end, ..needed })).collect();
+    wrong.push(other(EndVerdict { claim: Claim::NextReceive, ..needed }));
+    let version = Version::new("v2").unwrap();
+    wrong.push((EndVerdict { end: Channel { version, ..needed.end }, ..needed }, Refusal::WrongVersion));
+    wrong
+}
+
+/// What refuses a step that carries an end verdict and emits nothing; then it is accepted, once.
+pub fn step_refused(
+    store: &mut Store,
+    context: Context,
+    needed: EndVerdict,
+    step: fn(&Context, u32, &EndVerdict) -> Datagram,
+) {
+    let mut call = |context: &Context, channel, verdict: &EndVerdict| store.handle(step(context, channel, verdict));
+    let own = needed.end.counterparty.channel;
+    assert_eq!(call(&context, 9, &needed), Err(Refusal::NoChannel));
+    assert_eq!(call(&Context { port: 9, ..context }, own, &needed), Err(Refusal::NotOwner));
+    assert_eq!(call(&Context { connected: false, ..context }, own, &needed), Err(Refusal::NoConnection));
+    for (verdict, refusal) in wrong_verdicts(needed) {
+        assert_eq!(call(&context, own, &verdict), Err(refusal), "{verdict:?}");
+    }
+    assert_eq!(call(&context, own, &needed), Ok(None));
+    assert_eq!(call(&context, own, &needed), Err(Refusal::WrongState));
 }
