@@ -14,12 +14,14 @@ OPENING = "14000000 1000 0500 07000000 0600 09000000 01 00"
 CONTEXT = "6400000000000000 e803000000000000 3200000000000000 0500 01 0000000000"
 SEND = "5a000000 0100" + CONTEXT + "07000000 3c00000000000000 0000000000000000 01" + "00" * 31
 
-# The steps that open a channel, byte for byte, each with the lines that write it.
+# The steps that open and close a channel, byte for byte, each with the lines that write it.
 STEPS = """at height 100 time 1000 client 50
 init 1 port 5 ordered to 6 version v1
 try 2 port 5 unordered to 6/4 version v1
 open-acknowledge 1 to 9
 open-confirm 2
+close-init 1
+close-confirm 2
 """
 PROOF = "0500 3200000000000000 e803000000000000"
 BEHIND = "00" * 24 + "7631" + "00" * 22  # counters, which are zero, and version
@@ -28,6 +30,8 @@ STEP_BYTES = [
     "81000000 0700" + CONTEXT + "0600 04000000 02" + PROOF + "0100 01 02 04000000 0600 0500 00000000" + BEHIND + "7631",
     "80000000 0800" + CONTEXT + "01000000 09000000" + PROOF + "0100 02 01 09000000 0600 0500 01000000" + BEHIND,
     "7c000000 0900" + CONTEXT + "02000000" + PROOF + "0100 03 02 04000000 0600 0500 02000000" + BEHIND,
+    "2a000000 0a00" + CONTEXT + "01000000",
+    "7c000000 0b00" + CONTEXT + "02000000" + PROOF + "0100 04 02 04000000 0600 0500 02000000" + BEHIND,
 ]
 
 
@@ -55,9 +59,10 @@ class Bytes(unittest.TestCase):
         self.assertEqual(run(text).stdout, expected)
 
     def test_lengths(self):
-        made = records(OPEN + "send 7\nreceive 7\nwrite 7\nacknowledge 7\ntimeout 7\nraw 0600 0000 0900\n")
-        self.assertEqual([len(record) for record in made], [90, 186, 82, 218, 186, 6])
-        self.assertEqual([record[4] for record in made], [1, 2, 3, 4, 5, 9])
+        lines = "send 7\nreceive 7\nwrite 7\nacknowledge 7\ntimeout 7\ntimeout-on-close 7\nraw 0600 0000 0900\n"
+        made = records(OPEN + lines)
+        self.assertEqual([len(record) for record in made], [90, 186, 82, 218, 186, 268, 6])
+        self.assertEqual([record[4] for record in made], [1, 2, 3, 4, 5, 12, 9])
 
     def test_needed_verdicts(self):
         lines = "receive 7 height 60\nacknowledge 7 height 60\ntimeout 7 sequence 4 height 60\ntimeout 8 height 60\n"
@@ -72,6 +77,22 @@ class Bytes(unittest.TestCase):
         self.assertEqual((ordered[106], unordered[106]), (4, 3))
         self.assertEqual(ordered[124:186], ordered[68:74] + ordered[38:46] + bytes(48))
 
+    def test_verdicts_of_a_timeout_on_close(self):
+        """The packet and its verdict are those of a time-out, with the end verdict of a close-confirm between them."""
+        for own in (7, 8):
+            packet = f"{own} sequence 4 height 60 digest 05"
+            lines = f"at client 50 time 9\ntimeout {packet}\nclose-confirm {own}\ntimeout-on-close {packet}\n"
+            timeout, confirm, on_close = records(OPEN + lines)
+            self.assertEqual(on_close[38:], timeout[38:106] + confirm[42:] + timeout[106:])
+            self.assertEqual((on_close[108:124], confirm[62]), (on_close[190:206], 4))
+            told = " end-verdict claim 4 at 51 state open verdict claim 2 at 52/8 sequence 3"
+            (other,) = records(OPEN + f"at client 50 time 9\ntimeout-on-close {packet}{told}\n")
+            expected = bytes.fromhex("0400 3300000000000000 0900000000000000 0100 03")
+            self.assertEqual(other[106:127], expected)
+            self.assertEqual(other[127:188], on_close[127:188])
+            expected = bytes.fromhex("0200 3400000000000000 0800000000000000")
+            self.assertEqual(other[188:220], expected + on_close[206:212] + bytes([3] + [0] * 7))
+
     def test_every_part_can_be_told(self):
         line = "receive 7 sequence 2 height 3 time 4 from 5/6 to 7/8 digest 09"
         told = " verdict claim 2 at 10/11 on 12/13 sequence 14 height 15 time 16 digest 11"
@@ -82,7 +103,7 @@ class Bytes(unittest.TestCase):
         for at, width, value in numbers:
             self.assertEqual(int.from_bytes(record[at : at + width], "little"), value, at)
 
-    def test_steps_that_open_a_channel(self):
+    def test_steps(self):
         self.assertEqual([record.hex() for record in records("open 2\n" + STEPS)], [
             bytes.fromhex(step).hex() for step in STEP_BYTES
         ])
@@ -90,8 +111,9 @@ class Bytes(unittest.TestCase):
     def test_every_part_of_an_end_verdict_can_be_told(self):
         told = " verdict claim 1 at 10/11 on 12/13 to 14/15 state closed order ordered version 0x6100"
         steps = [("try 1 port 5 unordered to 6/9", 45), ("open-acknowledge 8 to 9", 46), ("open-confirm 8", 42)]
+        steps += [("close-confirm 8", 42), ("timeout-on-close 8", 106)]
         for line, at in steps:
-            (record,) = records(OPEN + line + told)
+            (record,) = records(OPEN + line + (told if at != 106 else told.replace("verdict", "end-verdict")))
             expected = "0100 0a00000000000000 0b00000000000000 0100 04 01 0d000000 0c00 0e00 0f000000"
             self.assertEqual(record[at : at + 82].hex(), bytes.fromhex(expected + "00" * 24 + "61" + "00" * 23).hex())
 
@@ -158,6 +180,12 @@ class BadLines(unittest.TestCase):
             ("open-confirm 7 verdict state ajar", "is not one of: init, tryopen, open, closed"),
             ("open-confirm 7 verdict sequence 1", "is no part of an end verdict"),
             ("channel 9 port 5 ordered unordered to 6/9", "a channel needs"),
+            ("close-init 7 verdict state closed", "'close-init' carries no verdict"),
+            ("close-confirm 7 sequence 1", "'sequence' is no part of close-confirm, which has none"),
+            ("timeout 7 end-verdict state closed", "'timeout' carries no end-verdict"),
+            ("timeout-on-close 7 end-verdict sequence 1", "'sequence' is no part of an end verdict"),
+            ("timeout-on-close 7 verdict state closed", "'state' is no part of a verdict"),
+            ("timeout-on-close 7 verdict claim 3 end-verdict claim 5", "'end-verdict' is no part of a verdict"),
         ]:
             with self.subTest(line):
                 self.refused(OPEN + "# a comment\n\n" + line + "\nsend 7\n", 6, words)

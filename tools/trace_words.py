@@ -1,14 +1,17 @@
 """The words of a trace's text: numbers, digests, ends, versions, and the parts that each line has."""
 
 ORDERS = {"ordered": 1, "unordered": 2}
-KINDS = {"send": 1, "receive": 2, "write": 3, "acknowledge": 4, "timeout": 5}
-KINDS |= {"init": 6, "try": 7, "open-acknowledge": 8, "open-confirm": 9}
-UNPROVED = ("send", "write", "init")  # these carry no verdict
-STATES_SHOWN = {"init": 0, "try": 1, "open-acknowledge": 2, "open-confirm": 3}  # of the other end, in an end verdict
+# Those that open and close a channel; the others are about packets.
+STEPS = {"init": 6, "try": 7, "open-acknowledge": 8, "open-confirm": 9, "close-init": 10, "close-confirm": 11}
+KINDS = {"send": 1, "receive": 2, "write": 3, "acknowledge": 4, "timeout": 5, **STEPS, "timeout-on-close": 12}
+STATES = {"init": 1, "tryopen": 2, "open": 3, "closed": 4}
+# The state of the other end that an end verdict has to show.
+STATES_SHOWN = {"try": "init", "open-acknowledge": "tryopen", "open-confirm": "open"}
+STATES_SHOWN |= {"close-confirm": "closed", "timeout-on-close": "closed"}
 MEANINGS = (
     "accepted|store not fit|output short|malformed|height or time goes back|channel not in the store|channel not open|"
     "not the channel's port|connection not open|packet does not fit this end|both timeouts zero|timeout passed|"
-    "timeout not passed|no such commitment|verdict is about something else|out of order|already there|"
+    "timeout not passed|no such commitment|verdict is not the one needed|out of order|already there|"
     "packet not received|acknowledgement empty|counter at its end|no free record|length unfit|openings malformed|"
     "more than 16 openings|a channel twice|no free channel record or number|end not in the state before|"
     "version unfit, or another one"
@@ -90,11 +93,17 @@ PARTS = {
     "try": {**CHANNEL, "version": version},
     "open-acknowledge": {"to": wide(32)},
     "open-confirm": {},
+    "close-init": {},
+    "close-confirm": {},
+    "timeout-on-close": PACKET,
 }
 PROOF = {"claim": wide(16), "at": block, "on": end}
 VERDICT = {**PROOF, "sequence": wide(64), **TIMEOUTS, "digest": digest}
-STATE = choice(init=1, tryopen=2, open=3, closed=4)
-END_VERDICT = {**PROOF, "to": end, "state": STATE, "order": choice(**ORDERS), "version": version}
+END_VERDICT = {**PROOF, "to": end, "state": choice(**STATES), "order": choice(**ORDERS), "version": version}
+# The verdicts that a line can carry, in the order of the datagram: the word before each, and its parts.
+VERDICTS = {name: {"verdict": VERDICT} for name in ("receive", "acknowledge", "timeout")}
+VERDICTS |= {name: {"verdict": END_VERDICT} for name in ("try", "open-acknowledge", "open-confirm", "close-confirm")}
+VERDICTS |= {"timeout-on-close": {"end-verdict": END_VERDICT, "verdict": VERDICT}}
 
 
 def take(words, what):
@@ -115,6 +124,21 @@ def take_parts(words, table, of):
             raise BadLine(f"'{name}' stands twice")
         parts[name] = table[name](take(words, f"the value of {name}"))
     return parts
+
+
+def take_verdicts(words, name):
+    """Cuts the verdicts off the words of a line. Their parts, for each verdict in the order of the datagram."""
+    verdicts = VERDICTS.get(name, {})
+    for word in ("end-verdict", "verdict"):
+        if word in words and word not in verdicts:
+            raise BadLine(f"'{name}' carries no {word}")
+    told = []
+    for word in reversed(verdicts):
+        at = words.index(word) if word in words else len(words)
+        of = "a verdict" if verdicts[word] is VERDICT else "an end verdict"
+        told.insert(0, take_parts(words[at + 1 :], verdicts[word], of))
+        del words[at:]
+    return told
 
 
 def take_end(words, table, of):
