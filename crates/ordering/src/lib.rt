@@ -41,7 +41,7 @@ pub fn acknowledges_in_order(c: Channel, sequence: u64) -> bool
     if_ordered(c, sequence == c.next.acknowledge)
 }
 
-// 15, for 5 and 12: the next receive that the verdict claims is not above the sequence, so that the packet was not taken.
+// 15, for 5 and 12: the next receive that the verdict claims is not above the sequence: the packet was not taken.
 pub fn times_out_in_order(c: Channel, sequence: u64, claimed: u64) -> bool
     ensures { λ r. ⌜ r ≡ timesOutInOrder c sequence claimed ⌝ }
 {
