@@ -224,7 +224,9 @@ fn counter_at_end(draft: &mut Draft) {
     draft.set_end(end);
 }
 
+/// Commitments that are put in raise next send, but not to its end, where 19 would apply too.
 fn no_free_record(rng: &mut Rng, draft: &mut Draft) -> bool {
-    let kept = (draft.end().channel, draft.packet.sequence);
-    fill(rng, &mut draft.store, 0, Some(kept))
+    let end = draft.end();
+    let filled = fill(rng, &mut draft.store, 0, Some((end.channel, draft.packet.sequence)));
+    filled && (end.next_sequence_send == u64::MAX || draft.end().next_sequence_send < u64::MAX)
 }
