@@ -1,16 +1,16 @@
 -- Laws of the table of channel ends. Assumes nothing.
-use Rattle.wire.proofs.Prelude.{_≡_, refl, sym, ap, _∙_, true, List, [], _∷_, _++_, Option, none, some, ℕ, zero, suc}
-use Rattle.wire.proofs.Prelude.{_+_, _-_, _≤_, _<_, arith, eqb, length, replicate, length-append, length-replicate}
+use Rattle.wire.proofs.Prelude.{_≡_, refl, sym, ap, _∙_, true, false, List, [], _∷_, _++_, Option, none, some, ℕ, zero}
+use Rattle.wire.proofs.Prelude.{suc, _+_, _-_, _≤_, _<_, arith, eqb, length, replicate, length-append, length-replicate}
 use Rattle.wire.proofs.Prelude.{not-true, eqb-true, eq-eqb, ne-eqb, ltb-true, leb-true, le-leb, lt-ltb}
 use Rattle.wire.specs.Names.{isSome, Bytes, areZero}
 use Rattle.wire.proofs.Laws.{and-both, both-and, none-if, some-if, every-append, Byte, bytes-zeros}
 use Rattle.slots.specs.declared.Channel.{Channel}
-use Rattle.slots.specs.Names.{find, insert, hasFree, isNumbered, sameNumber, channelAt, withChannel, distinct}
-use Rattle.slots.specs.Names.{Store, isBelow, numbersFit, storeFits, versionSize, noneZero, versionFits, padded}
-use Rattle.slots.specs.Names.{isPadded}
-use Rattle.slots.proofs.TableLaws.{Each, all-each, each-all, each-map, each-replace, each-insert, each-find}
-use Rattle.slots.proofs.TableLaws.{find-passes, find-replace, find-replace-other}
-use Rattle.slots.proofs.TableLaws.{find-insert, find-insert-other, distinct-insert, distinct-replace}
+use Rattle.slots.specs.Names.{find, hasFree, isNumbered, sameNumber, channelAt, withChannel}
+use Rattle.slots.specs.Names.{insertChannel, distinct, Store, isBelow, numbersFit, entriesFit, storeFits}
+use Rattle.slots.specs.Names.{versionSize, noneZero, versionFits, padded, isPadded}
+use Rattle.slots.proofs.TableLaws.{Each, all-each, each-all, each-map, each-replace, each-find}
+use Rattle.slots.proofs.TableLaws.{find-passes, find-replace, find-replace-other, distinct-replace}
+use Rattle.slots.proofs.PlaceLaws.{find-place, find-place-other, each-place, distinct-place}
 
 pub channel-number : (n : ℕ) (cs : List (Option Channel)) (c : Channel) → channelAt n cs ≡ some c → c .own .channel ≡ n
 unfolding isNumbered
@@ -38,15 +38,15 @@ channel-with-other n c cs h =
 -- a new end
 pub channel-insert : (c : Channel) (cs : List (Option Channel)) → hasFree cs ≡ true →
     channelAt (c .own .channel) cs ≡ none →
-    channelAt (c .own .channel) (insert c cs) ≡ some c
+    channelAt (c .own .channel) (insertChannel c cs) ≡ some c
 unfolding isNumbered
-channel-insert c cs f h = find-insert (isNumbered (c .own .channel)) c cs f
+channel-insert c cs f h = find-place (λ x. false) (isNumbered (c .own .channel)) c cs f
     (eq-eqb (c .own .channel) (c .own .channel) refl) h
 
-pub channel-insert-other : (n : ℕ) (c : Channel) (cs : List (Option Channel)) → (c .own .channel ≡ n → ⊥) →
-    channelAt n (insert c cs) ≡ channelAt n cs
+pub channel-insert-other : (n : ℕ) (c : Channel) (cs : List (Option Channel)) → hasFree cs ≡ true →
+    (c .own .channel ≡ n → ⊥) → channelAt n (insertChannel c cs) ≡ channelAt n cs
 unfolding isNumbered
-channel-insert-other n c cs h = find-insert-other (isNumbered n) c cs (ne-eqb (c .own .channel) n h)
+channel-insert-other n c cs f h = find-place-other (λ x. false) (isNumbered n) c cs f (ne-eqb (c .own .channel) n h)
 
 -- NUMBERS differ, and are below the next one
 pub numbers-with : (c : Channel) (cs : List (Option Channel)) → distinct sameNumber cs ≡ true →
@@ -58,10 +58,10 @@ numbers-with c cs h =
 
 pub numbers-insert : (c : Channel) (cs : List (Option Channel)) → channelAt (c .own .channel) cs ≡ none →
     distinct sameNumber cs ≡ true →
-    distinct sameNumber (insert c cs) ≡ true
+    distinct sameNumber (insertChannel c cs) ≡ true
 unfolding isNumbered
 numbers-insert c cs n h =
-    distinct-insert sameNumber c cs (λ a b e. eq-eqb (a .own .channel) (b .own .channel)
+    distinct-place (λ x. false) sameNumber c cs (λ a b e. eq-eqb (a .own .channel) (b .own .channel)
     (sym (eqb-true (b .own .channel) (a .own .channel) e))) n h
 
 below-fits : (next : ℕ) (cs : List (Option Channel)) → 1 ≤ next → Each (λ c. c .own .channel < next) cs →
@@ -94,15 +94,16 @@ module _ (next : ℕ) (cs : List (Option Channel)) (f : numbersFit next cs ≡ t
       below-fits next (withChannel c cs) next-low (each-replace (λ c. c .own .channel < next) _ (some c) cs
       (number-below (c .own .channel) (x .0) (x .1), tt) all-below)
 
-  pub fits-insert : (c : Channel) → c .own .channel ≡ next → numbersFit (next + 1) (insert c cs) ≡ true
+  pub fits-insert : (c : Channel) → c .own .channel ≡ next → numbersFit (next + 1) (insertChannel c cs) ≡ true
   fits-insert c e =
-      below-fits (next + 1) (insert c cs) (omega (arith, next-low)) (each-insert (λ c. c .own .channel < next + 1) c cs
-      (omega arith) (each-map (λ c h. let k : c .own .channel < next = h in omega arith) cs all-below))
+      below-fits (next + 1) (insertChannel c cs) (omega (arith, next-low))
+      (each-place (λ x. false) (λ c. c .own .channel < next + 1) c cs (omega arith)
+      (each-map (λ c h. let k : c .own .channel < next = h in omega arith) cs all-below))
 
 -- in a fit store
 pub fit-numbers : (s : Store) → storeFits s ≡ true → numbersFit (s .next) (s .channels) ≡ true
-unfolding storeFits
-fit-numbers s f = and-both (and-both f .0) .1
+unfolding storeFits entriesFit
+fit-numbers s f = and-both (and-both (and-both f .0) .0) .1
 
 -- A VERSION that fits, padded: zeros stand behind it, and it has its size
 zeros : (n : ℕ) → areZero (replicate n 0) ≡ true

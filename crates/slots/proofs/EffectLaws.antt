@@ -1,16 +1,16 @@
--- Bytes stored over one slot, the times or the next channel number of a store's bytes are the bytes of the store with
--- that part replaced. Assumes nothing.
-use mathlib.Core.Path.{_≡_, refl, sym, ap, _∙_}
+-- Bytes stored over slots, the times or the next channel number of a store's bytes are the bytes of the store with that
+-- part replaced, and slots of packet records are read as their bytes. Assumes nothing.
+use mathlib.Core.Path.{_≡_, sym, ap, _∙_}
 use mathlib.Core.Bool.{true}
 use mathlib.Core.List.{List, [], _∷_, _++_, append-assoc, append-nil}
-use mathlib.Core.Option.{Option, none, some}
-use Prim.Native.Nat.{ℕ, zero, suc, _+_, _*_, _<_}
-use native.Mathlib.Nat.{le-of-suc-le-suc, not-suc-le-zero}
+use mathlib.Core.Option.{Option}
+use Prim.Native.Nat.{ℕ, _+_, _*_, _≤_, _<_}
 use native.Mathlib.Omega.{arith}
-use lib.ListN.{length, set, drop, replicate, length-append, length-set}
-use Rattle.wire.specs.Bytes.{Bytes, little, patch, digestSize}
+use lib.ListN.{length, take, drop, replicate, length-append}
+use lib.Seq.{sets, length-sets, drop-append-add}
+use Rattle.wire.specs.Bytes.{Bytes, little, part, patch, digestSize}
 use Rattle.wire.proofs.BytesLaws.{length-little, length-part}
-use Rattle.wire.proofs.PatchLaws.{patch-behind, patch-front, patch-middle}
+use Rattle.wire.proofs.PatchLaws.{patch-behind, patch-middle}
 use Rattle.slots.specs.declared.OwnHeight.{OwnHeight}
 use Rattle.slots.specs.declared.Channel.{Channel}
 use Rattle.slots.specs.declared.Record.{Record}
@@ -20,48 +20,10 @@ use Rattle.slots.specs.Layout.{Store, headerSize, slotSize, recordsFrom,
 use Rattle.slots.specs.Layout.{channelBytes, recordBytes, slotBytes, tableBytes, headerBytes, bytesOf}
 use Rattle.slots.specs.Layout.{channelIn, recordIn, storeIn}
 use Rattle.slots.specs.Fit.{sizeFits}
-use Rattle.slots.specs.Effect.{Exact, withTimes, withNext, withChannelSlot, withRecordSlot}
-use Rattle.slots.proofs.TableLaws.{Each}
+use Rattle.slots.specs.Effect.{Exact, withTimes, withNext, withChannelSlot, withRecords}
 use Rattle.slots.proofs.LayoutLaws.{length-header, length-channel, length-record, length-table}
 use Rattle.slots.proofs.FitLaws.{fits-size, length-read, each-read}
-
--- A SLOT OF A TABLE, whatever the entries are, with any bytes behind the table
-module _ {A : Type 0} (f : A → List ℕ) where
-  abbrev pub SlotsSized : List (Option A) → Type 0
-  SlotsSized xs = Each (λ x. length (f x) ≡ slotSize) xs
-
-  length-slot : (x : Option A) (xs : List (Option A)) → SlotsSized (x ∷ xs) → length (slotBytes f x) ≡ slotSize
-  unfolding slotBytes
-  length-slot none xs h = refl
-  length-slot (some x) xs h = h .0
-
-  sized-rest : (x : Option A) (xs : List (Option A)) → SlotsSized (x ∷ xs) → SlotsSized xs
-  sized-rest none xs h = h
-  sized-rest (some x) xs h = h .1
-
-  pub patch-slot : (y : Option A) (i : ℕ) (xs : List (Option A)) (rest : List ℕ) → SlotsSized (y ∷ []) →
-      SlotsSized xs → i < length xs →
-      patch (slotSize * i) (slotBytes f y) (tableBytes f xs ++ rest) ≡ tableBytes f (set xs i y) ++ rest
-  unfolding tableBytes
-  patch-slot y i [] rest l h b = absurd (not-suc-le-zero b)
-  patch-slot y zero (x ∷ xs) rest l h b =
-      let k = length-slot y [] l ∙ sym (length-slot x xs h) in
-      rw (
-        append-assoc (slotBytes f x) (tableBytes f xs) rest,
-        patch-front (slotBytes f y) (slotBytes f x) (tableBytes f xs ++ rest) k,
-      )
-      (sym (append-assoc (slotBytes f y) (tableBytes f xs) rest))
-  patch-slot y (suc i) (x ∷ xs) rest l h b =
-      let k = length-slot x xs h in
-      let z : slotSize * suc i ≡ length (slotBytes f x) + slotSize * i = omega arith in
-      let ih = patch-slot y i xs rest l (sized-rest x xs h) (le-of-suc-le-suc b) in
-      rw (
-        append-assoc (slotBytes f x) (tableBytes f xs) rest,
-        z,
-        patch-behind (slotBytes f x) (slotSize * i) (slotBytes f y) (tableBytes f xs ++ rest),
-        ih,
-      )
-      (sym (append-assoc (slotBytes f x) (tableBytes f (set xs i y)) rest))
+use Rattle.slots.proofs.TableBytesLaws.{each-drop, SlotsSized, patch-slot, patch-slots, drop-slots, take-slots}
 
 -- THE WHOLE
 abbrev headerOf : Store → List ℕ
@@ -91,24 +53,45 @@ module _ (s : Store) (sizes : Sizes s) where
         patch-slot channelBytes x j (s .channels) rs l (sizes .channels) b,
       )
 
-  pub patch-record : (i : ℕ) (x : Option Record) → SlotsSized recordBytes (x ∷ []) →
-      i < length (s .records) →
-      patch (recordsFrom + slotSize * i) (slotBytes recordBytes x) (bytesOf s) ≡ bytesOf (withRecordSlot s i x)
+  abbrev channels : List ℕ
+  channels = tableBytes channelBytes (s .channels)
+
+  records-place : (i : ℕ) → recordsFrom + slotSize * i ≡ length (headerOf s) + (length channels + slotSize * i)
+  records-place i =
+      omega (arith, header-size s, sizes .slots, length-table channelBytes (s .channels) (sizes .channels))
+
+  patch-records : (i : ℕ) (rs : List (Option Record)) → SlotsSized recordBytes rs →
+      i + length rs ≤ length (s .records) →
+      patch (recordsFrom + slotSize * i) (tableBytes recordBytes rs) (bytesOf s) ≡
+      bytesOf (withRecords s (sets (s .records) i rs))
   unfolding bytesOf
-  patch-record i x l h =
-      let cs : List ℕ = tableBytes channelBytes (s .channels) in
-      let rs : List ℕ = tableBytes recordBytes (s .records) in
-      let size = length-table channelBytes (s .channels) (sizes .channels) in
-      let place : recordsFrom + slotSize * i ≡ length (headerOf s) + (length cs + slotSize * i) =
-      omega (arith, header-size s, sizes .slots) in
-      let slot = patch-slot recordBytes x i (s .records) [] l (sizes .records) h in
+  patch-records i rs l h =
+      let new : List ℕ = tableBytes recordBytes rs in
+      let old : List ℕ = tableBytes recordBytes (s .records) in
+      let slots = patch-slots recordBytes rs i (s .records) [] l (sizes .records) h in
       rw (
-        place,
-        patch-behind (headerOf s) (length cs + slotSize * i) (slotBytes recordBytes x) (cs ++ rs),
-        patch-behind cs (slotSize * i) (slotBytes recordBytes x) rs,
-        length-set (s .records) i x,
+        records-place i,
+        patch-behind (headerOf s) (length channels + slotSize * i) new (channels ++ old),
+        patch-behind channels (slotSize * i) new old,
+        length-sets (s .records) i rs,
       )
-      (ap (λ (bs : List ℕ). headerOf s ++ (cs ++ bs)) (simp append-nil at slot))
+      (ap (λ (bs : List ℕ). headerOf s ++ (channels ++ bs)) (simp append-nil at slots))
+
+  part-records : (i n : ℕ) →
+      part (recordsFrom + slotSize * i) (slotSize * n) (bytesOf s) ≡
+      tableBytes recordBytes (take n (drop i (s .records)))
+  unfolding bytesOf part
+  part-records i n =
+      let all : List ℕ = tableBytes recordBytes (s .records) in
+      let behind = drop-slots recordBytes i (s .records) (sizes .records) in
+      let sized = each-drop (λ r. length (recordBytes r) ≡ slotSize) i (s .records) (sizes .records) in
+      rw (
+        records-place i,
+        drop-append-add (headerOf s) (channels ++ all) (length channels + slotSize * i),
+        drop-append-add channels all (slotSize * i),
+        behind,
+      )
+      (take-slots recordBytes n (drop i (s .records)) sized)
 
 -- over a part of the header, which has a part before it and the rest behind it
 patch-within : (i : ℕ) (new front old rest : List ℕ) (s t : Store) → length front ≡ i → length new ≡ length old →
@@ -180,11 +163,22 @@ module _ (bs : List ℕ) (exact : Exact bs) where
     exact-channel j x l h =
         exact-so _ _ _ (patch-channel (storeIn bs) (sizes-read bs bytes (exact .size)) j x l h)
 
-    pub exact-record : (i : ℕ) (x : Option Record) → SlotsSized recordBytes (x ∷ []) →
-        i < length (storeIn bs .records) →
-        patch (recordsFrom + slotSize * i) (slotBytes recordBytes x) bs ≡ bytesOf (withRecordSlot (storeIn bs) i x)
-    exact-record i x l h =
-        exact-so _ _ _ (patch-record (storeIn bs) (sizes-read bs bytes (exact .size)) i x l h)
+    pub exact-records : (i : ℕ) (rs : List (Option Record)) → SlotsSized recordBytes rs →
+        i + length rs ≤ length (storeIn bs .records) →
+        patch (recordsFrom + slotSize * i) (tableBytes recordBytes rs) bs ≡
+        bytesOf (withRecords (storeIn bs) (sets (storeIn bs .records) i rs))
+    exact-records i rs l h =
+        exact-so _ _ _ (patch-records (storeIn bs) (sizes-read bs bytes (exact .size)) i rs l h)
+
+    pub exact-part : (i n : ℕ) →
+        part (recordsFrom + slotSize * i) (slotSize * n) bs ≡
+        tableBytes recordBytes (take n (drop i (storeIn bs .records)))
+    exact-part i n =
+        ap (part (recordsFrom + slotSize * i) (slotSize * n)) (sym (exact .laid)) ∙
+        part-records (storeIn bs) (sizes-read bs bytes (exact .size)) i n
+
+    pub exact-sized : SlotsSized recordBytes (storeIn bs .records)
+    exact-sized = sizes-read bs bytes (exact .size) .records
 
 -- and have room for every slot of theirs
 pub exact-room : (bs : List ℕ) → Exact bs → length bs ≡ sizeFor (length (storeIn bs .records))

@@ -9,8 +9,8 @@ use Rattle.slots.specs.declared.Channel.{Channel}
 use Rattle.slots.specs.declared.Record.{Record}
 use Rattle.slots.specs.Names.{channelLimit, recordLimit, noTimeout, sameTimeout, channelAt, Store, headerSize}
 use Rattle.slots.specs.Names.{slotSize, recordsFrom, sizeFor, roomIn, bytesOf, channelIn, recordIn, slotIn}
-use Rattle.slots.specs.Names.{tableIn, storeIn, isReceived, fitsEnd, recordFits, recordsFit, storeFits, sizeFits}
-use Rattle.slots.specs.Names.{isFit, commitmentKind, receiptKind, acknowledgementKind}
+use Rattle.slots.specs.Names.{tableIn, storeIn, isReceived, fitsEnd, recordFits, entriesFit, storeFits, sizeFits}
+use Rattle.slots.specs.Names.{isLaidOut, isFit, commitmentKind, receiptKind, acknowledgementKind}
 use Rattle.slots.proofs.TableLaws.{Each, all-each}
 use Rattle.slots.proofs.LayoutLaws.{ChannelFields, RecordFields, StoreFields, read-back, size-of}
 
@@ -108,17 +108,13 @@ record-kind : (s : Store) (r : Record) → recordFits s r ≡ true → Known r
 unfolding recordFits
 record-kind s r h = end-kind s r (channelAt (r .channel) (s .channels)) (and-both h .1)
 
--- FIT
-pub fit-store : (bs : List ℕ) → isFit bs ≡ true → storeFits (storeIn bs) ≡ true
-unfolding isFit
-fit-store bs h = and-both h .1
-
-pub fit-fields : (bs : List ℕ) → Bytes bs → isFit bs ≡ true → StoreFields (storeIn bs)
-unfolding isFit storeFits recordsFit storeIn
-fit-fields bs b h =
-    let z = fits-size (length bs) (and-both (and-both h .0) .0) in
+-- FIT, the packet records in order or not
+pub laid-fields : (bs : List ℕ) → Bytes bs → isLaidOut bs ≡ true → entriesFit (storeIn bs) ≡ true →
+    StoreFields (storeIn bs)
+unfolding isLaidOut entriesFit storeIn
+laid-fields bs b h f =
+    let z = fits-size (length bs) (and-both h .0) in
     let n = length-read recordIn (roomIn (length bs)) (drop recordsFrom bs) in
-    let f = and-both (and-both (fit-store bs h) .1) .0 in
     record {
       height = field-below _ _ bs b;
       time = field-below _ _ bs b;
@@ -130,11 +126,23 @@ fit-fields bs b h =
       records =
           each-both (λ r k f. k (record-kind (storeIn bs) r f)) (storeIn bs .records)
           (each-read Kinded recordIn record-in recordsFrom (roomIn (length bs)) bs (omega arith) b)
-          (all-each (recordFits (storeIn bs)) (storeIn bs .records) f);
+          (all-each (recordFits (storeIn bs)) (storeIn bs .records) (and-both f .1));
     }
+
+pub fit-store : (bs : List ℕ) → isFit bs ≡ true → storeFits (storeIn bs) ≡ true
+unfolding isFit
+fit-store bs h = and-both h .1
+
+pub fit-fields : (bs : List ℕ) → Bytes bs → isFit bs ≡ true → StoreFields (storeIn bs)
+unfolding isFit storeFits
+fit-fields bs b h = laid-fields bs b (and-both h .0) (and-both (and-both h .1) .0)
+
+laid-of : (s : Store) → StoreFields s → isLaidOut (bytesOf s) ≡ true
+unfolding isLaidOut
+laid-of s ok =
+    let z = size-fits (length (s .records)) (ok .low) (ok .high) in
+    rw (read-back s ok, size-of s ok) (both-and z (eq-same (bytesOf s)))
 
 pub fit-of : (s : Store) → StoreFields s → storeFits s ≡ true → isFit (bytesOf s) ≡ true
 unfolding isFit
-fit-of s ok f =
-    let z = size-fits (length (s .records)) (ok .low) (ok .high) in
-    rw (read-back s ok, size-of s ok) (both-and (both-and z (eq-same (bytesOf s))) f)
+fit-of s ok f = both-and (laid-of s ok) (rw (read-back s ok) f)

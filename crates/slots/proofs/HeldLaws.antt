@@ -3,29 +3,33 @@
 use mathlib.Core.Path.{_≡_, sym, ap, _∙_}
 use mathlib.Core.Bool.{true}
 use mathlib.Core.List.{List, [], _∷_}
-use mathlib.Core.Option.{Option, none, some}
-use Prim.Native.Nat.{ℕ, zero, suc, _^_, _<_}
-use lib.ListN.{length, set, length-set}
+use mathlib.Core.Option.{Option}
+use Prim.Native.Nat.{ℕ, _^_, _<_}
+use lib.ListN.{length, length-set}
 use Rattle.wire.proofs.ChoiceLaws.{and-both}
 use Rattle.wire.proofs.BytesLaws.{same-eq}
 use Rattle.slots.specs.declared.OwnHeight.{OwnHeight}
 use Rattle.slots.specs.declared.Channel.{Channel}
+use Rattle.slots.specs.declared.Record.{Record}
 use Rattle.slots.specs.Layout.{Store, bytesOf, storeIn}
-use Rattle.slots.specs.Fit.{sizeFits, isFit}
-use Rattle.slots.specs.Effect.{Exact, withTimes, withNext, withChannelSlot}
+use Rattle.slots.specs.Fit.{sizeFits, isLaidOut, isFit}
+use Rattle.slots.specs.Effect.{Exact, withTimes, withNext, withChannelSlot, withRecords}
 use Rattle.slots.proofs.TableLaws.{Each}
-use Rattle.slots.proofs.LayoutLaws.{ChannelFields, StoreFields, read-back, size-of}
+use Rattle.slots.proofs.LayoutLaws.{ChannelFields, RecordFields, StoreFields, read-back, size-of}
 use Rattle.slots.proofs.FitLaws.{size-fits}
+use Rattle.slots.proofs.TableBytesLaws.{each-set}
 
 pub record Held (s : Store) (bs : List ℕ) : Type 0 where
   pub bytes : bs ≡ bytesOf s
   pub fields : StoreFields s
 
+pub laid-exact : (bs : List ℕ) → isLaidOut bs ≡ true → Exact bs
+unfolding isLaidOut
+laid-exact bs h = record { size = and-both h .0; laid = same-eq (bytesOf (storeIn bs)) bs (and-both h .1) }
+
 pub fit-exact : (bs : List ℕ) → isFit bs ≡ true → Exact bs
 unfolding isFit
-fit-exact bs h =
-    let a = and-both (and-both h .0) in
-    record { size = a .0; laid = same-eq (bytesOf (storeIn bs)) bs (a .1) }
+fit-exact bs h = laid-exact bs (and-both h .0)
 
 -- what is made of a held store, call by call
 module _ {s : Store} {bs : List ℕ} (h : Held s bs) where
@@ -40,16 +44,6 @@ module _ {s : Store} {bs : List ℕ} (h : Held s bs) where
             size-fits (length (s .records)) (h .fields .low) (h .fields .high);
         laid = ap bytesOf held-store ∙ sym (h .bytes);
       }
-
-each-set : {A : Type 0} (P : A → Type 0) (y : Option A) (i : ℕ) (xs : List (Option A)) → Each P (y ∷ []) → Each P xs →
-    Each P (set xs i y)
-each-set P y i [] p h = tt
-each-set P none zero (none ∷ xs) p h = h
-each-set P none zero (some x ∷ xs) p h = h .1
-each-set P (some y) zero (none ∷ xs) p h = (p .0, h)
-each-set P (some y) zero (some x ∷ xs) p h = (p .0, h .1)
-each-set P y (suc i) (none ∷ xs) p h = each-set P y i xs p h
-each-set P y (suc i) (some x ∷ xs) p h = (h .0, each-set P y i xs p (h .1))
 
 -- EACH EFFECT
 module _ {s : Store} {bs : List ℕ} (h : Held s bs) (next : List ℕ) where
@@ -101,4 +95,20 @@ module _ {s : Store} {bs : List ℕ} (h : Held s bs) (next : List ℕ) where
         high = f .high;
         channels = each-set ChannelFields x j (s .channels) p (f .channels);
         records = f .records;
+      } e
+
+  pub held-records : (rs : List (Option Record)) → length rs ≡ length (s .records) → Each RecordFields rs →
+      next ≡ bytesOf (withRecords (storeIn bs) rs) → Held (withRecords s rs) next
+  held-records rs n p e =
+      let f = h .fields in
+      held-after (λ u. withRecords u rs)
+      record {
+        height = f .height;
+        time = f .time;
+        next = f .next;
+        slots = f .slots;
+        low = rw n (f .low);
+        high = rw n (f .high);
+        channels = f .channels;
+        records = p;
       } e

@@ -1,5 +1,10 @@
 pub mod TableLaws
+pub mod PlaceLaws
+pub mod RoomLaws
+pub mod OrderLaws
+pub mod KeyLaws
 pub mod RecordLaws
+pub mod RecordOrderLaws
 pub mod ChannelLaws
 pub mod LayoutLaws
 pub mod FitLaws
@@ -9,5 +14,7 @@ pub mod SlotLaws
 pub mod ScanLaws
 pub mod TurnLaws
 pub mod SlotTestLaws
+pub mod TableBytesLaws
 pub mod EffectLaws
 pub mod HeldLaws
+pub mod SearchLaws

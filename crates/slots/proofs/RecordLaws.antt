@@ -1,39 +1,62 @@
--- Laws of the table of packet records: lookup and count after a record is written or becomes free. All above goes by
--- these, so a table kept in another way has these to prove and no more. Assumes nothing.
-use Rattle.wire.proofs.Prelude.{_≡_, refl, sym, ap, _∙_, true, false, List, _⊎_, inl, inr, Option, none, some, ℕ, _+_}
-use Rattle.wire.proofs.Prelude.{arith, eqb, eqb-true, eq-eqb}
+-- Laws of the table of packet records: order, lookup and count after a record is written or becomes free. All above
+-- goes by these, so a table kept in another way has these to prove and no more. Assumes nothing.
+use Rattle.wire.proofs.Prelude.{_≡_, refl, sym, ap, _∙_, true, false, not, List, [], _∷_, _⊎_, inl, inr, Option, none}
+use Rattle.wire.proofs.Prelude.{some, ℕ, _+_, arith, eqb, length}
 use Rattle.wire.specs.Names.{_and_, pick, isSome}
-use Rattle.wire.proofs.Laws.{and-both, both-and, clash, cases, some-if}
+use Rattle.wire.proofs.Laws.{clash, cases, some-if}
 use Rattle.slots.specs.declared.Record.{Record}
-use Rattle.slots.specs.Names.{Key, commitmentKey, keyOf, hasKey, sameKey, lookup, find, remove, insert, hasFree}
-use Rattle.slots.specs.Names.{distinct, isCommitmentOn, commitments, commitmentKind}
-use Rattle.slots.proofs.TableLaws.{find-passes, find-replace-other, find-remove, count-remove, find-insert}
-use Rattle.slots.proofs.TableLaws.{find-insert-other, count-insert, distinct-insert, distinct-replace}
+use Rattle.slots.specs.Names.{Key, commitmentKey, keyOf, hasKey, sameKey, precedes, lookup, find, count, remove}
+use Rattle.slots.specs.Names.{insert, hasFree, distinct, inOrder, isCommitmentOn, commitments, commitmentKind}
+use Rattle.slots.proofs.TableLaws.{Each, find-passes, find-cons-none}
+use Rattle.slots.proofs.PlaceLaws.{find-take-out, find-take-out-other, count-take-out, each-take-out}
+use Rattle.slots.proofs.PlaceLaws.{length-take-out, find-place, find-place-other, count-place, each-place}
+use Rattle.slots.proofs.PlaceLaws.{length-place}
+use Rattle.slots.proofs.OrderLaws.{rising, in-order, rising-distinct, rising-place, rising-take-out}
+use Rattle.slots.proofs.KeyLaws.{key-of, has-key, not-key, before-other, strict, same-not-before}
 
 -- no two have the same key
 abbrev pub Single : List (Option Record) → Type 0
 Single rs = distinct sameKey rs ≡ true
 
-pub key-of : (k : Key) (r : Record) → hasKey k r ≡ true → keyOf r ≡ k
-unfolding hasKey
-key-of k r h =
-    let a = eqb-true (r .kind) (k .kind) (and-both (and-both h .0) .0) in
-    let b = eqb-true (r .channel) (k .channel) (and-both (and-both h .0) .1) in
-    let c = eqb-true (r .sequence) (k .sequence) (and-both h .1) in
-    λ i. record { kind = a i; channel = b i; sequence = c i }
+-- IN ORDER, so that no two have the same key
+abbrev pub Ordered : List (Option Record) → Type 0
+Ordered rs = inOrder precedes rs ≡ true
 
-pub has-key : (k : Key) (r : Record) → keyOf r ≡ k → hasKey k r ≡ true
-unfolding hasKey
-has-key k r e =
-    both-and (both-and (eq-eqb (r .kind) (k .kind) (ap (λ (q : Key). q .kind) e))
-    (eq-eqb (r .channel) (k .channel) (ap (λ (q : Key). q .channel) e)))
-    (eq-eqb (r .sequence) (k .sequence) (ap (λ (q : Key). q .sequence) e))
+pub ordered-single : (rs : List (Option Record)) → Ordered rs → Single rs
+ordered-single rs h = rising-distinct precedes strict sameKey same-not-before rs (rising precedes strict rs h)
 
-not-key : (k : Key) (r : Record) → (keyOf r ≡ k → ⊥) → hasKey k r ≡ false
-not-key k r h = cases (hasKey k r) (λ e. absurd (h (key-of k r e))) (λ e. e)
+pub ordered-insert : (r : Record) (rs : List (Option Record)) → lookup (keyOf r) rs ≡ none → Ordered rs →
+    Ordered (insert r rs)
+unfolding find
+ordered-insert r rs absent h =
+    in-order precedes (insert r rs) (rising-place precedes strict r rs
+    (others rs absent) (rising precedes strict rs h))
+  where
+    others : (xs : List (Option Record)) → lookup (keyOf r) xs ≡ none →
+        Each (λ x. precedes x r ≡ false → precedes r x ≡ true) xs
+    others [] n = tt
+    others (none ∷ xs) n = others xs n
+    others (some x ∷ xs) n =
+        let k = find-cons-none (hasKey (keyOf r)) x xs n in
+        (before-other (keyOf x) (keyOf r) (λ e. clash (has-key (keyOf r) x e) (k .0)), others xs (k .1))
 
-same-key-sym : (a b : Record) → sameKey a b ≡ true → sameKey b a ≡ true
-same-key-sym a b h = has-key (keyOf b) a (sym (key-of (keyOf a) b h))
+pub ordered-remove : (k : Key) (rs : List (Option Record)) → Ordered rs → Ordered (remove k rs)
+ordered-remove k rs h =
+    in-order precedes (remove k rs) (rising-take-out precedes strict (hasKey k) rs (rising precedes strict rs h))
+
+-- WHAT EACH RECORD HAS, and how many slots there are
+pub each-insert : (P : Record → Type 0) (r : Record) (rs : List (Option Record)) → P r → Each P rs →
+    Each P (insert r rs)
+each-insert P r rs p h = each-place (λ x. not (precedes x r)) P r rs p h
+
+pub length-insert : (r : Record) (rs : List (Option Record)) → length (insert r rs) ≡ length rs
+length-insert r rs = length-place (λ x. not (precedes x r)) r rs
+
+pub each-remove : (P : Record → Type 0) (k : Key) (rs : List (Option Record)) → Each P rs → Each P (remove k rs)
+each-remove P k rs h = each-take-out (hasKey k) P rs h
+
+pub length-remove : (k : Key) (rs : List (Option Record)) → length (remove k rs) ≡ length rs
+length-remove k rs = length-take-out (hasKey k) rs
 
 module _ (rs : List (Option Record)) (single : Single rs) where
   pub lookup-key : (k : Key) (r : Record) → lookup k rs ≡ some r → keyOf r ≡ k
@@ -42,18 +65,16 @@ module _ (rs : List (Option Record)) (single : Single rs) where
   -- WRITTEN
   module _ (r : Record) (room : hasFree rs ≡ true) (absent : lookup (keyOf r) rs ≡ none) where
     pub lookup-insert : lookup (keyOf r) (insert r rs) ≡ some r
-    lookup-insert = find-insert (hasKey (keyOf r)) r rs room (has-key (keyOf r) r refl) absent
+    lookup-insert = find-place (λ x. not (precedes x r)) (hasKey (keyOf r)) r rs room (has-key (keyOf r) r refl) absent
 
     pub lookup-insert-other : (k : Key) → (keyOf r ≡ k → ⊥) → lookup k (insert r rs) ≡ lookup k rs
-    lookup-insert-other k h = find-insert-other (hasKey k) r rs (not-key k r h)
-
-    pub single-insert : Single (insert r rs)
-    single-insert = distinct-insert sameKey r rs same-key-sym absent single
+    lookup-insert-other k h = find-place-other (λ x. not (precedes x r)) (hasKey k) r rs room (not-key k r h)
 
     pub commitments-insert : (n : ℕ) → commitments n (insert r rs) ≡ pick (isCommitmentOn n r) 1 0 + commitments n rs
+    unfolding count
     commitments-insert n =
-        count-insert (isCommitmentOn n) r rs room ∙ cases (isCommitmentOn n r) (λ e. rw e (omega arith))
-        (λ e. rw e (omega arith))
+        count-place (λ x. not (precedes x r)) (isCommitmentOn n) r rs room ∙ cases (isCommitmentOn n r)
+        (λ e. rw (count, e) (omega arith)) (λ e. rw (count, e) (omega arith))
 
     -- what is found is the new record, or was found before; and what was found still is
     pub insert-from : (k : Key) (x : Record) → lookup k (insert r rs) ≡ some x →
@@ -71,16 +92,12 @@ module _ (rs : List (Option Record)) (single : Single rs) where
   -- FREE
   module _ (j : Key) where
     pub lookup-remove : lookup j (remove j rs) ≡ none
-    lookup-remove = find-remove (hasKey j) sameKey rs (λ x y p q. has-key (keyOf x) y
+    lookup-remove = find-take-out (hasKey j) sameKey rs (λ x y p q. has-key (keyOf x) y
         (key-of j y q ∙ sym (key-of j x p))) single
 
     pub lookup-remove-other : (k : Key) → (j ≡ k → ⊥) → lookup k (remove j rs) ≡ lookup k rs
-    unfolding find
-    lookup-remove-other k h = find-replace-other (hasKey j) (hasKey k) none rs
-        (λ x p q. h (sym (key-of j x p) ∙ key-of k x q)) refl
-
-    pub single-remove : Single (remove j rs)
-    single-remove = distinct-replace sameKey (hasKey j) none rs (λ x h. tt) single
+    lookup-remove-other k h = find-take-out-other (hasKey j) (hasKey k) rs
+        (λ x p q. h (sym (key-of j x p) ∙ key-of k x q))
 
     pub remove-from : (k : Key) (x : Record) → lookup k (remove j rs) ≡ some x → lookup k rs ≡ some x
     remove-from k x h =
@@ -97,5 +114,5 @@ commitments-remove c n m rs h =
     let a : f .0 .kind ≡ commitmentKind = ap (λ (q : Key). q .kind) k in
     let b : f .0 .channel ≡ c = ap (λ (q : Key). q .channel) k in
     let e : isCommitmentOn m (f .0) ≡ eqb c m = cc in
-    count-remove (hasKey (commitmentKey c n)) (isCommitmentOn m) rs (f .0) (f .1) ∙
+    count-take-out (hasKey (commitmentKey c n)) (isCommitmentOn m) rs (f .0) (f .1) ∙
     cases (eqb c m) (λ q. rw (e, q) (omega arith)) (λ q. rw (e, q) (omega arith))

@@ -4,7 +4,7 @@ use mathlib.Core.Path.{_≡_, refl, sym, ap, _∙_}
 use mathlib.Core.Bool.{Bool, true, false}
 use mathlib.Core.List.{List, [], _∷_}
 use mathlib.Core.Option.{Option, none, some}
-use Prim.Native.Nat.{ℕ, zero, suc, _+_, _*_, _≤_, _<_}
+use Prim.Native.Nat.{ℕ, zero, suc, _+_, _*_, _-_, _≤_, _<_}
 use native.Mathlib.Nat.{zero-add, add-suc, suc-add, le-of-suc-le-suc, not-suc-le-zero}
 use native.Mathlib.Omega.{arith}
 use lib.ListN.{length, getD, set, drop}
@@ -15,11 +15,12 @@ use Rattle.wire.proofs.ChoiceLaws.{cases, clash}
 use Rattle.slots.specs.declared.Channel.{Channel}
 use Rattle.slots.specs.declared.Record.{Record}
 use Rattle.slots.specs.declared.Found.the-variants.{At, Nothing}
-use Rattle.slots.specs.Table.{find, replace, insert}
+use Rattle.slots.specs.Table.{find, replace, place, takeOut}
 use Rattle.slots.specs.Limits.{channelLimit}
 use Rattle.slots.specs.Layout.{headerSize, slotSize, recordsFrom, roomIn}
 use Rattle.slots.specs.Layout.{channelIn, recordIn, slotIn, tableIn, storeIn}
-use Rattle.slots.specs.Scan.{indexWhere, isFree, holds, firstFree, firstThat}
+use Rattle.slots.specs.Scan.{indexWhere, isFree, holds, firstFree, firstThat, slotAt, tableFrom}
+use Rattle.slots.specs.Effect.{removedAt}
 use Rattle.slots.proofs.FitLaws.{length-read}
 
 -- the slot at an index is the first that passes a test
@@ -57,15 +58,16 @@ module _ {A : Type 0} where
   first-below t (suc i) (x ∷ xs) h = let k = first-below t i xs (h .1) in omega arith
 
   -- THE FIRST FREE SLOT takes an entry
-  set-first : (y : A) (i : ℕ) (xs : List (Option A)) → First isFree i xs → set xs i (some y) ≡ insert y xs
-  unfolding insert
+  set-first : (y : A) (i : ℕ) (xs : List (Option A)) → First isFree i xs → set xs i (some y) ≡ place (λ x. false) y xs
+  unfolding place
   set-first y i [] h = absurd h
   set-first y zero (none ∷ xs) h = refl
   set-first y zero (some x ∷ xs) h = clash {b = false} h refl
   set-first y (suc i) (none ∷ xs) h = clash {b = true} refl (h .0)
   set-first y (suc i) (some x ∷ xs) h = ap (λ (l : List (Option A)). some x ∷ l) (set-first y i xs (h .1))
 
-  pub set-insert : (y : A) (i : ℕ) (xs : List (Option A)) → firstFree xs ≡ At i → set xs i (some y) ≡ insert y xs
+  pub set-insert : (y : A) (i : ℕ) (xs : List (Option A)) → firstFree xs ≡ At i →
+      set xs i (some y) ≡ place (λ x. false) y xs
   set-insert y i xs h = set-first y i xs (first-of isFree i xs h)
 
   -- THE FIRST ENTRY THAT PASSES A TEST makes way for another slot
@@ -82,6 +84,19 @@ module _ {A : Type 0} where
     pub set-replace : (y : Option A) (i : ℕ) (xs : List (Option A)) → firstThat t xs ≡ At i →
         set xs i y ≡ replace t y xs
     set-replace y i xs h = replace-first y i xs (first-of (holds t) i xs h)
+
+    -- or is taken out
+    take-out-first : (i : ℕ) (xs : List (Option A)) → First (holds t) i xs → takeOut t xs ≡ removedAt i xs
+    unfolding takeOut
+    take-out-first i [] h = absurd h
+    take-out-first zero (none ∷ xs) h = clash {b = false} h refl
+    take-out-first zero (some x ∷ xs) h = rw h
+    take-out-first (suc i) (none ∷ xs) h = ap (λ (l : List (Option A)). none ∷ l) (take-out-first i xs (h .1))
+    take-out-first (suc i) (some x ∷ xs) h =
+        rw (h .0) (ap (λ (l : List (Option A)). some x ∷ l) (take-out-first i xs (h .1)))
+
+    pub take-out-found : (i : ℕ) (xs : List (Option A)) → firstThat t xs ≡ At i → takeOut t xs ≡ removedAt i xs
+    take-out-found i xs h = take-out-first i xs (first-of (holds t) i xs h)
 
     -- and is what the table is asked for by that test
     find-first : (i : ℕ) (xs : List (Option A)) → First (holds t) i xs →
@@ -104,8 +119,9 @@ module _ {A : Type 0} where
   found-below t i xs h = first-below t i xs (first-of t i xs h)
 
   -- NOTHING FOUND: the table stays, and is asked in vain
-  pub insert-nothing : (y : A) (n : ℕ) (xs : List (Option A)) → indexWhere isFree n xs ≡ Nothing → insert y xs ≡ xs
-  unfolding indexWhere insert
+  pub insert-nothing : (y : A) (n : ℕ) (xs : List (Option A)) → indexWhere isFree n xs ≡ Nothing →
+      place (λ x. false) y xs ≡ xs
+  unfolding indexWhere place
   insert-nothing y n [] h = refl
   insert-nothing y n (none ∷ xs) h = let z : _≡_ {A = ℕ} 0 1 = cc in absurd (omega arith)
   insert-nothing y n (some x ∷ xs) h =
@@ -122,6 +138,17 @@ module _ {A : Type 0} where
       let ih = replace-nothing t y (suc n) xs in
       cases (t x) (λ e. let z : _≡_ {A = ℕ} 0 1 = cc in absurd (omega arith))
       (λ e. rw (replace, e) (ap (λ (l : List (Option A)). some x ∷ l) (ih (cc))))
+
+  pub take-out-nothing : (t : A → Bool) (n : ℕ) (xs : List (Option A)) → indexWhere (holds t) n xs ≡ Nothing →
+      takeOut t xs ≡ xs
+  unfolding indexWhere takeOut
+  take-out-nothing t n [] h = refl
+  take-out-nothing t n (none ∷ xs) h =
+      ap (λ (l : List (Option A)). none ∷ l) (take-out-nothing t (suc n) xs h)
+  take-out-nothing t n (some x ∷ xs) h =
+      let ih = take-out-nothing t (suc n) xs in
+      cases (t x) (λ e. let z : _≡_ {A = ℕ} 0 1 = cc in absurd (omega arith))
+      (λ e. rw (takeOut, e) (ap (λ (l : List (Option A)). some x ∷ l) (ih (cc))))
 
   pub find-nothing : (t : A → Bool) (n : ℕ) (xs : List (Option A)) → indexWhere (holds t) n xs ≡ Nothing →
       find t xs ≡ none
@@ -141,6 +168,17 @@ module _ {A : Type 0} where
   table-at f (suc n) (suc i) bs h =
       let k : slotSize * suc i ≡ slotSize + slotSize * i = omega arith in
       rw (k, ← drop-drop (slotSize * i) slotSize bs) (table-at f n i (drop slotSize bs) (le-of-suc-le-suc h))
+
+  pub slot-at : (f : List ℕ → A) (start n i : ℕ) (bs : List ℕ) → i < n →
+      getD (tableFrom f start n bs 0) i none ≡ slotIn f (slotAt start bs i)
+  unfolding part
+  slot-at f start n i bs h =
+      let m : n - 0 ≡ n = omega arith in
+      let z : start + slotSize * 0 ≡ start = omega arith in
+      rw (m, z, ← drop-drop (slotSize * i) start bs) (table-at f n i (drop start bs) h)
+
+  pub length-slots : (f : List ℕ → A) (start n : ℕ) (bs : List ℕ) → length (tableFrom f start n bs 0) ≡ n
+  length-slots f start n bs = length-read f (n - 0) (drop (start + slotSize * 0) bs) ∙ omega arith
 
   -- what a scan of such a table finds is what the bytes at that slot are read as
   pub table-found : (f : List ℕ → A) (t : A → Bool) (n i from : ℕ) (bs : List ℕ) →

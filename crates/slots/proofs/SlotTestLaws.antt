@@ -1,7 +1,7 @@
 -- What a slot holds, tested on its bytes. Assumes nothing.
 use mathlib.Core.Path.{_≡_, refl, _∙_}
 use mathlib.Core.Bool.{Bool, not}
-use mathlib.Core.List.{List, [], _∷_, map}
+use mathlib.Core.List.{List, [], _∷_}
 use mathlib.Core.Option.{Option, none, some}
 use Prim.Native.Nat.{ℕ, suc, _+_, _<_}
 use native.Mathlib.Nat.{add-zero}
@@ -30,16 +30,9 @@ module _ {A : Type 0} (g : List ℕ → A) (p : List ℕ) where
   free-slot = cases (areZero p) (λ e. rw (slotIn, e)) (λ e. rw (slotIn, e))
 
   -- what it reads as passes, and it is not free
-  held : (t : A → Bool) → holds t (slotIn g p) ≡ (t (g p) and not (areZero p))
+  pub held : (t : A → Bool) → holds t (slotIn g p) ≡ (t (g p) and not (areZero p))
   unfolding slotIn
   held t = cases (areZero p) (λ e. rw (slotIn, e, and-false)) (λ e. rw (slotIn, e, and-true))
-
--- the first free slot is the same, whatever the entries are read as
-pub first-free : {A B : Type 0} (f : List ℕ → A) (g : List ℕ → B) (i : ℕ) (ps : List (List ℕ)) →
-    indexWhere isFree i (map (slotIn f) ps) ≡ indexWhere isFree i (map (slotIn g) ps)
-unfolding indexWhere
-first-free f g i [] = refl
-first-free f g i (p ∷ ps) = rw (free-slot f p, free-slot g p, first-free f g (suc i) ps)
 
 module _ (at : ℕ) (bs : List ℕ) where
   pub number-held : (n : ℕ) → holds (isNumbered n) (slotIn channelIn (part at slotSize bs)) ≡

@@ -1,9 +1,9 @@
 -- Laws of tables of slots, whatever the entries and the tests are. Assumes nothing.
 use Rattle.wire.proofs.Prelude.{_≡_, refl, sym, ap, subst, _∙_, Bool, true, false, not, List, [], _∷_, Option, none}
 use Rattle.wire.proofs.Prelude.{some, ℕ, suc, arith, length}
-use Rattle.wire.specs.Names.{pick, isSome}
-use Rattle.wire.proofs.Laws.{and-both, both-and, clash, cases, of-pick, not-some}
-use Rattle.slots.specs.Names.{find, replace, insert, hasFree, count, all, distinct}
+use Rattle.wire.specs.Names.{isSome}
+use Rattle.wire.proofs.Laws.{and-both, both-and, cases, of-pick, not-some}
+use Rattle.slots.specs.Names.{find, replace, all, distinct}
 
 -- every entry has a property
 abbrev pub Each : {A : Type 0} → (A → Type 0) → List (Option A) → Type 0
@@ -85,18 +85,6 @@ module _ {A : Type 0} where
       skip none k = refl
       skip (some w) k = let q = find-cons-none u w [] k .0 in cc
 
-  -- what is replaced by nothing is gone, where no entry stands twice
-  pub find-remove : (t : A → Bool) (u : A → A → Bool) (xs : List (Option A)) →
-      ((x y : A) → t x ≡ true → t y ≡ true → u x y ≡ true) →
-      distinct u xs ≡ true → find t (replace t none xs) ≡ none
-  unfolding find replace distinct
-  find-remove t u [] h d = refl
-  find-remove t u (none ∷ xs) h d = find-remove t u xs h d
-  find-remove t u (some x ∷ xs) h d =
-      let ih = find-remove t u xs h (and-both d .1) in
-      cases (t x) (λ e. let k = find-none t (u x) xs (λ y. h x y e) (not-some (find (u x) xs) (and-both d .0)) in cc)
-      (λ e. cc)
-
   pub each-replace : (P : A → Type 0) (t : A → Bool) (y : Option A) (xs : List (Option A)) → Each P (y ∷ []) →
       Each P xs → Each P (replace t y xs)
   unfolding replace
@@ -118,82 +106,7 @@ module _ {A : Type 0} where
       of-pick (λ (l : List (Option A)). length l ≡ suc (length xs)) (t x) (y ∷ xs) (some x ∷ replace t y xs) (λ e. refl)
       (λ e. ap suc (length-replace t y xs))
 
-  pub count-remove : (t u : A → Bool) (xs : List (Option A)) (x : A) → find t xs ≡ some x →
-      count u xs ≡ pick (u x) (suc (count u (replace t none xs))) (count u (replace t none xs))
-  unfolding find replace count
-  count-remove t u [] x h = let z : _≡_ {A = ℕ} 0 1 = cc in absurd (omega arith)
-  count-remove t u (none ∷ xs) x h = count-remove t u xs x h
-  count-remove t u (some y ∷ xs) x h =
-      let ih = count-remove t u xs x in
-      cases (t y) (λ e. let z : y ≡ x = cc in cc) (λ e. let k = ih (cc) in turn (u x) refl (u y) refl e k)
-    where
-      turn : (a : Bool) → u x ≡ a → (b : Bool) → u y ≡ b → t y ≡ false →
-          count u xs ≡ pick (u x) (suc (count u (replace t none xs))) (count u (replace t none xs)) →
-          count u (some y ∷ xs) ≡ pick (u x) (suc (count u (replace t none (some y ∷ xs))))
-          (count u (replace t none (some y ∷ xs)))
-      turn true p true q e k = cc
-      turn true p false q e k = cc
-      turn false p true q e k = cc
-      turn false p false q e k = cc
-
-  -- INSERT
-  pub find-insert : (t : A → Bool) (y : A) (xs : List (Option A)) → hasFree xs ≡ true → t y ≡ true → find t xs ≡ none →
-      find t (insert y xs) ≡ some y
-  unfolding find insert hasFree
-  find-insert t y [] f p h = cc
-  find-insert t y (none ∷ xs) f p h = cc
-  find-insert t y (some x ∷ xs) f p h =
-      let k = find-cons-none t x xs h in
-      let ih = find-insert t y xs f p (k .1) in
-      let q = k .0 in
-      cc
-
-  pub find-insert-other : (t : A → Bool) (y : A) (xs : List (Option A)) → t y ≡ false → find t (insert y xs) ≡ find t xs
-  unfolding find insert
-  find-insert-other t y [] p = refl
-  find-insert-other t y (none ∷ xs) p = cc
-  find-insert-other t y (some x ∷ xs) p = let ih = find-insert-other t y xs p in cc
-
-  pub each-insert : (P : A → Type 0) (y : A) (xs : List (Option A)) → P y → Each P xs → Each P (insert y xs)
-  unfolding insert
-  each-insert P y [] p h = tt
-  each-insert P y (none ∷ xs) p h = (p, h)
-  each-insert P y (some x ∷ xs) p h = (h .0, each-insert P y xs p (h .1))
-
-  pub length-insert : (y : A) (xs : List (Option A)) → length (insert y xs) ≡ length xs
-  unfolding insert
-  length-insert y [] = refl
-  length-insert y (none ∷ xs) = refl
-  length-insert y (some x ∷ xs) = ap suc (length-insert y xs)
-
-  pub count-insert : (t : A → Bool) (y : A) (xs : List (Option A)) → hasFree xs ≡ true →
-      count t (insert y xs) ≡ pick (t y) (suc (count t xs)) (count t xs)
-  unfolding insert count hasFree
-  count-insert t y [] f = let z : _≡_ {A = ℕ} 0 1 = cc in absurd (omega arith)
-  count-insert t y (none ∷ xs) f = refl
-  count-insert t y (some x ∷ xs) f = turn (t x) refl (t y) refl (count-insert t y xs f)
-    where
-      turn : (a : Bool) → t x ≡ a → (b : Bool) → t y ≡ b →
-          count t (insert y xs) ≡ pick (t y) (suc (count t xs)) (count t xs) →
-          count t (insert y (some x ∷ xs)) ≡ pick (t y) (suc (count t (some x ∷ xs))) (count t (some x ∷ xs))
-      turn true p true q k = cc
-      turn true p false q k = cc
-      turn false p true q k = cc
-      turn false p false q k = cc
-
   -- DISTINCT
-  pub distinct-insert : (u : A → A → Bool) (y : A) (xs : List (Option A)) → ((a b : A) → u a b ≡ true → u b a ≡ true) →
-      find (u y) xs ≡ none →
-      distinct u xs ≡ true → distinct u (insert y xs) ≡ true
-  unfolding distinct insert find
-  distinct-insert u y [] s n h = refl
-  distinct-insert u y (none ∷ xs) s n h = both-and (ap (λ (z : Option A). not (isSome z)) n) h
-  distinct-insert u y (some x ∷ xs) s n h =
-      let k = find-cons-none (u y) x xs n in
-      let f : u x y ≡ false = cases (u x y) (λ e. clash (s x y e) (k .0)) (λ e. e) in
-      both-and (ap (λ (z : Option A). not (isSome z)) (find-insert-other (u x) y xs f) ∙ and-both h .0)
-      (distinct-insert u y xs s (k .1) (and-both h .1))
-
   find-replace-none : (t v : A → Bool) (y : Option A) (xs : List (Option A)) →
       ((x : A) → t x ≡ true → v x ≡ false → find v (y ∷ []) ≡ none) → find v xs ≡ none → find v (replace t y xs) ≡ none
   unfolding find replace

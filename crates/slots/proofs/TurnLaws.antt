@@ -1,6 +1,6 @@
 -- Laws of a scan of a table's slots, turn by turn. In each, after i turns the answer for all slots is the answer for
 -- those that are left. Assumes nothing.
-use mathlib.Core.Path.{_≡_, refl, sym, _∙_}
+use mathlib.Core.Path.{_≡_, refl, sym, ap, _∙_}
 use mathlib.Core.Bool.{Bool, true, false}
 use mathlib.Core.List.{List}
 use mathlib.Core.Option.{Option}
@@ -12,9 +12,10 @@ use Rattle.wire.proofs.BytesLaws.{pieces-turn, pieces-end}
 use Rattle.slots.specs.declared.Found.{Found}
 use Rattle.slots.specs.declared.Found.the-variants.{At, Nothing}
 use Rattle.slots.specs.Limits.{channelLimit}
+use Rattle.slots.specs.Table.{inOrder, precedes}
 use Rattle.slots.specs.Layout.{headerSize, slotSize, recordsFrom, sizeFor, roomIn}
 use Rattle.slots.specs.Layout.{channelIn, recordIn, slotIn, storeIn}
-use Rattle.slots.specs.Scan.{indexWhere, slotAt, tableFrom}
+use Rattle.slots.specs.Scan.{indexWhere, slotAt, tableFrom, RecordsInOrder}
 
 -- the tables of a store are all their slots
 pub channels-from : (bs : List ℕ) →
@@ -26,6 +27,10 @@ pub records-from : (n : ℕ) (bs : List ℕ) → length bs ≡ sizeFor n →
     storeIn bs .records ≡ tableFrom recordIn recordsFrom n bs 0
 unfolding storeIn roomIn
 records-from n bs l = let r : roomIn (length bs) ≡ n - 0 = omega arith in rw r
+
+pub order-from : (n : ℕ) (bs : List ℕ) → RecordsInOrder bs n →
+    inOrder precedes (tableFrom recordIn recordsFrom n bs 0) ≡ true
+order-from n bs h = ap (inOrder precedes) (sym (records-from n bs (h .size))) ∙ h .order
 
 -- THE FIRST SLOT that passes a test, which came to r
 module _ {A : Type 0} (g : List ℕ → A) (t : Option A → Bool) (start n : ℕ) (bs : List ℕ) where

@@ -1,11 +1,11 @@
--- What the parts of a datagram's effect leave: the store with other times, another next channel number, or with one
--- slot replaced.
+-- What the parts of a datagram's effect leave: the store with other times, another next channel number, one channel
+-- record replaced, or other packet records.
 use mathlib.Core.Path.{_≡_}
 use mathlib.Core.Bool.{true}
-use mathlib.Core.List.{List}
-use mathlib.Core.Option.{Option}
-use Prim.Native.Nat.{ℕ}
-use lib.ListN.{length, set}
+use mathlib.Core.List.{List, [], _∷_, _++_}
+use mathlib.Core.Option.{Option, none, some}
+use Prim.Native.Nat.{ℕ, suc, _+_}
+use lib.ListN.{length, take, drop, set}
 use Rattle.slots.specs.declared.OwnHeight.{OwnHeight}
 use Rattle.slots.specs.declared.Channel.{Channel}
 use Rattle.slots.specs.declared.Record.{Record}
@@ -35,12 +35,15 @@ withChannelSlot s j x =
       records = s .records;
     }
 
-abbrev pub withRecordSlot : Store → (index : ℕ) → Option Record → Store
-withRecordSlot s i x =
-    record {
-      height = s .height;
-      time = s .time;
-      next = s .next;
-      channels = s .channels;
-      records = set (s .records) i x;
-    }
+abbrev pub withRecords : Store → List (Option Record) → Store
+withRecords s rs =
+    record { height = s .height; time = s .time; next = s .next; channels = s .channels; records = rs }
+
+-- SLOTS MOVED: an entry takes the slot of an index, the next m slots take what stood one before them, and what the last
+-- of these held is gone
+abbrev pub insertedAt : {A : Type 0} → (index m : ℕ) → A → List (Option A) → List (Option A)
+insertedAt i m y xs = take i xs ++ (some y ∷ (take m (drop i xs) ++ drop (suc (i + m)) xs))
+
+-- the slots behind an index take what stood one behind them, and the last one becomes free
+abbrev pub removedAt : {A : Type 0} → (index : ℕ) → List (Option A) → List (Option A)
+removedAt i xs = take i xs ++ (drop (suc i) xs ++ (none ∷ []))

@@ -14,7 +14,7 @@ use Rattle.slots.specs.Codes.{stateInit, isState, isOrder, commitmentKin
 use Rattle.slots.specs.Codes.{acknowledgementKind}
 use Rattle.slots.specs.Version.{isPadded}
 use Rattle.slots.specs.Height.{noTimeout, sameTimeout}
-use Rattle.slots.specs.Table.{all, distinct, sameNumber, channelAt, sameKey}
+use Rattle.slots.specs.Table.{all, distinct, inOrder, sameNumber, channelAt, sameKey, precedes}
 use Rattle.slots.specs.Layout.{Store, slotSize, recordsFrom, sizeFor, bytesOf, storeIn}
 use Rattle.slots.specs.Ordering.{isOrdered, isReceived}
 
@@ -54,15 +54,24 @@ fitsEnd s r (some c) =
 unfoldable pub recordFits : Store → Record → Bool
 recordFits s r = leb 1 (r .sequence) and fitsEnd s r (channelAt (r .channel) (s .channels))
 
--- no two have the same kind, channel and sequence
-unfoldable pub recordsFit : Store → Bool
-recordsFit s = all (recordFits s) (s .records) and distinct sameKey (s .records)
+-- each entry fits, wherever it stands in its table
+unfoldable pub entriesFit : Store → Bool
+entriesFit s =
+    channelsFit (s .channels) and numbersFit (s .next) (s .channels) and all (recordFits s) (s .records)
 
+-- packet records rise strictly by channel, then kind, then sequence, and the free ones stand behind
 unfoldable pub storeFits : Store → Bool
-storeFits s = channelsFit (s .channels) and numbersFit (s .next) (s .channels) and recordsFit s
+storeFits s = entriesFit s and inOrder precedes (s .records)
 
 unfoldable pub sizeFits : (size : ℕ) → Bool
 sizeFits n = isIn (sizeFor 1) (sizeFor recordLimit) n and eqb ((n - recordsFrom) % slotSize) 0
 
+unfoldable pub isLaidOut : List ℕ → Bool
+isLaidOut bs = sizeFits (length bs) and same (bytesOf (storeIn bs)) bs
+
 unfoldable pub isFit : List ℕ → Bool
-isFit bs = sizeFits (length bs) and same (bytesOf (storeIn bs)) bs and storeFits (storeIn bs)
+isFit bs = isLaidOut bs and storeFits (storeIn bs)
+
+-- fit but perhaps for the order: no two packet records have the same kind, channel and sequence
+unfoldable pub isFitAnyOrder : List ℕ → Bool
+isFitAnyOrder bs = isLaidOut bs and entriesFit (storeIn bs) and distinct sameKey (storeIn bs .records)

@@ -9,15 +9,17 @@ pub use Rattle.slots.specs.Height.{isBelowOwn, isSameOwn, isSameOther, i
 pub use Rattle.slots.specs.Height.{isPastOwn, isPastOther, noTimeout}
 unfoldable pub use Rattle.slots.specs.Version.{noneZero, versionFits, padded, isPadded}
 pub use Rattle.slots.specs.Version.{noVersion}
-unfoldable pub use Rattle.slots.specs.Table.{find, replace, insert, hasFree, count, all, distinct, isNumbered}
+unfoldable pub use Rattle.slots.specs.Table.{find, replace, push, place, takeOut, hasFree, freeSlots, count}
+unfoldable pub use Rattle.slots.specs.Table.{all, distinct, mayLead, inOrder, isNumbered, isBefore}
 unfoldable pub use Rattle.slots.specs.Table.{samePortChannel, hasKey, isCommitmentOn}
-pub use Rattle.slots.specs.Table.{sameNumber, channelAt, withChannel, Key, commitmentKey, receiptKey}
-pub use Rattle.slots.specs.Table.{acknowledgementKey, keyOf, sameKey, lookup, remove, commitments}
+pub use Rattle.slots.specs.Table.{sameNumber, channelAt, withChannel, insertChannel, Key, commitmentKey}
+pub use Rattle.slots.specs.Table.{receiptKey, acknowledgementKey, keyOf, sameKey, lookup, precedes, insert}
+pub use Rattle.slots.specs.Table.{remove, commitments}
 unfoldable pub use Rattle.slots.specs.Layout.{roomIn, channelBytes, recordBytes, slotBytes, tableBytes}
 unfoldable pub use Rattle.slots.specs.Layout.{headerBytes, bytesOf, channelIn, recordIn, slotIn, storeIn}
 pub use Rattle.slots.specs.Layout.{Store, headerSize, slotSize, recordsFrom, sizeFor, tableIn}
 unfoldable pub use Rattle.slots.specs.Ordering.{isOrdered, isReceived}
 pub use Rattle.slots.specs.Ordering.{hasReceipt}
 unfoldable pub use Rattle.slots.specs.Fit.{namesNone, channelFits, channelsFit, isBelow, numbersFit, fitsEnd}
-unfoldable pub use Rattle.slots.specs.Fit.{recordFits, recordsFit, storeFits}
-unfoldable pub use Rattle.slots.specs.Fit.{sizeFits, isFit}
+unfoldable pub use Rattle.slots.specs.Fit.{recordFits, entriesFit, storeFits}
+unfoldable pub use Rattle.slots.specs.Fit.{sizeFits, isLaidOut, isFit, isFitAnyOrder}

@@ -1,14 +1,17 @@
--- What a scan of a table answers: the index of the first slot that passes a test.
+-- What a search of a table answers: the index of the first slot that passes a test, or the place for a key.
+use mathlib.Core.Path.{_≡_}
 use mathlib.Core.Bool.{Bool, true, false}
 use mathlib.Core.List.{List, [], _∷_, map}
 use mathlib.Core.Option.{Option, none, some}
-use Prim.Native.Nat.{ℕ, suc, _+_, _*_, _-_}
-use lib.ListN.{drop}
+use Prim.Native.Nat.{ℕ, suc, _+_, _*_, _-_, _≤_}
+use lib.ListN.{length, drop}
 use Rattle.wire.specs.Choice.{pick}
 use Rattle.wire.specs.Bytes.{part, pieces}
+use Rattle.slots.specs.declared.Record.{Record}
 use Rattle.slots.specs.declared.Found.{Found}
 use Rattle.slots.specs.declared.Found.the-variants.{At, Nothing}
-use Rattle.slots.specs.Layout.{slotSize, slotIn}
+use Rattle.slots.specs.Table.{count, inOrder, Key, keyOf, isBefore, precedes}
+use Rattle.slots.specs.Layout.{slotSize, sizeFor, slotIn, storeIn}
 
 -- the first slot has the index `from`
 unfoldable pub indexWhere : {A : Type 0} → (Option A → Bool) → (from : ℕ) → List (Option A) → Found
@@ -45,3 +48,13 @@ slotsFrom start n bs i = pieces slotSize (n - i) (drop (start + slotSize * i) bs
 
 abbrev pub tableFrom : {A : Type 0} → (List ℕ → A) → (start n : ℕ) → List ℕ → (i : ℕ) → List (Option A)
 tableFrom g start n bs i = map (slotIn g) (slotsFrom start n bs i)
+
+-- THE PLACE FOR A KEY: how many entries stand before it. In a table in order they are the first so many slots
+abbrev pub placeOf : Key → List (Option Record) → ℕ
+placeOf k rs = count (λ r. isBefore (keyOf r) k) rs
+
+-- bytes of so many packet records, at least one, which are in order
+pub record RecordsInOrder (bs : List ℕ) (count : ℕ) : Type 0 where
+  pub low : 1 ≤ count
+  pub size : length bs ≡ sizeFor count
+  pub order : inOrder precedes (storeIn bs .records) ≡ true

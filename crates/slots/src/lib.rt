@@ -1,10 +1,31 @@
 // What a store holds, and its slots of 64 bytes: the types of a channel end and of a packet record, read from lent
 // bytes and stored there. specs/ says what they mean, and what a store says by its bytes.
 pub mod part; // a port and a channel, and timeouts
+pub mod size; // how many bytes a store has
 pub mod slot; // a channel end or a packet record in 64 bytes
 pub mod version; // a version in 24 bytes
 
 use wire::DIGEST;
+
+// A store's kind, its limits, where its tables start and the size of their records, as specs/Codes.antt, Limits.antt
+// and Layout.antt have them.
+pub struct Layout;
+
+impl Layout {
+    pub const KIND: u16 = 0x0401;
+
+    pub const CHANNELS: usize = 16;
+
+    pub const RECORDS: usize = 512;
+
+    pub const OUTPUT: usize = 106;
+
+    pub const HEADER: usize = 64;
+
+    pub const SLOT: usize = 64;
+
+    pub const RECORDS_FROM: usize = Layout::HEADER + Layout::SLOT * Layout::CHANNELS;
+}
 
 // A height of this ledger, and a height of the other one. Neither can stand where the other is meant.
 pub struct OwnHeight(pub u64);
@@ -78,7 +99,14 @@ impl Record {
     pub const ACKNOWLEDGEMENT: u16 = 3;
 }
 
-// Where a scan of a table's slots ends: at an index, or behind them all.
+// What a packet record is found by.
+pub struct Key {
+    pub kind: u16,
+    pub channel: u32,
+    pub sequence: u64,
+}
+
+// One of a table's slots by its index, or none of them.
 pub enum Found {
     At(usize),
     Nothing,
