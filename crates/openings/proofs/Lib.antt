@@ -1,1 +1,3 @@
 pub mod OpeningLaws
+pub mod LeastLaws
+pub mod MakerLaws
