@@ -1,20 +1,26 @@
 // Changes of a lent store, as acceptance makes them, a step at a time: the times, the next channel number, one channel
-// end, one packet record. Each step leaves the bytes of the store with that part replaced, and no other byte changed.
+// end, the packet records from one on. Each step leaves the bytes of the store with that part replaced, and no other
+// byte changed.
+mod shift; // slots moved up or down by one
+
+use shift::shift_down;
+use shift::shift_up;
 use slots::Channel;
+use slots::Layout;
 use slots::OwnHeight;
 use slots::Record;
 use slots::slot::put_channel;
 use slots::slot::put_record;
-use store::Store;
 use wire::put_u64;
 use wire::put_zeros;
 ghost use mathlib.Core.Path.{_≡_};
-ghost use mathlib.Core.Option.{none, some};
-ghost use Prim.Native.Nat.{_<_};
+ghost use mathlib.Core.Option.{some};
+ghost use Prim.Native.Nat.{_+_, _<_};
 ghost use lib.ListN.{length};
 ghost use Rattle.slots.specs.Limits.{channelLimit};
 ghost use Rattle.slots.specs.Layout.{bytesOf, storeIn};
-ghost use Rattle.slots.specs.Effect.{Exact, withTimes, withNext, withChannelSlot, withRecordSlot};
+ghost use Rattle.slots.specs.Effect.{Exact, withTimes, withNext, withChannelSlot, withRecords};
+ghost use Rattle.slots.specs.Effect.{insertedAt, removedAt};
 
 // Last height and time.
 pub fn set_times(s: &mut [u8], height: OwnHeight, time: u64)
@@ -38,21 +44,32 @@ pub fn set_channel(s: &mut [u8], j: usize, c: Channel)
     requires { ⌜ Exact (now s) × (j < channelLimit) ⌝ }
     ensures { λ _. ⌜ now (s .exit) ≡ bytesOf (withChannelSlot (storeIn (now (s .entry))) j (some c)) ⌝ }
 {
-    put_channel(s, Store::HEADER + Store::SLOT * j, c);
+    put_channel(s, Layout::HEADER + Layout::SLOT * j, c);
 }
 
-// A packet record takes the slot of index `i`.
-pub fn insert_record(s: &mut [u8], i: usize, r: Record)
-    requires { ⌜ Exact (now s) × (i < length (storeIn (now s) .records)) ⌝ }
-    ensures { λ _. ⌜ now (s .exit) ≡ bytesOf (withRecordSlot (storeIn (now (s .entry))) i (some r)) ⌝ }
+// A packet record takes the slot of index `i`, and the next `m` slots take what stood one before them.
+pub fn insert_record(s: &mut [u8], i: usize, m: usize, r: Record)
+    requires { ⌜ Exact (now s) × (i + m < length (storeIn (now s) .records)) ⌝ }
+    ensures { λ _. ⌜
+        now (s .exit) ≡
+        bytesOf (withRecords (storeIn (now (s .entry))) (insertedAt i m r (storeIn (now (s .entry)) .records)))
+        ⌝ }
 {
-    put_record(s, Store::RECORDS_FROM + Store::SLOT * i, r);
+    let at = Layout::RECORDS_FROM + Layout::SLOT * i;
+    shift_up(s, at, m);
+    put_record(s, at, r);
 }
 
-// The slot of index `i` becomes free.
+// The slots behind index `i` take what stood one behind them, and the last one becomes free.
 pub fn remove_record(s: &mut [u8], i: usize)
     requires { ⌜ Exact (now s) × (i < length (storeIn (now s) .records)) ⌝ }
-    ensures { λ _. ⌜ now (s .exit) ≡ bytesOf (withRecordSlot (storeIn (now (s .entry))) i none) ⌝ }
+    ensures { λ _. ⌜
+        now (s .exit) ≡
+        bytesOf (withRecords (storeIn (now (s .entry))) (removedAt i (storeIn (now (s .entry)) .records)))
+        ⌝ }
 {
-    put_zeros(s, Store::RECORDS_FROM + Store::SLOT * i, Store::SLOT);
+    let at = Layout::RECORDS_FROM + Layout::SLOT * i;
+    let last = s.len() - Layout::SLOT;
+    shift_down(s, at, (last - at) / Layout::SLOT);
+    put_zeros(s, last, Layout::SLOT);
 }

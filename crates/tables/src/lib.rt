@@ -1,3 +1,6 @@
-// The two tables of a lent store, searched slot by slot. What that means is in the definitions of slots.
-pub mod ordering; // what an ordering means for what is stored
+// The two tables of a lent store, searched slot by slot, or by halves where the packet records are in order. What that
+// means is in the definitions of slots.
+pub mod halves; // a packet record by its key, where the records are in order
+pub mod key; // what a packet record is found by
+pub mod ordering; // whether a channel is ordered
 pub mod scan; // the first slot that passes a test

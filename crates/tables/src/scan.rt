@@ -1,17 +1,16 @@
 // Scans of the two tables: the first slot that passes a test, by its index.
+use super::key::has_key;
 use slots::Found;
-use store::Store;
+use slots::Key;
+use slots::Layout;
 use wire::are_zero;
-use wire::u16_at;
 use wire::u32_at;
-use wire::u64_at;
 ghost use mathlib.Core.Path.{_≡_};
 ghost use Prim.Native.Nat.{_+_, _*_, _≤_};
 ghost use lib.ListN.{length};
-ghost use Rattle.wire.specs.Choice.{isSome};
 ghost use Rattle.wire.specs.Bytes.{part};
 ghost use Rattle.slots.specs.Limits.{channelLimit};
-ghost use Rattle.slots.specs.Table.{isNumbered, hasKey, lookup};
+ghost use Rattle.slots.specs.Table.{isNumbered, hasKey};
 ghost use Rattle.slots.specs.Layout.{headerSize, slotSize, recordsFrom, sizeFor};
 ghost use Rattle.slots.specs.Layout.{channelIn, recordIn, slotIn, storeIn};
 ghost use Rattle.slots.specs.Scan.{indexWhere, isAt, holds, firstFree, firstThat, tableFrom};
@@ -24,22 +23,7 @@ fn is_numbered(s: &[u8], at: usize, number: u32) -> bool
     if u32_at(s, at + 4) != number {
         return false;
     }
-    !are_zero(s, at, Store::SLOT)
-}
-
-// A free slot has no key. The sequence is what most records differ in.
-fn has_key(s: &[u8], at: usize, kind: u16, channel: u32, sequence: u64) -> bool
-    requires { ⌜ at + slotSize ≤ length (now s) ⌝ }
-    ensures { λ r. ⌜
-        r ≡
-        holds (hasKey (record { kind = kind; channel = channel; sequence = sequence }))
-        (slotIn recordIn (part at slotSize (now (s .entry))))
-        ⌝ }
-{
-    if u64_at(s, at + 8) != sequence {
-        return false;
-    }
-    (u16_at(s, at) == kind) & (u32_at(s, at + 4) == channel) & !are_zero(s, at, Store::SLOT)
+    !are_zero(s, at, Layout::SLOT)
 }
 
 // The first channel end of this number among the slots from `from` on.
@@ -52,8 +36,8 @@ pub fn first_channel(s: &[u8], from: usize, number: u32) -> Found
         ⌝ }
 {
     let mut i = from;
-    while i < Store::CHANNELS {
-        if is_numbered(s, Store::HEADER + Store::SLOT * i, number) {
+    while i < Layout::CHANNELS {
+        if is_numbered(s, Layout::HEADER + Layout::SLOT * i, number) {
             return Found::At(i);
         }
         i += 1;
@@ -61,31 +45,16 @@ pub fn first_channel(s: &[u8], from: usize, number: u32) -> Found
     Found::Nothing
 }
 
-// The first packet record of this key among the slots from `from` on.
-pub fn first_record(
-    s: &[u8],
-    count: usize,
-    from: usize,
-    kind: u16,
-    channel: u32,
-    sequence: u64,
-) -> Found
+// The first packet record of this key among the slots from `from` on, whatever their order.
+pub fn first_record(s: &[u8], count: usize, from: usize, k: Key) -> Found
     requires { ⌜ sizeFor count ≤ length (now s) ⌝ }
     ensures { λ r. ⌜
-        r ≡
-        indexWhere (holds (hasKey (record { kind = kind; channel = channel; sequence = sequence }))) from
-        (tableFrom recordIn recordsFrom count (now (s .entry)) from)
+        r ≡ indexWhere (holds (hasKey k)) from (tableFrom recordIn recordsFrom count (now (s .entry)) from)
         ⌝ }
 {
     let mut i = from;
     while i < count {
-        if has_key(
-            s,
-            Store::RECORDS_FROM + Store::SLOT * i,
-            kind,
-            channel,
-            sequence,
-        ) {
+        if has_key(s, Layout::RECORDS_FROM + Layout::SLOT * i, k) {
             return Found::At(i);
         }
         i += 1;
@@ -100,47 +69,19 @@ pub fn find_channel(s: &[u8], number: u32) -> Found
     first_channel(s, 0, number)
 }
 
-pub fn find_record(s: &[u8], count: usize, kind: u16, channel: u32, sequence: u64) -> Found
-    requires { ⌜ length (now s) ≡ sizeFor count ⌝ }
-    ensures { λ r. ⌜
-        r ≡
-        firstThat (hasKey (record { kind = kind; channel = channel; sequence = sequence }))
-        (storeIn (now (s .entry)) .records)
-        ⌝ }
-{
-    first_record(s, count, 0, kind, channel, sequence)
-}
-
-// The free slot of lowest index of a table of `count` slots, which starts at a place. Whatever its entries are, a free
-// one is all zero.
-fn first_free(s: &[u8], start: usize, count: usize) -> Found
-    requires { ⌜ start + slotSize * count ≤ length (now s) ⌝ }
-    ensures { λ r. ⌜ r ≡ firstFree (tableFrom (λ p. p) start count (now (s .entry)) 0) ⌝ }
-{
-    let mut i: usize = 0;
-    while i < count {
-        if are_zero(s, start + Store::SLOT * i, Store::SLOT) {
-            return Found::At(i);
-        }
-        i += 1;
-    }
-    Found::Nothing
-}
-
-// The free packet record of lowest index.
-pub fn find_free(s: &[u8], count: usize) -> Found
-    requires { ⌜ length (now s) ≡ sizeFor count ⌝ }
-    ensures { λ r. ⌜ r ≡ firstFree (storeIn (now (s .entry)) .records) ⌝ }
-{
-    first_free(s, Store::RECORDS_FROM, count)
-}
-
 // The free channel record of lowest index.
 pub fn find_free_channel(s: &[u8]) -> Found
     requires { ⌜ recordsFrom ≤ length (now s) ⌝ }
     ensures { λ r. ⌜ r ≡ firstFree (storeIn (now (s .entry)) .channels) ⌝ }
 {
-    first_free(s, Store::HEADER, Store::CHANNELS)
+    let mut i: usize = 0;
+    while i < Layout::CHANNELS {
+        if are_zero(s, Layout::HEADER + Layout::SLOT * i, Layout::SLOT) {
+            return Found::At(i);
+        }
+        i += 1;
+    }
+    Found::Nothing
 }
 
 pub fn is_found(f: Found) -> bool
@@ -150,15 +91,4 @@ pub fn is_found(f: Found) -> bool
         Found::At(_) => true,
         Found::Nothing => false,
     }
-}
-
-pub fn has_record(s: &[u8], count: usize, kind: u16, channel: u32, sequence: u64) -> bool
-    requires { ⌜ length (now s) ≡ sizeFor count ⌝ }
-    ensures { λ r. ⌜
-        r ≡
-        isSome
-        (lookup (record { kind = kind; channel = channel; sequence = sequence }) (storeIn (now (s .entry)) .records))
-        ⌝ }
-{
-    is_found(find_record(s, count, kind, channel, sequence))
 }

@@ -1,33 +1,44 @@
--- A packet record is stored over its slot: `exact-record`. Assumes nothing.
-use mathlib.Core.Path.{_≡_, _∙_}
-use mathlib.Core.Option.{some}
+-- Slots move up, and the record is stored over the first of them: `exact-inserted`. Assumes nothing.
+use mathlib.Core.Path.{_≡_, ap, _∙_}
+use Prim.Native.Nat.{_+_, _*_}
 use native.Mathlib.Omega.{arith}
 use lib.ListN.{length}
 use denote.Ref.{now}
 use borrow.Author.Needs.{needs}
+use Rattle.wire.specs.Bytes.{patch}
 use Rattle.wire.proofs.PartLaws.{bytes-array}
-use Rattle.slots.specs.Layout.{slotBytes}
+use Rattle.wire.proofs.PatchLaws.{length-patch}
+use Rattle.slots.specs.Layout.{slotSize, recordsFrom, recordBytes}
 use Rattle.slots.proofs.LayoutLaws.{length-record}
-use Rattle.slots.proofs.EffectLaws.{exact-record, exact-room}
+use Rattle.slots.proofs.EffectLaws.{exact-room}
+use Rattle.changes.proofs.ShiftLaws.{exact-inserted}
 use Rattle.changes.proofs.insert_record.Statement.{statement}
 use Rattle.changes.proofs.insert_record.Tie as tie
 
+full : (o : tie.Start) → length (o .args .r .digest) ≡ 32
+full o = search needs
+
+put-record-requires : tie.Need-put-record-requires
+put-record-requires c κs =
+    let shift = c .before .before .before in
+    let o = shift .before .before .before in
+    omega (arith, exact-room _ (o .pre .0), ap length (shift .shift-up .ensures) ∙ length-patch _ _ _)
+
 returns : tie.Need-returns
-unfolding slotBytes
 returns c =
-    let first = c .before .before .before .before in
+    let put = c .before .before in
+    let shift = put .before .before .before .before in
+    let first = shift .before .before in
     let o = first .before in
     let a = o .args in
     let bytes = bytes-array (now (a .s)) (first .slice-known .given) in
-    let full : length (a .r .digest) ≡ 32 = search needs in
-    c .before .before .put-record .ensures ∙
-    exact-record (now (a .s)) (o .pre .0) bytes (a .i) (some (a .r)) (length-record (a .r) full, tt) (o .pre .1)
+    put .put-record .ensures ∙
+    ap (patch (recordsFrom + slotSize * a .i) (recordBytes (a .r))) (shift .shift-up .ensures) ∙
+    exact-inserted (now (a .s)) (o .pre .0) bytes (a .i) (a .m) (a .r) (length-record (a .r) (full o)) (o .pre .1)
 
 pub insert-record-spec : {M : Type 1} → statement M
 insert-record-spec =
     tie.close
     (tie.spec
-    (λ c. omega (arith, exact-room _ (c .before .before .pre .0)))
-    (λ c. omega (arith, exact-room _ (c .before .before .pre .0)))
-    (λ c κs. omega
-    (arith, exact-room _ (c .before .before .pre .0))) (λ c. search needs) returns)
+    (λ c. omega (arith, exact-room _ (c .before .pre .0))) (λ c. omega (arith, exact-room _ (c .before .pre .0)))
+    (λ c κs. omega (arith, exact-room _ (c .before .before .pre .0))) put-record-requires (λ c. search needs) returns)
