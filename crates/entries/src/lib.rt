@@ -1,13 +1,15 @@
 // Whether an entry of a store fits: a channel end by itself, and a packet record beside its channel end.
 use slots::Channel;
 use slots::Found;
+use slots::Key;
+use slots::Layout;
 use slots::Record;
 use slots::Timeout;
 use slots::slot::channel_at;
-use store::Store;
 use tables::ordering::is_ordered;
-use tables::ordering::is_received;
 use tables::scan::find_channel;
+use tables::scan::first_record;
+use tables::scan::is_found;
 use versions::is_padded;
 use wire::is_zero_digest;
 use wire::u32_at;
@@ -53,6 +55,22 @@ fn receipt_fits(r: Record, c: Channel) -> bool
     !is_ordered(c) & is_no_timeout(t) & is_zero_digest(d)
 }
 
+// Ordered: the sequence is below next receive. Unordered: its receipt is there, wherever it stands.
+fn is_received(s: &[u8], count: usize, c: Channel, sequence: u64) -> bool
+    requires { ⌜ length (now s) ≡ sizeFor count ⌝ }
+    ensures { λ r. ⌜ r ≡ isReceived (storeIn (now (s .entry)) .records) c sequence ⌝ }
+{
+    if is_ordered(c) {
+        return sequence < c.next.receive;
+    }
+    let k = Key {
+        kind: Record::RECEIPT,
+        channel: c.own.channel,
+        sequence: sequence,
+    };
+    is_found(first_record(s, count, 0, k))
+}
+
 fn acknowledgement_fits(s: &[u8], count: usize, r: Record, c: Channel) -> bool
     requires { ⌜ length (now s) ≡ sizeFor count ⌝ }
     ensures { λ b. ⌜
@@ -84,6 +102,6 @@ pub fn record_fits(s: &[u8], count: usize, r: Record) -> bool
     let Found::At(j) = find_channel(s, r.channel) else {
         return false;
     };
-    let c = channel_at(s, Store::HEADER + Store::SLOT * j);
+    let c = channel_at(s, Layout::HEADER + Layout::SLOT * j);
     (1 <= r.sequence) & fits_end(s, count, r, c)
 }

@@ -10,24 +10,23 @@ use lib.Dec.{leb}
 use lib.ListN.{length, take, drop, length-drop, take-append-drop, drop-of-length-le}
 use lib.Seq.{length-take-le, drop-drop}
 use borrow.Author.Tests.{not-true, not-false}
-use Rattle.wire.specs.Choice.{_and_, _or_, isSome}
+use Rattle.wire.specs.Choice.{_and_, _or_}
 use Rattle.wire.specs.Bytes.{same, areZero, part, field, pieces, digestSize}
 use Rattle.wire.proofs.ChoiceLaws.{cases, of-pick, and-assoc, and-true, and-comm, and-swap}
 use Rattle.wire.proofs.BytesLaws.{eq-same, length-part, pieces-turn, pieces-end}
 use Rattle.wire.proofs.PartLaws.{same-append}
 use Rattle.slots.specs.declared.Channel.{Channel}
 use Rattle.slots.specs.Limits.{channelLimit, versionSize}
-use Rattle.slots.specs.Table.{find, all, distinct, sameNumber, sameKey}
+use Rattle.slots.specs.Table.{all, distinct, sameNumber}
 use Rattle.slots.specs.Layout.{headerSize, slotSize, recordsFrom, roomIn}
 use Rattle.slots.specs.Layout.{channelBytes, recordBytes, slotBytes, tableBytes, headerBytes, bytesOf}
 use Rattle.slots.specs.Layout.{channelIn, recordIn, slotIn, tableIn, storeIn}
-use Rattle.slots.specs.Scan.{indexWhere, isAt, holds, slotAt, slotsFrom}
-use Rattle.slots.specs.Fit.{channelFits, channelsFit, isBelow, numbersFit, recordFits, recordsFit, storeFits}
-use Rattle.slots.specs.Fit.{sizeFits, isFit}
+use Rattle.slots.specs.Scan.{slotAt, slotsFrom}
+use Rattle.slots.specs.Fit.{channelFits, channelsFit, isBelow, numbersFit, recordFits, entriesFit}
+use Rattle.slots.specs.Fit.{sizeFits, isLaidOut}
 use Rattle.slots.proofs.LayoutLaws.{length-header, length-channel, length-record}
 use Rattle.slots.proofs.FitLaws.{fits-size, length-read}
-use Rattle.slots.proofs.SlotTestLaws.{find-at}
-use Rattle.fit.specs.EverySlot.{everySlot, fitsBelow, isExact, slotFits}
+use Rattle.fit.specs.EverySlot.{everySlot, fitsBelow, isExact, isLone, anywhere, slotFits}
 use Rattle.fit.proofs.FieldLaws.{same-zeros}
 
 -- A TURN: after i turns the answer for all slots is the answer for those that are left. The test came to r
@@ -49,31 +48,31 @@ module _ (t : List ℕ → List (List ℕ) → Bool) (start n : ℕ) (bs : List 
     unfolding everySlot
     passed h = rw (left, pieces-end slotSize start n bs i h)
 
--- A SLOT: its bytes are zero; or x is read there, is exact as e tells, and passes as r tells, and f tells whether an
--- entry behind has its name
-module _ {A : Type 0} (write : A → List ℕ) (g : List ℕ → A) (t : A → Bool) (u : A → A → Bool) (p : List ℕ)
-    (ps : List (List ℕ)) {zero : Bool} (bytes : zero ≡ areZero p) where
-  pub slot-free : zero ≡ true → true ≡ slotFits write g t u p ps
+-- A SLOT: its bytes are zero; or x is read there, is exact as e tells, and passes as r tells, and b tells of the slots
+-- behind it
+module _ {A : Type 0} (write : A → List ℕ) (g : List ℕ → A) (t : A → Bool) (v : A → List (Option A) → Bool)
+    (p : List ℕ) (ps : List (List ℕ)) {zero : Bool} (bytes : zero ≡ areZero p) where
+  pub slot-free : zero ≡ true → true ≡ slotFits write g t v p ps
   unfolding slotFits _or_
   slot-free h = let z = sym bytes ∙ h in rw z
 
-  pub slot-taken : zero ≡ false → (i : ℕ) {x : A} {e r f : Bool} → x ≡ g p → e ≡ isExact write g p → r ≡ t x →
-      f ≡ isAt (indexWhere (holds (u x)) i (map (slotIn g) ps)) → (e and r and not f) ≡ slotFits write g t u p ps
+  pub slot-taken : zero ≡ false → {x : A} {e r b : Bool} → x ≡ g p → e ≡ isExact write g p → r ≡ t x →
+      b ≡ v x (map (slotIn g) ps) → (e and r and b) ≡ slotFits write g t v p ps
   unfolding slotFits _or_
-  slot-taken h i read exact tested found =
-      let z = sym bytes ∙ h in
-      rw (z, exact, tested, found, ← find-at (u _) i (map (slotIn g) ps), read)
+  slot-taken h read exact tested behind = let z = sym bytes ∙ h in rw (z, exact, tested, behind, read)
 
--- A TABLE that is read, with any bytes behind it
-no-turn : (a : Bool) → (a and (true and true)) ≡ (true and a)
+-- A TABLE that is read, with any bytes behind it. `d` says of the whole table what `t` and `v` say of each entry
+no-turn : (a : Bool) {b : Bool} → b ≡ true → (a and b) ≡ (true and a)
 unfolding _and_
-no-turn a = and-true a
+no-turn a e = rw (e, and-true a)
 
 and-turn : (a s d f d' : Bool) {q : Bool} → (a and d) ≡ (f and d') → (s and d') ≡ q → ((a and s) and d) ≡ (f and q)
 and-turn a s d f d' {q} h k =
     rw (and-assoc a s d, and-comm s d, ← and-assoc a d s, h, and-assoc f d' s, and-comm d' s, k)
 
-module _ {A : Type 0} (f : A → List ℕ) (g : List ℕ → A) (t : A → Bool) (u : A → A → Bool)
+module _ {A : Type 0} (f : A → List ℕ) (g : List ℕ → A) (t : A → Bool) (v : A → List (Option A) → Bool)
+    (d : List (Option A) → Bool) (empty : d [] ≡ true) (free : (xs : List (Option A)) → d (none ∷ xs) ≡ d xs)
+    (taken : (x : A) (xs : List (Option A)) → d (some x ∷ xs) ≡ (t x and v x xs and d xs))
     (sized : (p : List ℕ) → length p ≡ slotSize → length (f (g p)) ≡ slotSize) where
   length-slot : (p : List ℕ) → length p ≡ slotSize → length (slotBytes f (slotIn g p)) ≡ slotSize
   unfolding slotBytes slotIn
@@ -83,27 +82,25 @@ module _ {A : Type 0} (f : A → List ℕ) (g : List ℕ → A) (t : A → Bool)
 
   -- a slot more
   slot-more : (p : List ℕ) (ps : List (List ℕ)) → length p ≡ slotSize → let xs = map (slotIn g) ps in
-      (same (slotBytes f (slotIn g p)) p and (all t (slotIn g p ∷ xs) and distinct u (slotIn g p ∷ xs))) ≡
-      (slotFits f g t u p ps and (all t xs and distinct u xs))
-  unfolding slotBytes slotIn slotFits all distinct _and_ _or_
+      (same (slotBytes f (slotIn g p)) p and d (slotIn g p ∷ xs)) ≡ (slotFits f g t v p ps and d xs)
+  unfolding slotBytes slotIn slotFits _and_ _or_
   slot-more p ps l =
       let xs : List (Option A) = map (slotIn g) ps in
-      let lone : Bool = not (isSome (find (u (g p)) xs)) in
-      cases (areZero p) (λ e. rw (slotIn, e, same-zeros slotSize p l, e))
+      cases (areZero p) (λ e. rw (slotIn, e, same-zeros slotSize p l, e, free xs))
       (λ e.
       rw (
         slotIn,
         e,
-        and-swap (t (g p)) (all t xs) lone (distinct u xs),
-        and-assoc (isExact f g p) (t (g p)) lone,
-        and-assoc (isExact f g p) (t (g p) and lone),
+        taken (g p) xs,
+        and-assoc (isExact f g p) (t (g p)) (v (g p) xs),
+        and-assoc (isExact f g p) (t (g p) and v (g p) xs) (d xs),
       ))
 
   table-fits : (n : ℕ) (bs rest : List ℕ) → slotSize * n ≤ length bs → let xs = tableIn g n bs in
-      (same (tableBytes f xs ++ rest) bs and (all t xs and distinct u xs)) ≡
-      (everySlot (slotFits f g t u) (pieces slotSize n bs) and same rest (drop (slotSize * n) bs))
-  unfolding tableBytes pieces everySlot all distinct
-  table-fits zero bs rest l = no-turn (same rest bs)
+      (same (tableBytes f xs ++ rest) bs and d xs) ≡
+      (everySlot (slotFits f g t v) (pieces slotSize n bs) and same rest (drop (slotSize * n) bs))
+  unfolding tableBytes pieces everySlot
+  table-fits zero bs rest l = no-turn (same rest bs) empty
   table-fits (suc n) bs rest l =
       let p : List ℕ = take slotSize bs in
       let bs' : List ℕ = drop slotSize bs in
@@ -120,9 +117,27 @@ module _ {A : Type 0} (f : A → List ℕ) (g : List ℕ → A) (t : A → Bool)
         halves,
         e,
         ← drop-drop (slotSize * n) slotSize bs,
-        and-assoc (slotFits f g t u p (pieces slotSize n bs')),
+        and-assoc (slotFits f g t v p (pieces slotSize n bs')),
       )
       (and-turn (same x p) (same (y ++ rest) bs') _ _ _ (slot-more p (pieces slotSize n bs') lp) ih)
+
+-- each entry passes, and no two have one name; or each passes, wherever it stands
+module _ {A : Type 0} (f : A → List ℕ) (g : List ℕ → A) (t : A → Bool)
+    (sized : (p : List ℕ) → length p ≡ slotSize → length (f (g p)) ≡ slotSize) (n : ℕ) (bs rest : List ℕ)
+    (room : slotSize * n ≤ length bs) where
+  apart-fits : (u : A → A → Bool) → let xs = tableIn g n bs in
+      (same (tableBytes f xs ++ rest) bs and (all t xs and distinct u xs)) ≡
+      (everySlot (slotFits f g t (isLone u)) (pieces slotSize n bs) and same rest (drop (slotSize * n) bs))
+  unfolding all distinct _and_
+  apart-fits u =
+      table-fits f g t (isLone u) (λ xs. all t xs and distinct u xs) refl (λ xs. refl)
+      (λ x xs. and-swap (t x) (all t xs) (isLone u x xs) (distinct u xs)) sized n bs rest room
+
+  all-fit : let xs = tableIn g n bs in
+      (same (tableBytes f xs ++ rest) bs and all t xs) ≡
+      (everySlot (slotFits f g t anywhere) (pieces slotSize n bs) and same rest (drop (slotSize * n) bs))
+  unfolding all
+  all-fit = table-fits f g t anywhere (all t) refl (λ xs. refl) (λ x xs. rw and-true) sized n bs rest room
 
 -- THE STORE: the header, and each slot of its two tables
 record-size : (p : List ℕ) → length p ≡ slotSize → length (recordBytes (recordIn p)) ≡ slotSize
@@ -172,13 +187,15 @@ two-tables h a l b c d e {q} first second =
       ← and-assoc (h and l) c q,
     )
 
-pub fit-parts : (bs : List ℕ) → sizeFits (length bs) ≡ true → let n = roomIn (length bs) in let m = field 28 8 bs in
-    isFit bs ≡
+pub entries-parts : (bs : List ℕ) → sizeFits (length bs) ≡ true →
+    let n = roomIn (length bs) in let m = field 28 8 bs in
+    (isLaidOut bs and entriesFit (storeIn bs)) ≡
     (same (headerBytes (field 8 8 bs) (field 16 8 bs) n m) (part 0 headerSize bs) and leb 1 m and
-    everySlot (slotFits channelBytes channelIn (fitsBelow m) sameNumber) (slotsFrom headerSize channelLimit bs 0) and
-    everySlot (slotFits recordBytes recordIn (recordFits (storeIn bs)) sameKey) (slotsFrom recordsFrom n bs 0))
-unfolding isFit storeFits recordsFit bytesOf storeIn part _and_
-fit-parts bs fits =
+    everySlot (slotFits channelBytes channelIn (fitsBelow m) (isLone sameNumber))
+    (slotsFrom headerSize channelLimit bs 0) and
+    everySlot (slotFits recordBytes recordIn (recordFits (storeIn bs)) anywhere) (slotsFrom recordsFrom n bs 0))
+unfolding isLaidOut entriesFit bytesOf storeIn part _and_
+entries-parts bs fits =
     let n : ℕ = roomIn (length bs) in
     let m : ℕ = field 28 8 bs in
     let size = fits-size (length bs) fits .whole in
@@ -195,10 +212,9 @@ fit-parts bs fits =
     ap (same (h ++ (c ++ r))) (sym (take-append-drop headerSize bs)) ∙
     same-append h front (c ++ r) tables (length-header (field 8 8 bs) (field 16 8 bs) n m ∙ sym lf) in
     let all = drop-of-length-le last {i = slotSize * n} (omega arith) in
-    let channels = table-fits channelBytes channelIn (fitsBelow m) sameNumber channel-size
-    channelLimit tables r (omega arith) in
-    let records = table-fits recordBytes recordIn (recordFits (storeIn bs)) sameKey record-size n last []
-    (omega arith) in
+    let channels = apart-fits channelBytes channelIn (fitsBelow m) channel-size channelLimit tables r (omega arith)
+    sameNumber in
+    let records = all-fit recordBytes recordIn (recordFits (storeIn bs)) record-size n last [] (omega arith) in
     rw (fits, length-read recordIn n last, sub-zero n, whole, channels-below m (storeIn bs .channels))
     (two-tables (same h front) _ (leb 1 m) _ _ _ _ (rw (drop-drop (slotSize * channelLimit) headerSize bs) at channels)
     (rw (append-nil, all, eq-same [], and-true) at records))

@@ -1,3 +1,4 @@
 mod FieldLaws
 mod ExactLaws
-mod EverySlotLaws
+pub mod EverySlotLaws
+mod PairLaws

@@ -1,6 +1,7 @@
 -- Tests of each slot of a table, one after another.
 use mathlib.Core.Bool.{Bool, true, not}
 use mathlib.Core.List.{List, [], _∷_, map}
+use mathlib.Core.Option.{Option}
 use Prim.Native.Nat.{ℕ}
 use Rattle.wire.specs.Choice.{_and_, _or_, isSome}
 use Rattle.wire.specs.Bytes.{same, areZero}
@@ -22,8 +23,14 @@ fitsBelow n c = channelFits c and isBelow n c
 abbrev pub isExact : {A : Type 0} → (A → List ℕ) → (List ℕ → A) → List ℕ → Bool
 isExact f g p = same (f (g p)) p
 
--- a slot is free; or it is exact, its entry passes a test, and no entry behind it has its name
-unfoldable pub slotFits : {A : Type 0} → (A → List ℕ) → (List ℕ → A) → (A → Bool) → (A → A → Bool) → List ℕ →
-    List (List ℕ) → Bool
-slotFits f g t u p behind =
-    areZero p or (isExact f g p and t (g p) and not (isSome (find (u (g p)) (map (slotIn g) behind))))
+-- TESTS of the slots behind an entry: no entry there has its name; any may stand there
+abbrev pub isLone : {A : Type 0} → (A → A → Bool) → A → List (Option A) → Bool
+isLone u x xs = not (isSome (find (u x) xs))
+
+abbrev pub anywhere : {A : Type 0} → A → List (Option A) → Bool
+anywhere x xs = true
+
+-- a slot is free; or it is exact, its entry passes a test, and another with the slots behind it
+unfoldable pub slotFits : {A : Type 0} → (A → List ℕ) → (List ℕ → A) → (A → Bool) → (A → List (Option A) → Bool) →
+    List ℕ → List (List ℕ) → Bool
+slotFits f g t v p behind = areZero p or (isExact f g p and t (g p) and v (g p) (map (slotIn g) behind))

@@ -8,13 +8,13 @@ use denote.Ref.{now}
 use Rattle.slots.specs.Limits.{channelLimit}
 use Rattle.slots.specs.Table.{sameNumber}
 use Rattle.slots.specs.Layout.{headerSize, channelBytes, channelIn}
-use Rattle.fit.specs.EverySlot.{fitsBelow, slotFits}
+use Rattle.fit.specs.EverySlot.{fitsBelow, isLone, slotFits}
 use Rattle.fit.proofs.EverySlotLaws.{everyFrom, fails, passes, passed}
 use Rattle.fit.proofs.channels_fit.Statement.{statement}
 use Rattle.fit.proofs.channels_fit.Tie as tie
 
 abbrev test : (next : ℕ) → List ℕ → List (List ℕ) → Bool
-test n = slotFits channelBytes channelIn (fitsBelow n) sameNumber
+test n = slotFits channelBytes channelIn (fitsBelow n) (isLone sameNumber)
 
 abbrev Inv-loop : tie.InvT-loop
 Inv-loop s next i₀ i =

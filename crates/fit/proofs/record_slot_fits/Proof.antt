@@ -1,13 +1,14 @@
 -- The tests are those of `slot-free` and `slot-taken`. Assumes nothing.
-use mathlib.Core.Path.{ap, _∙_}
+use mathlib.Core.Path.{refl, sym, _∙_}
 use mathlib.Core.List.{List}
 use Prim.Native.Nat.{ℕ, _+_}
 use denote.Ref.{now}
 use Rattle.wire.specs.Choice.{_and_}
-use Rattle.slots.specs.Table.{sameKey}
+use Rattle.wire.proofs.ChoiceLaws.{and-true}
 use Rattle.slots.specs.Layout.{recordsFrom, recordBytes, recordIn, storeIn}
 use Rattle.slots.specs.Fit.{recordFits}
-use Rattle.slots.specs.Scan.{slotAt, slotsFrom, isAt}
+use Rattle.slots.specs.Scan.{slotAt, slotsFrom}
+use Rattle.fit.specs.EverySlot.{anywhere}
 use Rattle.fit.proofs.EverySlotLaws.{slot-free, slot-taken}
 use borrow.Author.Needs.{needs}
 use Rattle.fit.proofs.record_slot_fits.Statement.{statement}
@@ -23,23 +24,23 @@ behind o = slotsFrom recordsFrom (o .args .count) (now (o .args .s)) (o .args .i
 returns : tie.Need-returns
 returns c =
     let o = c .before .before .before in
-    slot-free recordBytes recordIn (recordFits (storeIn (now (o .args .s)))) sameKey (slot o) (behind o)
+    slot-free recordBytes recordIn (recordFits (storeIn (now (o .args .s)))) anywhere (slot o) (behind o)
     (c .before .are-zero .ensures) (c .if1 .taken)
 
 returns-2 : tie.Need-returns-2
 unfolding _and_
 returns-2 c =
-    let x = c .before .before .before .before in
-    let d = x .before in
+    let e = c .before .before in
+    let d = e .before in
     let o = d .before .before .before in
-    slot-taken recordBytes recordIn (recordFits (storeIn (now (o .args .s)))) sameKey (slot o) (behind o)
-    (d .before .are-zero .ensures) (d .if1 .left) (o .args .i + 1) (x .record-at .ensures)
-    (c .before .before .before .is-record-exact .ensures) (c .before .before .record-fits .ensures)
-    (c .is-found .ensures ∙ ap isAt (c .before .first-record .ensures))
+    sym (and-true (e .is-record-exact .result and c .record-fits .result)) ∙
+    slot-taken recordBytes recordIn (recordFits (storeIn (now (o .args .s)))) anywhere (slot o) (behind o)
+    (d .before .are-zero .ensures) (d .if1 .left) (c .before .record-at .ensures) (e .is-record-exact .ensures)
+    (c .record-fits .ensures) refl
 
 pub record-slot-fits-spec : {M : Type 1} → statement M
 record-slot-fits-spec =
     tie.close
     (tie.spec
     (λ c. search needs) (λ c. search needs) (λ c κs. search needs) returns (λ c κs. search needs) (λ c κs. search needs)
-    (λ c κs. search needs) (λ c. search needs) (λ c κs. search needs) (λ c κs. search needs) returns-2)
+    (λ c κs. search needs) returns-2)

@@ -5,16 +5,15 @@ use mathlib.Core.List.{List}
 use Prim.Native.Nat.{ℕ, _-_}
 use native.Mathlib.Omega.{arith}
 use denote.Ref.{now}
-use Rattle.slots.specs.Table.{sameKey}
 use Rattle.slots.specs.Layout.{recordsFrom, recordBytes, recordIn, storeIn}
 use Rattle.slots.specs.Fit.{recordFits}
-use Rattle.fit.specs.EverySlot.{slotFits}
+use Rattle.fit.specs.EverySlot.{anywhere, slotFits}
 use Rattle.fit.proofs.EverySlotLaws.{everyFrom, fails, passes, passed}
 use Rattle.fit.proofs.records_fit.Statement.{statement}
 use Rattle.fit.proofs.records_fit.Tie as tie
 
 abbrev test : List ℕ → List ℕ → List (List ℕ) → Bool
-test s = slotFits recordBytes recordIn (recordFits (storeIn s)) sameKey
+test s = slotFits recordBytes recordIn (recordFits (storeIn s)) anywhere
 
 abbrev Inv-loop : tie.InvT-loop
 Inv-loop s count i₀ i = everyFrom (test s) recordsFrom count s 0 ≡ everyFrom (test s) recordsFrom count s i
