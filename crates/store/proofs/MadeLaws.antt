@@ -1,6 +1,6 @@
 -- Laws of what the maker writes: a header, the channel records in order, and zeros behind them. Assumes nothing.
 use mathlib.Core.Path.{_≡_, refl, sym, _∙_}
-use mathlib.Core.List.{List, [], _∷_, _++_, append-assoc, append-nil}
+use mathlib.Core.List.{List, [], _++_, append-assoc, append-nil}
 use mathlib.Core.Option.{Option, none}
 use Prim.Native.Nat.{ℕ, zero, suc, _+_, _*_, _-_, _/_}
 use native.Mathlib.Omega.{arith}
@@ -16,20 +16,15 @@ use Rattle.slots.specs.Codes.{storeKind}
 use Rattle.slots.specs.Layout.{slotSize, headerSize, sizeFor, roomIn}
 use Rattle.slots.specs.Layout.{channelBytes, recordBytes, slotBytes, tableBytes, headerBytes, bytesOf}
 use Rattle.openings.specs.Opening.{openingSize, openingsIn, openingOf, endsOf}
-use Rattle.store.specs.Maker.{leastAbove, makeNumber, madeStore, makeTold, makeStore}
-use Rattle.store.proofs.MakerLaws.{made, each-ends}
+use Rattle.openings.specs.Maker.{leastAbove, makeNumber, madeStore, makeTold, makeStore}
+use Rattle.openings.proofs.MakerLaws.{made, each-ends}
 use Rattle.slots.proofs.TableLaws.{Each}
 use Rattle.slots.proofs.LayoutLaws.{length-header, length-table}
+use Rattle.slots.proofs.TableBytesLaws.{table-append}
 use Rattle.openings.proofs.OpeningLaws.{length-ends, length-opened}
 
 -- TABLES
 module _ {A : Type 0} (f : A → List ℕ) where
-  table-append : (xs ys : List (Option A)) → tableBytes f (xs ++ ys) ≡ tableBytes f xs ++ tableBytes f ys
-  unfolding tableBytes
-  table-append [] ys = refl
-  table-append (x ∷ xs) ys =
-      rw (table-append xs ys, append-assoc (slotBytes f x) (tableBytes f xs) (tableBytes f ys))
-
   table-free : (n : ℕ) → tableBytes f (replicate n none) ≡ replicate (slotSize * n) 0
   unfolding tableBytes slotBytes
   table-free zero = refl

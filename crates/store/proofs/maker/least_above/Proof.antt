@@ -10,8 +10,8 @@ use borrow.Author.Tests.{lt-ltb, le-ltb}
 use Rattle.wire.specs.Choice.{pick}
 use Rattle.openings.specs.Opening.{openingSize, endsOf, endsFrom}
 use Rattle.openings.proofs.OpeningLaws.{openings-over}
-use Rattle.store.specs.Maker.{leastAbove}
-use Rattle.store.proofs.LeastLaws.{least-turn}
+use Rattle.openings.specs.Maker.{leastAbove}
+use Rattle.openings.proofs.LeastLaws.{least-turn}
 use Rattle.store.proofs.maker.least_above.Statement.{statement}
 use Rattle.store.proofs.maker.least_above.Tie as tie
 

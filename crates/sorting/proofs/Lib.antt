@@ -1,0 +1,4 @@
+pub mod SettleLaws
+pub mod SortLaws
+pub mod PassLaws
+pub mod KeysLaws
