@@ -6,7 +6,7 @@ use Rattle.wire.proofs.Laws.{cases}
 use Rattle.slots.specs.declared.Channel.{Channel}
 use Rattle.slots.specs.Names.{stateInit, stateOpen, channelAt, commitmentKey, lookup, storeIn, Store}
 use Rattle.slots.proofs.Laws.{channel-number, next-low, number-below, fit-numbers}
-use Rattle.store.proofs.MakerLaws.{made-lookup}
+use Rattle.openings.proofs.MakerLaws.{made-lookup}
 use Rattle.datagram.specs.Names.{Datagram}
 use Rattle.rules.specs.Names.{numberAfter, EndEdit, fold, Side, EndsStay, NumbersRise}
 use Rattle.rules.proofs.VerdictLaws.{OneEnd, one-sym}

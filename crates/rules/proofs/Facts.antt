@@ -4,7 +4,7 @@ use Rattle.wire.specs.Names.{same}
 use Rattle.slots.specs.declared.Channel.{Channel}
 use Rattle.slots.specs.Names.{channelAt, storeIn}
 use Rattle.slots.proofs.Laws.{Each}
-use Rattle.store.specs.Maker.{makeTold}
+use Rattle.openings.specs.Maker.{makeTold}
 use Rattle.rules.specs.Names.{Side, openedStores, across, Peers, aSlice, openingsOn, first, second, requests}
 use Rattle.rules.specs.Names.{stores, history, numbersTold, Happened}
 use Rattle.rules.proofs.HonestLaws.{areAll, isHonest, seen}

@@ -1,5 +1,5 @@
 -- What an accepted call leaves fits its fields: the end, the new record, and the two tables. Assumes nothing.
-use Rattle.wire.proofs.Prelude.{_≡_, refl, sym, ap, subst, _∙_, false, List, none, some, ℕ, _+_, _^_, _≤_, _<_, arith}
+use Rattle.wire.proofs.Prelude.{_≡_, refl, sym, ap, subst, _∙_, false, List, some, ℕ, _+_, _^_, _≤_, _<_, arith}
 use Rattle.wire.proofs.Prelude.{eqb, length, eqb-false}
 use Rattle.wire.specs.Names.{_or_, Bytes, digestSize, noDigest}
 use Rattle.wire.proofs.Laws.{of-pick, bytes-zeros, field-below, bytes-part}
@@ -8,8 +8,9 @@ use Rattle.slots.specs.declared.Counters.{Counters}
 use Rattle.slots.specs.declared.Channel.{Channel}
 use Rattle.slots.specs.declared.Record.{Record}
 use Rattle.slots.specs.Names.{top, stateInit, stateTryOpen, stateOpen, stateClosed, receiptKind, acknowledgementKind}
-use Rattle.slots.specs.Names.{isNumbered, hasKey, commitmentKey, channelIn, Store, slotSize, isOrdered}
-use Rattle.slots.proofs.Laws.{Each, each-find, each-replace, length-replace, each-insert, length-insert, padded-size}
+use Rattle.slots.specs.Names.{isNumbered, commitmentKey, channelIn, Store, slotSize, isOrdered}
+use Rattle.slots.proofs.Laws.{Each, each-find, each-replace, length-replace, each-place, length-place, padded-size}
+use Rattle.slots.proofs.Laws.{each-insert, length-insert, each-remove, length-remove}
 use Rattle.slots.proofs.Laws.{padded-bytes, PortChannelFields, CounterFields, ChannelFields, RecordFields, StoreFields}
 use Rattle.datagram.specs.Names.{only, body, hasPart, send, endVerdictIn, endVerdictFrom, datagramIn, Datagram}
 use Rattle.datagram.proofs.Laws.{Sound, PacketFields, packet-fields, timeout-fields, sequence-below, length-digest}
@@ -203,8 +204,8 @@ module _ {s t : Store} (b : List ℕ) (st : Step s (datagramIn b) t) (fields : S
     each-replace ChannelFields _ (some e) (s .channels) (h, tt) (fields .channels),
   )
   ends-fields (adds e) h = (
-    length-insert e (s .channels),
-    each-insert ChannelFields e (s .channels) h (fields .channels),
+    length-place (λ x. false) e (s .channels),
+    each-place (λ x. false) ChannelFields e (s .channels) h (fields .channels),
   )
 
   records-fields : {e : Channel} (x : Edit) → Legal s d c e x →
@@ -216,8 +217,8 @@ module _ {s t : Store} (b : List ℕ) (st : Step s (datagramIn b) t) (fields : S
     each-insert RecordFields r (s .records) (new-fields e r by) (fields .records),
   )
   records-fields x (freeing {n = n} {m = m} _) = (
-    length-replace (hasKey (commitmentKey n m)) none (s .records),
-    each-replace RecordFields (hasKey (commitmentKey n m)) none (s .records) tt (fields .records),
+    length-remove (commitmentKey n m) (s .records),
+    each-remove RecordFields (commitmentKey n m) (s .records) (fields .records),
   )
 
   number-after : {x : EndEdit} → Turns s d c x → numberAfter x (s .next) < 256 ^ 8

@@ -4,7 +4,8 @@ use Rattle.wire.specs.Names.{_or_, isSome, noDigest}
 use Rattle.wire.proofs.Laws.{of-pick, not-some, none-if}
 use Rattle.slots.specs.declared.Channel.{Channel}
 use Rattle.slots.specs.declared.Record.{Record}
-use Rattle.slots.specs.Names.{stateOpen, commitmentKind, receiptKind, acknowledgementKind, hasFree, channelAt, Key}
+use Rattle.slots.specs.declared.Key.{Key}
+use Rattle.slots.specs.Names.{stateOpen, commitmentKind, receiptKind, acknowledgementKind, hasFree, channelAt}
 use Rattle.slots.specs.Names.{commitmentKey, keyOf, lookup, Store, isOrdered, isReceived, storeFits}
 use Rattle.slots.proofs.Laws.{Single, insert-keeps, lookup-remove-other, fit-single, committed-end}
 use Rattle.datagram.specs.declared.Packet.{Packet}

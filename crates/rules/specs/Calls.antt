@@ -11,7 +11,7 @@ use Rattle.wire.specs.Bytes.{Bytes}
 use Rattle.slots.specs.declared.Channel.{Channel}
 use Rattle.slots.specs.Table.{channelAt}
 use Rattle.slots.specs.Layout.{storeIn}
-use Rattle.store.specs.Maker.{makeTold, makeStore}
+use Rattle.openings.specs.Maker.{makeTold, makeStore}
 use Rattle.datagram.specs.declared.Packet.{Packet}
 use Rattle.datagram.specs.Datagram.{Datagram, kindIn, datagramIn}
 use Rattle.datagram.specs.Emitted.{sentKind, deliveredKind, acknowledgedKind, timedOutKind, emittedPacket}

@@ -11,7 +11,7 @@ use lib.ListN.{replicate, take, drop, set}
 use Rattle.wire.specs.Bytes.{little, noDigest}
 use Rattle.slots.specs.Limits.{top}
 use Rattle.slots.specs.Layout.{storeIn}
-use Rattle.store.specs.Maker.{makeStore}
+use Rattle.openings.specs.Maker.{makeStore}
 use Rattle.datagram.specs.declared.Packet.{Packet}
 use Rattle.datagram.specs.Datagram.{datagramIn, verdictsOf}
 use Rattle.datagram.specs.Emitted.{framed, packetBytes}
@@ -99,7 +99,7 @@ timedOut p = framed 0x0105 (packetBytes p) ++ replicate 32 9
 
 abbrev pub timedOutEach : (state : ℕ) → List Answer
 timedOutEach s =
-    answered 74 (storeWith 4 s (replicate 64 0 ++ committed 2)) (timedOut packetOne) ∷
+    answered 74 (storeWith 4 s (committed 2)) (timedOut packetOne) ∷
     answered 74 (storeWith s s (committed 1)) (timedOut packetTwo) ∷ []
 
 -- CHANGED: verdicts that have another byte in one place, those of an end, those of a packet, or both alike; and packets

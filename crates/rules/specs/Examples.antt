@@ -6,7 +6,7 @@ use lib.ListN.{length, replicate}
 use Rattle.wire.specs.Bytes.{little, noDigest}
 use Rattle.slots.specs.Limits.{outputLimit}
 use Rattle.slots.specs.Layout.{sizeFor}
-use Rattle.store.specs.Maker.{makeStore}
+use Rattle.openings.specs.Maker.{makeStore}
 use Rattle.datagram.specs.declared.Packet.{Packet}
 use Rattle.datagram.specs.Emitted.{framed, packetBytes}
 

@@ -8,7 +8,7 @@ use Prim.Native.Nat.{ℕ, _+_, _-_}
 use lib.ListN.{length, replicate, drop, take, set}
 use Rattle.wire.specs.Bytes.{little, noDigest}
 use Rattle.slots.specs.Layout.{storeIn}
-use Rattle.store.specs.Maker.{makeStore}
+use Rattle.openings.specs.Maker.{makeStore}
 use Rattle.rules.specs.Call.{Answer, called, refused, callTold}
 use Rattle.rules.specs.Calls.{fold}
 use Rattle.rules.specs.Examples.{anOpening, aSlice, openings, empty, aContext, aDigest, anAnswer, aBlock}

@@ -5,7 +5,7 @@ use mathlib.Core.Path.{_≡_}
 use mathlib.Core.List.{List, [], _∷_, _++_, map}
 use Prim.Native.Nat.{ℕ}
 use lib.ListN.{length, replicate}
-use Rattle.store.specs.Maker.{makeStore}
+use Rattle.openings.specs.Maker.{makeStore}
 use Rattle.datagram.specs.declared.Packet.{Packet}
 use Rattle.datagram.specs.Emitted.{writtenKind, madeKind}
 use Rattle.rules.specs.Refusals.{every, orNone}
