@@ -15,8 +15,8 @@ use records::edit_records;
 use records::slot_of;
 use slots::Channel;
 use slots::Found;
+use slots::Layout;
 use slots::slot::channel_at;
-use store::Store;
 use tables::scan::find_channel;
 use tables::scan::find_free_channel;
 use wire::u64_at;
@@ -56,7 +56,7 @@ fn end_of(store: &[u8], number: u32) -> Channel
     let Found::At(j) = find_channel(store, number) else {
         return no_channel();
     };
-    channel_at(store, Store::HEADER + Store::SLOT * j)
+    channel_at(store, Layout::HEADER + Layout::SLOT * j)
 }
 
 // The slot of the end that changes, or the free one of lowest index.

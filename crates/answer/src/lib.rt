@@ -27,6 +27,7 @@ use rows::time_out_row;
 use rows::write_row;
 use slots::Channel;
 use slots::Found;
+use slots::Layout;
 use slots::OwnHeight;
 use slots::PortChannel;
 use slots::VERSION;
@@ -36,7 +37,6 @@ use steps::open_acknowledge_row;
 use steps::open_confirm_row;
 use steps::open_init_row;
 use steps::open_try_row;
-use store::Store;
 use tables::scan::find_channel;
 use versions::version_fits;
 use versions::version_from;
@@ -74,7 +74,7 @@ pub fn answer(store: &[u8], room: usize, datagram: &[u8]) -> u8
     if !is_fit(store) {
         return 1;
     }
-    if room < Store::OUTPUT {
+    if room < Layout::OUTPUT {
         return 2;
     }
     let Frame::Whole { kind, length } = frame_in(datagram) else {
@@ -101,7 +101,7 @@ fn answer_sound(store: &[u8], datagram: &[u8]) -> u8
         return 4;
     }
     let kind = kind_in(datagram);
-    let count = (store.len() - Store::RECORDS_FROM) / Store::SLOT;
+    let count = (store.len() - Layout::RECORDS_FROM) / Layout::SLOT;
     if (kind == OPEN_INIT) | (kind == OPEN_TRY) {
         return answer_by_kind(store, count, datagram, kind, x, no_channel());
     }
@@ -120,7 +120,7 @@ fn answer_on(store: &[u8], count: usize, datagram: &[u8], kind: u16, x: Context)
     let Found::At(j) = find_channel(store, channel_in(datagram, kind)) else {
         return 5;
     };
-    let c = channel_at(store, Store::HEADER + Store::SLOT * j);
+    let c = channel_at(store, Layout::HEADER + Layout::SLOT * j);
     if (kind <= ACKNOWLEDGE) & (c.state != Channel::OPEN) {
         return 6;
     }

@@ -19,8 +19,8 @@ use verdicts::block_difference;
 use verdicts::verdict_number;
 ghost use mathlib.Core.Path.{_≡_};
 ghost use mathlib.Core.Option.{some};
-ghost use lib.ListN.{length};
-ghost use Rattle.slots.specs.Layout.{Store, sizeFor, storeIn};
+ghost use Rattle.slots.specs.Layout.{Store, storeIn};
+ghost use Rattle.slots.specs.Scan.{RecordsInOrder};
 ghost use Rattle.datagram.specs.Kind.{closeInit, closeConfirm, timeOutOnClose};
 ghost use Rattle.datagram.specs.Datagram.{Datagram};
 ghost use Rattle.verdicts.specs.Lines.{numberBehind};
@@ -65,7 +65,7 @@ pub fn time_out_on_close_row(
     w: Verdict,
     c: Channel,
 ) -> u8
-    requires { ⌜ length (now store) ≡ sizeFor count ⌝ }
+    requires { ⌜ RecordsInOrder (now store) count ⌝ }
     ensures { λ r. ⌜
         ((d : Datagram) → d .packet ≡ p → d .endVerdict ≡ v → d .verdict ≡ w →
         r ≡ numberBehind 7 (some timeOutOnClose) (storeIn (now (store .entry))) d c)

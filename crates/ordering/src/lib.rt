@@ -1,15 +1,16 @@
-// What depends on a channel's ordering: the tests 14 for 5 and 12, 15, 16 for 2, 19, and 20 for 2; whether a counter
-// rises. `tables` has the test 17; nothing else depends on it.
+// What depends on a channel's ordering: the tests 14 for 5 and 12, 15, 16 for 2, 17, 19, and 20 for 2; whether a
+// counter rises. Beside it only the fitness of acknowledgements depends on it, in entries.
 use slots::Channel;
+use slots::Key;
 use slots::Record;
+use tables::halves::has_record;
 use tables::ordering::is_ordered;
-use tables::scan::has_record;
 ghost use mathlib.Core.Path.{_≡_};
 ghost use mathlib.Core.Bool.{true};
-ghost use lib.ListN.{length};
 ghost use Rattle.wire.specs.Choice.{pick};
-ghost use Rattle.slots.specs.Layout.{sizeFor, storeIn};
-ghost use Rattle.slots.specs.Ordering.{isOrdered};
+ghost use Rattle.slots.specs.Layout.{storeIn};
+ghost use Rattle.slots.specs.Ordering.{isOrdered, hasReceipt, isReceived};
+ghost use Rattle.slots.specs.Scan.{RecordsInOrder};
 ghost use Rattle.rules.specs.Ordering.{receivesInOrder, acknowledgesInOrder, timesOutInOrder, absenceClaim};
 ghost use Rattle.rules.specs.Ordering.{absenceSequence, isReceiptThere, raisesReceive, raisesAcknowledge};
 ghost use Rattle.datagram.specs.Claim.{claimNumber};
@@ -48,15 +49,38 @@ pub fn times_out_in_order(c: Channel, sequence: u64, claimed: u64) -> bool
     if_ordered(c, claimed <= sequence)
 }
 
+fn has_receipt(store: &[u8], count: usize, c: Channel, sequence: u64) -> bool
+    requires { ⌜ RecordsInOrder (now store) count ⌝ }
+    ensures { λ r. ⌜ r ≡ hasReceipt (storeIn (now (store .entry)) .records) c sequence ⌝ }
+{
+    let k = Key {
+        kind: Record::RECEIPT,
+        channel: c.own.channel,
+        sequence: sequence,
+    };
+    has_record(store, count, k)
+}
+
 // 16, for 2: a receipt is there. Only an unordered channel has any.
 pub fn is_receipt_there(store: &[u8], count: usize, c: Channel, sequence: u64) -> bool
-    requires { ⌜ length (now store) ≡ sizeFor count ⌝ }
+    requires { ⌜ RecordsInOrder (now store) count ⌝ }
     ensures { λ r. ⌜ r ≡ isReceiptThere (storeIn (now (store .entry)) .records) c sequence ⌝ }
 {
     if is_ordered(c) {
         return false;
     }
-    has_record(store, count, Record::RECEIPT, c.own.channel, sequence)
+    has_receipt(store, count, c, sequence)
+}
+
+// 17, for 3. Ordered: the sequence is below next receive. Unordered: its receipt is there.
+pub fn is_received(store: &[u8], count: usize, c: Channel, sequence: u64) -> bool
+    requires { ⌜ RecordsInOrder (now store) count ⌝ }
+    ensures { λ r. ⌜ r ≡ isReceived (storeIn (now (store .entry)) .records) c sequence ⌝ }
+{
+    if is_ordered(c) {
+        return sequence < c.next.receive;
+    }
+    has_receipt(store, count, c, sequence)
 }
 
 // 14, for 5 and 12: what a verdict has to claim of a packet that was not received, next receive or no receipt.

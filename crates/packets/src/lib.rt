@@ -5,21 +5,21 @@ use datagram::Packet;
 use heights::same_timeout;
 use slots::Channel;
 use slots::Found;
+use slots::Key;
+use slots::Layout;
 use slots::PortChannel;
 use slots::Record;
 use slots::Timeout;
 use slots::slot::record_at;
-use store::Store;
-use tables::scan::find_free;
-use tables::scan::find_record;
-use tables::scan::is_found;
+use tables::halves::find_record;
+use wire::are_zero;
 use wire::same_digest;
 ghost use mathlib.Core.Path.{_≡_};
 ghost use mathlib.Core.Bool.{not};
 ghost use mathlib.Core.Option.{some};
-ghost use lib.ListN.{length};
 ghost use Rattle.slots.specs.Table.{samePortChannel, hasFree};
-ghost use Rattle.slots.specs.Layout.{sizeFor, storeIn};
+ghost use Rattle.slots.specs.Layout.{storeIn};
+ghost use Rattle.slots.specs.Scan.{RecordsInOrder};
 ghost use Rattle.rules.specs.Verdict.{hasValues};
 ghost use Rattle.rules.specs.Refusals.{fitsDestination, fitsSource, isCommitted};
 
@@ -63,12 +63,16 @@ pub fn fits_source(c: Channel, p: Packet) -> bool
     same_port_channel(destination, counterparty)
 }
 
-// 20: a packet record is free.
+// 20: a packet record is free. The free ones stand behind, so that the last one tells.
 pub fn has_free(store: &[u8], count: usize) -> bool
-    requires { ⌜ length (now store) ≡ sizeFor count ⌝ }
+    requires { ⌜ RecordsInOrder (now store) count ⌝ }
     ensures { λ r. ⌜ r ≡ hasFree (storeIn (now (store .entry)) .records) ⌝ }
 {
-    is_found(find_free(store, count))
+    are_zero(
+        store,
+        Layout::RECORDS_FROM + Layout::SLOT * (count - 1),
+        Layout::SLOT,
+    )
 }
 
 fn has_values(timeout: Timeout, digest: [u8; 32], r: Record) -> bool
@@ -84,16 +88,15 @@ fn has_values(timeout: Timeout, digest: [u8; 32], r: Record) -> bool
 
 // 13: the commitment at the packet's source is there, with its timeouts and digest.
 pub fn is_committed(store: &[u8], count: usize, p: Packet) -> bool
-    requires { ⌜ length (now store) ≡ sizeFor count ⌝ }
+    requires { ⌜ RecordsInOrder (now store) count ⌝ }
     ensures { λ r. ⌜ r ≡ isCommitted (storeIn (now (store .entry)) .records) p ⌝ }
 {
-    let Found::At(i) = find_record(
-        store,
-        count,
-        Record::COMMITMENT,
-        p.source.channel,
-        p.sequence,
-    ) else {
+    let k = Key {
+        kind: Record::COMMITMENT,
+        channel: p.source.channel,
+        sequence: p.sequence,
+    };
+    let Found::At(i) = find_record(store, count, k) else {
         return false;
     };
     let timeout = p.timeout;
@@ -101,6 +104,6 @@ pub fn is_committed(store: &[u8], count: usize, p: Packet) -> bool
     has_values(
         timeout,
         digest,
-        record_at(store, Store::RECORDS_FROM + Store::SLOT * i),
+        record_at(store, Layout::RECORDS_FROM + Layout::SLOT * i),
     )
 }

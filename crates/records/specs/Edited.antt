@@ -1,12 +1,17 @@
 -- The edit that a struct by value tells, the slot that an edit is on, and the store that it leaves.
 use mathlib.Core.List.{List}
 use mathlib.Core.Option.{Option}
+use lib.Dec.{ltb}
+use lib.ListN.{length}
+use Rattle.wire.specs.Choice.{pick}
+use Rattle.slots.specs.declared.Key.{Key}
 use Rattle.slots.specs.declared.Record.{Record}
 use Rattle.slots.specs.declared.Found.{Found}
-use Rattle.slots.specs.declared.Found.the-variants.{Nothing}
+use Rattle.slots.specs.declared.Found.the-variants.{At, Nothing}
 use Rattle.slots.specs.Table.{hasKey, keyOf}
 use Rattle.slots.specs.Layout.{Store}
-use Rattle.slots.specs.Scan.{firstFree, firstThat}
+use Rattle.slots.specs.Scan.{firstThat, placeOf}
+use Rattle.slots.specs.Effect.{withRecords}
 use Rattle.rules.specs.Ordering.{Edit, keeps, writes, frees}
 use Rattle.rules.specs.Acceptance.{edited}
 use Rattle.records.specs.declared.Action.{Action}
@@ -22,15 +27,15 @@ editOf Frees r = frees (keyOf r)
 abbrev pub editBy : RecordEdit → Edit
 editBy e = editOf (e .action) (e .about)
 
+-- the place of a key in a table, if that is one of its slots
+unfoldable pub slotFor : Key → List (Option Record) → Found
+slotFor k rs = pick (ltb (placeOf k rs) (length rs)) (At (placeOf k rs)) Nothing
+
 abbrev pub slotOf : Edit → List (Option Record) → Found
 slotOf keeps rs = Nothing
-slotOf (writes r) rs = firstFree rs
+slotOf (writes r) rs = slotFor (keyOf r) rs
 slotOf (frees k) rs = firstThat (hasKey k) rs
 
 -- a store whose packet records alone are others: those that an edit leaves
-abbrev pub withRecords : Store → List (Option Record) → Store
-withRecords s rs =
-    record { height = s .height; time = s .time; next = s .next; channels = s .channels; records = rs }
-
 abbrev pub withEdit : Store → Edit → Store
 withEdit s e = withRecords s (edited e (s .records))

@@ -4,17 +4,21 @@ use changes::remove_record;
 use ordering::raises_counter;
 use slots::Channel;
 use slots::Found;
+use slots::Key;
+use slots::Layout;
 use slots::Record;
 use slots::Timeout;
-use store::Store;
-use tables::scan::find_free;
-use tables::scan::find_record;
+use tables::halves::find_record;
+use tables::halves::place_of;
 ghost use mathlib.Core.Path.{_≡_};
-ghost use Rattle.slots.specs.Table.{commitmentKey};
+ghost use mathlib.Core.Bool.{true};
+ghost use Rattle.slots.specs.Table.{commitmentKey, inOrder, keyOf, precedes};
 ghost use Rattle.slots.specs.Layout.{bytesOf, storeIn};
+ghost use Rattle.slots.specs.Scan.{RecordsInOrder};
 ghost use Rattle.slots.specs.Effect.{Exact};
+ghost use Rattle.slots.specs.Fit.{isFit};
 ghost use Rattle.rules.specs.Ordering.{keeps, frees, plainRecord, receivedEdit};
-ghost use Rattle.records.specs.Edited.{withEdit, editBy, slotOf};
+ghost use Rattle.records.specs.Edited.{withEdit, editBy, slotFor, slotOf};
 
 pub enum Action {
     Keeps,
@@ -79,38 +83,60 @@ pub fn freed_commitment(c: Channel, sequence: u64) -> RecordEdit
     }
 }
 
-// The slot that an edit is on: the free one of lowest index, or that of the record.
+// What the record of an edit is found by.
+fn key_of(r: Record) -> Key
+    ensures { λ k. ⌜ k ≡ keyOf r ⌝ }
+{
+    Key {
+        kind: r.kind,
+        channel: r.channel,
+        sequence: r.sequence,
+    }
+}
+
+// The slot for a record: none where the table is full and the record would stand behind all.
+fn slot_for(store: &[u8], count: usize, k: Key) -> Found
+    requires { ⌜ RecordsInOrder (now store) count ⌝ }
+    ensures { λ r. ⌜ r ≡ slotFor k (storeIn (now (store .entry)) .records) ⌝ }
+{
+    let i = place_of(store, count, k);
+    if i < count {
+        return Found::At(i);
+    }
+    Found::Nothing
+}
+
+// The slot that an edit is on: the place of the record in order, or that of the record that is there.
 pub fn slot_of(store: &[u8], e: RecordEdit) -> Found
-    requires { ⌜ Exact (now store) ⌝ }
+    requires { ⌜ isFit (now store) ≡ true ⌝ }
     ensures { λ r. ⌜ r ≡ slotOf (editBy e) (storeIn (now (store .entry)) .records) ⌝ }
 {
-    let count = (store.len() - Store::RECORDS_FROM) / Store::SLOT;
+    let count = (store.len() - Layout::RECORDS_FROM) / Layout::SLOT;
     let action = e.action;
+    let about = e.about;
     match action {
         Action::Keeps => Found::Nothing,
-        Action::Writes => find_free(store, count),
-        Action::Frees => find_record(
-            store,
-            count,
-            e.about.kind,
-            e.about.channel,
-            e.about.sequence,
-        ),
+        Action::Writes => slot_for(store, count, key_of(about)),
+        Action::Frees => find_record(store, count, key_of(about)),
     }
 }
 
 pub fn edit_records(store: &mut [u8], at: Found, e: RecordEdit)
-    requires { ⌜ Exact (now store) × (at ≡ slotOf (editBy e) (storeIn (now store) .records)) ⌝ }
+    requires { ⌜
+        Exact (now store) × (inOrder precedes (storeIn (now store) .records) ≡ true) ×
+        (at ≡ slotOf (editBy e) (storeIn (now store) .records))
+        ⌝ }
     ensures { λ _. ⌜ now (store .exit) ≡ bytesOf (withEdit (storeIn (now (store .entry))) (editBy e)) ⌝ }
 {
     let Found::At(i) = at else {
         return;
     };
+    let behind = (store.len() - Layout::RECORDS_FROM) / Layout::SLOT - 1 - i;
     let action = e.action;
     let about = e.about;
     match action {
         Action::Keeps => {}
-        Action::Writes => insert_record(store, i, about),
+        Action::Writes => insert_record(store, i, behind, about),
         Action::Frees => remove_record(store, i),
     }
 }

@@ -4,7 +4,8 @@ use handler::handle;
 use store::Store;
 ghost use mathlib.Core.Path.{_≡_};
 ghost use Rattle.store.specs.Length.{lengthFor};
-ghost use Rattle.store.specs.Maker.{makeTold, makeStore};
+ghost use Rattle.openings.specs.Maker.{makeTold, makeStore};
+ghost use Rattle.store.specs.Convert.{convertTold, convertStore};
 ghost use Rattle.rules.specs.Call.{callTold, callStore, callOutput};
 
 // One call. Answers its number, and leaves the length of the emitted record in `size`: 0 for a refusal.
@@ -40,6 +41,15 @@ pub extern "C" fn route_make_store(store: &mut [u8], openings: &[u8]) -> u8
     ensures left { λ _. ⌜ now (store .exit) ≡ makeStore (now (store .entry)) (now (openings .entry)) ⌝ }
 {
     Store::make(store, openings)
+}
+
+// Puts the packet records of a store in order. Answers 0, or 1 where it is not fit but for the order.
+#[no_mangle]
+pub extern "C" fn route_convert_store(store: &mut [u8]) -> u8
+    ensures told { λ r. ⌜ r ≡ convertTold (now (store .entry)) ⌝ }
+    ensures left { λ _. ⌜ now (store .exit) ≡ convertStore (now (store .entry)) ⌝ }
+{
+    Store::convert(store)
 }
 
 // The length of a store with so many packet records, or 0 where no store has so many.

@@ -12,6 +12,7 @@ use ordering::acknowledges_in_order;
 use ordering::is_acknowledge_at_top;
 use ordering::is_receipt_there;
 use ordering::is_receive_at_top;
+use ordering::is_received;
 use ordering::is_send_at_top;
 use ordering::needs_receipt;
 use ordering::receives_in_order;
@@ -22,10 +23,10 @@ use packets::has_free;
 use packets::is_committed;
 use packets::lacks_connection;
 use slots::Channel;
+use slots::Key;
 use slots::Record;
 use slots::Timeout;
-use tables::ordering::is_received;
-use tables::scan::has_record;
+use tables::halves::has_record;
 use verdicts::absence_difference;
 use verdicts::acknowledgement_difference;
 use verdicts::commitment_difference;
@@ -34,10 +35,10 @@ use wire::is_zero_digest;
 ghost use mathlib.Core.Path.{_≡_};
 ghost use mathlib.Core.Bool.{not};
 ghost use mathlib.Core.Option.{some};
-ghost use lib.ListN.{length};
 ghost use Rattle.wire.specs.Choice.{_and_};
 ghost use Rattle.slots.specs.Table.{hasFree};
-ghost use Rattle.slots.specs.Layout.{Store, sizeFor, storeIn};
+ghost use Rattle.slots.specs.Layout.{Store, storeIn};
+ghost use Rattle.slots.specs.Scan.{RecordsInOrder};
 ghost use Rattle.datagram.specs.Kind.{send, receive, write, acknowledge, timeOut};
 ghost use Rattle.datagram.specs.Datagram.{Datagram};
 ghost use Rattle.rules.specs.Ordering.{needsReceipt};
@@ -45,7 +46,7 @@ ghost use Rattle.verdicts.specs.Lines.{numberBehind};
 
 // Send (1): lines 10, 11, 19 and 20.
 pub fn send_row(store: &[u8], count: usize, x: Context, t: Timeout, c: Channel) -> u8
-    requires { ⌜ length (now store) ≡ sizeFor count ⌝ }
+    requires { ⌜ RecordsInOrder (now store) count ⌝ }
     ensures { λ r. ⌜
         ((d : Datagram) → d .context ≡ x → d .timeout ≡ t →
         r ≡ numberBehind 7 (some send) (storeIn (now (store .entry))) d c)
@@ -68,7 +69,7 @@ pub fn send_row(store: &[u8], count: usize, x: Context, t: Timeout, c: Channel) 
 
 // Receive (2): lines 8, 9, 11 and 14, then those of `delivery_row`.
 pub fn receive_row(store: &[u8], count: usize, x: Context, p: Packet, v: Verdict, c: Channel) -> u8
-    requires { ⌜ length (now store) ≡ sizeFor count ⌝ }
+    requires { ⌜ RecordsInOrder (now store) count ⌝ }
     ensures { λ r. ⌜
         ((d : Datagram) → d .context ≡ x → d .packet ≡ p → d .verdict ≡ v →
         r ≡ numberBehind 7 (some receive) (storeIn (now (store .entry))) d c)
@@ -93,7 +94,7 @@ pub fn receive_row(store: &[u8], count: usize, x: Context, p: Packet, v: Verdict
 
 // 20, for 2: a receipt is needed, and there is no room for it.
 fn lacks_record(store: &[u8], count: usize, c: Channel) -> bool
-    requires { ⌜ length (now store) ≡ sizeFor count ⌝ }
+    requires { ⌜ RecordsInOrder (now store) count ⌝ }
     ensures { λ r. ⌜ r ≡ (needsReceipt c and not (hasFree (storeIn (now (store .entry)) .records))) ⌝ }
 {
     if !needs_receipt(c) {
@@ -104,7 +105,7 @@ fn lacks_record(store: &[u8], count: usize, c: Channel) -> bool
 
 // Lines 15, 16, 19 and 20 of a receive: behind the verdict, what the channel end and the packet records say.
 fn delivery_row(store: &[u8], count: usize, p: Packet, c: Channel) -> u8
-    requires { ⌜ length (now store) ≡ sizeFor count ⌝ }
+    requires { ⌜ RecordsInOrder (now store) count ⌝ }
     ensures { λ r. ⌜
         ((d : Datagram) → d .packet ≡ p →
         r ≡ numberBehind 14 (some receive) (storeIn (now (store .entry))) d c)
@@ -127,19 +128,18 @@ fn delivery_row(store: &[u8], count: usize, p: Packet, c: Channel) -> u8
 
 // Write acknowledgement (3): lines 16, 17, 18 and 20.
 pub fn write_row(store: &[u8], count: usize, sequence: u64, digest: [u8; 32], c: Channel) -> u8
-    requires { ⌜ length (now store) ≡ sizeFor count ⌝ }
+    requires { ⌜ RecordsInOrder (now store) count ⌝ }
     ensures { λ r. ⌜
         ((d : Datagram) → d .sequence ≡ sequence → d .digest ≡ digest →
         r ≡ numberBehind 7 (some write) (storeIn (now (store .entry))) d c)
         ⌝ }
 {
-    if has_record(
-        store,
-        count,
-        Record::ACKNOWLEDGEMENT,
-        c.own.channel,
-        sequence,
-    ) {
+    let k = Key {
+        kind: Record::ACKNOWLEDGEMENT,
+        channel: c.own.channel,
+        sequence: sequence,
+    };
+    if has_record(store, count, k) {
         return 16;
     }
     if !is_received(store, count, c, sequence) {
@@ -164,7 +164,7 @@ pub fn acknowledge_row(
     v: Verdict,
     c: Channel,
 ) -> u8
-    requires { ⌜ length (now store) ≡ sizeFor count ⌝ }
+    requires { ⌜ RecordsInOrder (now store) count ⌝ }
     ensures { λ r. ⌜
         ((d : Datagram) → d .context ≡ x → d .packet ≡ p → d .digest ≡ digest → d .verdict ≡ v →
         r ≡ numberBehind 7 (some acknowledge) (storeIn (now (store .entry))) d c)
@@ -201,7 +201,7 @@ fn acknowledgement_row(p: Packet, c: Channel) -> u8
 
 // Time out (5): lines 9, 12, 13, 14 and 15.
 pub fn time_out_row(store: &[u8], count: usize, p: Packet, v: Verdict, c: Channel) -> u8
-    requires { ⌜ length (now store) ≡ sizeFor count ⌝ }
+    requires { ⌜ RecordsInOrder (now store) count ⌝ }
     ensures { λ r. ⌜
         ((d : Datagram) → d .packet ≡ p → d .verdict ≡ v →
         r ≡ numberBehind 7 (some timeOut) (storeIn (now (store .entry))) d c)

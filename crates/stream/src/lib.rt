@@ -5,7 +5,7 @@ use input::end_behind;
 use input::end_within;
 use input::given_by;
 use input::keep;
-use store::Store;
+use slots::Layout;
 use text::put_word_line;
 use trace::Phase;
 use trace::Replay;
@@ -24,7 +24,7 @@ ghost use Rattle.stream.specs.Stream.{fedOn, takenOf, freshReading, Take
 
 // Room for the longest store, for a piece of the input, and for the lines of as many records as a piece can have: a
 // record has at least 6 bytes. specs/Reads.antt states the last two.
-pub const ROOM: usize = Store::RECORDS_FROM + Store::SLOT * Store::RECORDS;
+pub const ROOM: usize = Layout::RECORDS_FROM + Layout::SLOT * Layout::RECORDS;
 
 pub const PIECE: usize = 4096;
 

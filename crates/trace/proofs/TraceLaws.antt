@@ -7,7 +7,7 @@ use lib.ListN.{length, take, drop}
 use lib.Seq.{length-take-le}
 use borrow.Author.Tests.{leb-true, eq-eqb, ne-eqb}
 use Rattle.wire.proofs.ChoiceLaws.{and-both}
-use Rattle.store.specs.Maker.{makeTold, makeStore}
+use Rattle.openings.specs.Maker.{makeTold, makeStore}
 use Rattle.emit.specs.Output.{atFront}
 use Rattle.trace.specs.declared.Phase.the-variants.{Running}
 use Rattle.text.specs.Line.{lineOf, openWord, endWord, tornWord}

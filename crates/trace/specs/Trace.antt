@@ -8,7 +8,7 @@ use Rattle.wire.specs.Choice.{_and_, pick}
 use Rattle.wire.specs.Bytes.{field}
 use Rattle.slots.specs.Limits.{outputLimit}
 use Rattle.store.specs.Length.{lengthFor}
-use Rattle.store.specs.Maker.{makeTold, makeStore}
+use Rattle.openings.specs.Maker.{makeTold, makeStore}
 use Rattle.emit.specs.Output.{atFront}
 use Rattle.rules.specs.Call.{callTold, callStore}
 use Rattle.trace.specs.declared.Phase.{Phase}

@@ -13,7 +13,7 @@ ghost use mathlib.Core.Path.{_≡_};
 ghost use Prim.Native.Nat.{_+_, _≤_};
 ghost use lib.ListN.{length, take};
 ghost use Rattle.wire.specs.Bytes.{patch};
-ghost use Rattle.store.specs.Maker.{makeTold, makeStore};
+ghost use Rattle.openings.specs.Maker.{makeTold, makeStore};
 ghost use Rattle.emit.specs.Output.{atFront};
 ghost use Rattle.rules.specs.Call.{callTold, callStore};
 ghost use Rattle.trace.specs.Trace.{freshReplay, isOver, isOpening, freshOutput, openedText, openedReplay};

@@ -8,7 +8,7 @@ use lib.ListN.{length, take, drop, length-append, length-drop}
 use lib.Seq.{drop-drop}
 use Rattle.wire.specs.Bytes.{patch}
 use Rattle.wire.proofs.ChoiceLaws.{cases, of-pick}
-use Rattle.store.specs.Maker.{makeTold}
+use Rattle.openings.specs.Maker.{makeTold}
 use Rattle.rules.specs.Call.{callTold}
 use Rattle.trace.specs.declared.Phase.{Phase}
 use Rattle.trace.specs.declared.Phase.the-variants.{Before, Running, Over}

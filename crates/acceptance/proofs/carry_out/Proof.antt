@@ -1,6 +1,6 @@
 -- The times, the next channel number, the end and the packet record, one after another: the bytes hold the store that
 -- each leaves. Assumes nothing.
-use mathlib.Core.Path.{_≡_, sym, ap, _∙_}
+use mathlib.Core.Path.{_≡_, sym, ap, subst, _∙_}
 use Prim.Native.Nat.{ℕ, _^_, _<_}
 use native.Mathlib.Omega.{arith}
 use denote.Ref.{now}
@@ -8,7 +8,7 @@ use borrow.Author.Needs.{needs}
 use Rattle.wire.proofs.PartLaws.{bytes-getD, bytes-array}
 use Rattle.slots.specs.Layout.{Store, bytesOf, storeIn}
 use Rattle.slots.specs.Effect.{withTimes, withNext}
-use Rattle.slots.proofs.Laws.{ChannelFields, fit-fields}
+use Rattle.slots.proofs.Laws.{ChannelFields, Ordered, fit-store, fit-fields, fit-ordered}
 use Rattle.slots.proofs.HeldLaws.{Held, fit-exact, held-store, held-exact, held-times, held-next}
 use Rattle.rules.specs.Acceptance.{placed, applied}
 use Rattle.records.specs.Edited.{editBy, slotOf, withEdit}
@@ -116,6 +116,8 @@ edit-records-requires c κs =
     let e = c .before .before .before .before in
     let o = start e in (
       held-exact (ended-held e),
+      subst (λ (s : Store). Ordered (s .records)) (sym (left e))
+          (fit-ordered (store o) (fit-store (now (o .args .store)) (o .pre .0))),
       o .pre .1 .edit ∙
           ap (λ (s : Store). slotOf (editBy (o .args .p .decision .edit)) (s .records)) (sym (left e)),
     )

@@ -9,9 +9,7 @@ use Rattle.wire.specs.Choice.{isSome}
 use Rattle.slots.specs.Limits.{top}
 use Rattle.slots.specs.Table.{channelAt}
 use Rattle.slots.specs.Layout.{recordsFrom, storeIn}
-use Rattle.slots.specs.Effect.{Exact}
-use Rattle.slots.proofs.EffectLaws.{exact-room}
-use Rattle.slots.proofs.HeldLaws.{fit-exact}
+use Rattle.slots.proofs.Laws.{fit-in-order}
 use Rattle.datagram.specs.Kind.{kindOf}
 use Rattle.datagram.specs.Datagram.{channelFrom, datagramIn}
 use Rattle.datagram.proofs.DatagramLaws.{Sound, sound-is}
@@ -32,11 +30,8 @@ datagramGot o = now (o .args .datagram)
 sound : (o : tie.Start) → Sound (datagramGot o)
 sound o = sound-is (datagramGot o) (o .pre .sound)
 
-exact : (o : tie.Start) → Exact (store o)
-exact o = fit-exact (store o) (o .pre .fit)
-
 room : (o : tie.Start) → recordsFrom ≤ length (store o)
-room o = omega (arith, exact-room (store o) (exact o))
+room o = omega (arith, fit-in-order (store o) (o .pre .fit) .size)
 
 -- WHAT IS READ: the channel, its end, and the next channel number
 abbrev start : tie.After-channel-in → tie.Start
@@ -114,4 +109,4 @@ plan-for-spec =
     (λ c κs. omega (arith, room (start (c .before)))) decide-requires
     (λ c κs. omega (arith, sound (start (c .before .before .before .before .before)) .size)) number-after-requires
     (λ c κs. room (start (c .before .before .before .before .before .before .before)))
-    (λ c κs. exact (start (c .before .before .before .before .before .before .before .before))) returns)
+    (λ c κs. start (c .before .before .before .before .before .before .before .before) .pre .fit) returns)

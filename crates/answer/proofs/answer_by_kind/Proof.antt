@@ -84,7 +84,7 @@ answer-try-requires : tie.Need-answer-try-requires
 unfolding withNumber
 answer-try-requires c κs =
     let o = c .before .before .before in
-    (omega (arith, o .pre .size), long o 7 (c .match .keys8), o .pre .context)
+    (omega (arith, o .pre .records .size), long o 7 (c .match .keys8), o .pre .context)
 
 counterparty-channel-in-requires : tie.Need-counterparty-channel-in-requires
 unfolding withNumber body hasPart _or_

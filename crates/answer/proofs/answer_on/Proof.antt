@@ -77,7 +77,7 @@ add-channel-at : tie.Need-add-channel-at
 add-channel-at c = omega (arith, below c)
 
 channel-at-requires : tie.Need-channel-at-requires
-channel-at-requires c κs = omega (arith, below c, origin c .pre .0 .size)
+channel-at-requires c κs = omega (arith, below c, origin c .pre .0 .records .size)
 
 -- the answer is that of the lines behind the first n, on the channel end that is found
 abbrev Left : ℕ → tie.After-channel-at → Type 0

@@ -15,6 +15,7 @@ use Rattle.slots.specs.declared.Channel.{Channel}
 use Rattle.slots.specs.Height.{ownHeight}
 use Rattle.slots.specs.Layout.{slotSize, recordsFrom, roomIn, Store, storeIn}
 use Rattle.slots.proofs.FitLaws.{Sized, fits-size}
+use Rattle.slots.proofs.FitRecordLaws.{fit-in-order}
 use Rattle.slots.proofs.HeldLaws.{fit-exact}
 use Rattle.datagram.specs.Kind.{openInit, openTry, kindOf, only, bodyFrom}
 use Rattle.datagram.specs.Datagram.{contextIn, Datagram, datagramOf, datagramIn}
@@ -88,7 +89,7 @@ unfolding roomIn
 known k =
     let o = origin k in
     record {
-      size = sized o .whole;
+      records = fit-in-order (bytes o) (o .pre .0);
       known = rw (k .kind-in .ensures) (sound o .known);
       long = rw (k .kind-in .ensures) (sound o .size);
       context = sym (k .before .before .before .before .before .context-in .ensures);

@@ -11,7 +11,7 @@ returns c = rw (← c .before .is-ordered .ensures, c .if1 .taken)
 
 returns-2 : tie.Need-returns-2
 unfolding isReceiptThere _and_
-returns-2 c = rw (← c .before .before .is-ordered .ensures, c .before .if1 .left) (c .has-record .ensures)
+returns-2 c = rw (← c .before .before .is-ordered .ensures, c .before .if1 .left) (c .has-receipt .ensures)
 
 pub is-receipt-there-spec : {M : Type 1} → statement M
 is-receipt-there-spec =

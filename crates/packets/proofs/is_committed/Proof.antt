@@ -1,4 +1,4 @@
--- The commitment is the record that the scan finds. Assumes nothing.
+-- The commitment is the record that the search finds. Assumes nothing.
 use mathlib.Core.Path.{_≡_, sym, _∙_}
 use mathlib.Core.List.{List}
 use Prim.Native.Nat.{ℕ, _<_}
@@ -6,7 +6,8 @@ use native.Mathlib.Omega.{arith}
 use denote.Ref.{now}
 use borrow.Author.Needs.{needs}
 use Rattle.slots.specs.declared.Found.the-variants.{At}
-use Rattle.slots.specs.Table.{Key, commitmentKey, hasKey}
+use Rattle.slots.specs.declared.Key.{Key}
+use Rattle.slots.specs.Table.{commitmentKey, hasKey}
 use Rattle.slots.specs.Layout.{storeIn}
 use Rattle.slots.specs.Scan.{holds, firstThat}
 use Rattle.slots.proofs.ScanLaws.{find-nothing, record-found}
@@ -33,7 +34,8 @@ found : (k : tie.After-digest) → firstThat (hasKey (key k)) (storeIn (bytes k)
 found k = sym (k .before .before .before .before .before .find-record .ensures) ∙ k .before .before .before .i .given .1
 
 below : (k : tie.After-digest) → index k < start k .args .count
-below k = record-index (index k) (bytes k) (holds (hasKey (key k))) (start k .args .count) (start k .pre) (found k)
+below k =
+    record-index (index k) (bytes k) (holds (hasKey (key k))) (start k .args .count) (start k .pre .size) (found k)
 
 returns : tie.Need-returns
 unfolding isCommitted hasValues
@@ -46,13 +48,13 @@ returns c =
     rw (isCommitted, none)
 
 mul-record-at : tie.Need-mul-record-at
-mul-record-at c = omega (arith, below c, start c .pre)
+mul-record-at c = omega (arith, below c, start c .pre .size)
 
 add-record-at : tie.Need-add-record-at
-add-record-at c = omega (arith, below c, start c .pre)
+add-record-at c = omega (arith, below c, start c .pre .size)
 
 record-at-requires : tie.Need-record-at-requires
-record-at-requires c κs = omega (arith, below c, start c .pre)
+record-at-requires c κs = omega (arith, below c, start c .pre .size)
 
 returns-2 : tie.Need-returns-2
 unfolding isCommitted

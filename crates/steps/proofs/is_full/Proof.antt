@@ -1,16 +1,25 @@
 -- By the free channel record, then the next channel number. Assumes nothing.
-use mathlib.Core.Path.{_≡_, sym, ap, _∙_}
+use mathlib.Core.Path.{_≡_, refl, sym, ap, _∙_}
+use mathlib.Core.List.{List, [], _∷_}
+use mathlib.Core.Option.{Option, none, some}
+use Prim.Native.Nat.{ℕ, suc}
 use denote.Ref.{now}
 use borrow.Author.Needs.{needs}
 use Rattle.wire.specs.Choice.{_or_}
 use Rattle.slots.specs.Table.{hasFree}
 use Rattle.slots.specs.Layout.{storeIn}
-use Rattle.slots.specs.Scan.{isAt}
+use Rattle.slots.specs.Scan.{indexWhere, isFree, isAt}
 use Rattle.rules.specs.Handshake.{isFull}
-use Rattle.packets.proofs.FreeLaws.{free-at}
 use Rattle.verdicts.proofs.TestedLaws.{holds, fails}
 use Rattle.steps.proofs.is_full.Statement.{statement}
 use Rattle.steps.proofs.is_full.Tie as tie
+
+-- a slot is free where a scan finds one
+free-at : {A : Type 0} (n : ℕ) (xs : List (Option A)) → hasFree xs ≡ isAt (indexWhere isFree n xs)
+unfolding hasFree indexWhere
+free-at n [] = refl
+free-at n (none ∷ xs) = refl
+free-at n (some x ∷ xs) = free-at (suc n) xs
 
 free : (k : tie.After-is-found) →
     k .is-found .result ≡ hasFree (storeIn (now (k .before .before .before .args .store)) .channels)
