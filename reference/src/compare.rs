@@ -1,5 +1,7 @@
 //! Random calls given to the reference implementation and to the one under test; whatever they leave is compared whole.
 
+mod converter;
+
 use crate::coverage::Coverage;
 use crate::fit::fit;
 use crate::generate::{Call, Generator, Task};
@@ -40,6 +42,9 @@ fn compare_call(subject: &Subject, call: &Call, index: u64, report: &mut Report)
         Task::Make { store, openings } => {
             (reference_make_store(store, openings), subject.make_store(store, openings, shift))
         }
+        Task::Convert { store, datagram } => {
+            return converter::compare_call(subject, call, store, datagram, index, report);
+        }
         Task::StoreLength(records) => {
             let (expected, given) = (crate::store_length(*records), subject.store_length(*records));
             report.coverage.count_length();
@@ -76,6 +81,7 @@ fn note(report: &mut Report, call: &Call, index: u64, found: Vec<String>) {
                 format!("store of {}, output of {}, datagram {}", store.len(), output.len(), hex(datagram))
             }
             Task::Make { store, openings } => format!("store of {}, openings {}", store.len(), hex(openings)),
+            Task::Convert { store, datagram } => format!("store of {}, datagram {}", store.len(), hex(datagram)),
             Task::StoreLength(_) => String::new(),
         };
         report.differences.push(format!("call {index}, {:?}: {}; {bytes}", call.origin, found.join(", ")));
@@ -119,7 +125,7 @@ fn reference_fault(call: &Call, left: &Left, applying: &[u8]) -> Option<String> 
     let (store, output) = match &call.task {
         Task::Handle { store, output, .. } => (store.as_slice(), output.as_slice()),
         Task::Make { store, .. } => (store.as_slice(), [].as_slice()),
-        Task::StoreLength(_) => return None,
+        Task::Convert { .. } | Task::StoreLength(_) => return None,
     };
     let size = left.size as usize;
     if left.number != 0 && (left.store != store || left.output != output || size != 0) {

@@ -2,6 +2,9 @@
 
 pub mod cell;
 mod closing;
+mod converter;
+mod place;
+mod standing;
 mod step;
 
 use std::collections::BTreeMap;
@@ -17,9 +20,10 @@ use crate::subject::Left;
 use crate::table::own_channel;
 use cell::{Cell, KINDS, SORTS};
 
-const COLUMNS: usize = KINDS.len() + 2;
+const COLUMNS: usize = KINDS.len() + 3;
 const OTHER: usize = KINDS.len();
 const MAKER: usize = KINDS.len() + 1;
+const CONVERTER: usize = KINDS.len() + 2;
 const ANSWERS: usize = 28;
 
 /// A count for each answer and each kind of datagram.
@@ -42,7 +46,7 @@ impl Table {
 impl fmt::Display for Table {
     fn fmt(&self, out: &mut fmt::Formatter) -> fmt::Result {
         write!(out, "{:>6}", "No.")?;
-        KINDS.iter().chain(&["other", "maker"]).try_for_each(|name| write!(out, "{name:>10}"))?;
+        KINDS.iter().chain(&["other", "maker", "convert"]).try_for_each(|name| write!(out, "{name:>10}"))?;
         writeln!(out)?;
         for (number, row) in self.0.iter().enumerate().filter(|(_, row)| row.iter().any(|count| *count > 0)) {
             write!(out, "{number:>6}")?;
@@ -61,6 +65,7 @@ impl fmt::Display for Table {
 fn in_table(column: usize, number: u8) -> bool {
     match column {
         OTHER => (STORE_NOT_FIT..=MALFORMED).contains(&number),
+        CONVERTER => number <= STORE_NOT_FIT,
         MAKER => number == 0 || (STORE_LENGTH_UNFIT..=CHANNEL_TWICE).contains(&number),
         _ => cell::answers(column as u16 + 1).contains(&number),
     }
@@ -86,12 +91,18 @@ impl Coverage {
             Task::Handle { store, datagram, .. } => {
                 let column = column_of(datagram);
                 self.answers.add(column, number);
+                if let Origin::Damaged(way) = call.origin {
+                    self.reach(Cell::Damage(way, standing::of(store)));
+                }
                 cells_of_store(store, datagram, applying).into_iter().for_each(|cell| self.reach(cell));
                 if number == 0 {
                     self.reach(Cell::Emitted(if left.size == 0 { 0 } else { get_u16(&left.output, frame::KIND) }));
                 }
                 if column < OTHER {
-                    self.reach(Cell::Answer(column as u16 + 1, number));
+                    let kind = column as u16 + 1;
+                    self.reach(Cell::Answer(kind, number));
+                    let place = if number == 0 { place::reached(kind, store, &left.store) } else { None };
+                    place.into_iter().for_each(|cell| self.reach(cell));
                 }
             }
             _ => {
@@ -105,9 +116,19 @@ impl Coverage {
         match call.origin {
             Origin::Fault(row, aim) if applying == [aim] => self.reach(Cell::Alone(row, aim)),
             Origin::Pair(row, low, high) if both_hit(applying, low, high) => self.reach(Cell::Pair(row, low, high)),
-            Origin::Damaged(way) => self.reach(Cell::Damage(way)),
             Origin::Malformed(kind, way) => self.reach(Cell::Way(kind, way)),
             _ => {}
+        }
+    }
+
+    /// Counts a call of the converter, with one of the handler before it and one behind it.
+    pub fn count_converter(&mut self, origin: Origin, store: &[u8], [before, converted, after]: &[Left; 3]) {
+        self.answers.add(CONVERTER, converted.number);
+        if let Origin::Damaged(way) = origin {
+            self.reach(Cell::Converter(way, standing::of(store)));
+        }
+        if let Some(cell) = converter::reached(store, [before, converted, after].map(|left| left.number)) {
+            self.reach(cell);
         }
     }
 

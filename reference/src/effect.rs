@@ -3,7 +3,7 @@
 use crate::bytes::*;
 use crate::datagram::Packet;
 use crate::places::{frame, header, packet};
-use crate::store::{channel_place, record_place, Channel, Record};
+use crate::store::{channel_place, insert, remove, Channel, Record};
 
 const SENT: u16 = 0x0101;
 const DELIVERED: u16 = 0x0102;
@@ -59,6 +59,15 @@ fn write_packet(packet: &Packet, body: &mut [u8]) -> u32 {
     (frame::BODY + packet::LENGTH) as u32
 }
 
+/// What becomes of the packet records; the others keep their content.
+#[derive(Clone, Copy, Debug)]
+pub enum Change {
+    /// This one is put in at its place.
+    Insert(Record),
+    /// The one of this index goes.
+    Remove(usize),
+}
+
 /// Everything that an accepted call changes.
 #[derive(Clone, Copy, Debug)]
 pub struct Effect {
@@ -68,8 +77,8 @@ pub struct Effect {
     pub end: (usize, Channel),
     /// The next channel number as it is afterwards, where an end was made.
     pub next_channel: Option<u64>,
-    /// The packet record as it is afterwards, and its index; receiving on an ordered channel touches none.
-    pub record: Option<(usize, Record)>,
+    /// Receiving on an ordered channel touches no packet record.
+    pub record: Option<Change>,
     /// The steps that open or close an end emit nothing.
     pub emitted: Option<Emitted>,
 }
@@ -84,8 +93,10 @@ impl Effect {
         if let Some(number) = self.next_channel {
             put_u64(store, header::NEXT_CHANNEL, number);
         }
-        if let Some((index, record)) = &self.record {
-            record.write(&mut store[record_place(*index)..]);
+        match &self.record {
+            Some(Change::Insert(record)) => insert(store, record),
+            Some(Change::Remove(index)) => remove(store, *index),
+            None => {}
         }
         self.emitted.map_or(0, |emitted| emitted.write(output))
     }

@@ -1,11 +1,21 @@
-//! Whether a slice is a fit store. Every place is looked at, and nothing is remembered beside the slice:
-//! records are compared pair by pair.
+//! Whether a slice is a fit store, or one but for the order of its packet records. Every place is looked at, and
+//! nothing is remembered beside the slice.
 
 use crate::bytes::*;
 use crate::places::{channel, frame, header, record, CHANNELS, CHANNEL_KIND, HEADER, RECORD, STORE_KIND};
 use crate::store::*;
 
 pub fn fit(store: &[u8]) -> bool {
+    entries_fit(store) && in_order(store)
+}
+
+/// Fit but perhaps for the order: no two packet records have the same kind, channel and sequence.
+pub fn fit_in_any_order(store: &[u8]) -> bool {
+    entries_fit(store) && (0..record_count(store)).all(|index| record_is_first(store, index))
+}
+
+/// All but what is asked of the packet records among each other.
+pub fn entries_fit(store: &[u8]) -> bool {
     header_fit(store) && channels_fit(store) && records_fit(store)
 }
 
@@ -56,18 +66,15 @@ fn channel_is_first(store: &[u8], index: usize) -> bool {
 }
 
 fn records_fit(store: &[u8]) -> bool {
-    records(store).enumerate().all(|(index, bytes)| all_zero(bytes) || record_fit(store, index, bytes))
+    records(store).iter().all(|bytes| all_zero(bytes) || record_fit(store, bytes))
 }
 
-fn record_fit(store: &[u8], index: usize, bytes: &[u8]) -> bool {
+fn record_fit(store: &[u8], bytes: &[u8]) -> bool {
     let record = Record::read(bytes);
     let Some((_, end)) = find_channel(store, record.channel) else {
         return false;
     };
-    all_zero(&bytes[record::ZEROS..record::CHANNEL])
-        && record.sequence >= 1
-        && record_allowed(store, &record, &end)
-        && record_is_first(store, index, key_of(bytes))
+    all_zero(&bytes[record::ZEROS..record::CHANNEL]) && record.sequence >= 1 && record_allowed(store, &record, &end)
 }
 
 /// What is asked of each of the three kinds; there is no fourth.
@@ -76,12 +83,32 @@ fn record_allowed(store: &[u8], record: &Record, end: &Channel) -> bool {
     match record.kind {
         COMMITMENT => record.sequence < end.next_sequence_send,
         RECEIPT => !end.is_ordered() && no_timeouts && record.digest == NO_DIGEST,
-        ACKNOWLEDGEMENT => no_timeouts && received(store, end, record.sequence),
+        ACKNOWLEDGEMENT => no_timeouts && received_in_any_order(store, end, record.sequence),
         _ => false,
     }
 }
 
-/// No record before this one has its kind, channel and sequence.
-fn record_is_first(store: &[u8], index: usize, own: u128) -> bool {
-    records(&store[..record_place(index)]).all(|before| !has_key(before, own))
+/// As `received`, wherever the receipt stands.
+fn received_in_any_order(store: &[u8], end: &Channel, sequence: u64) -> bool {
+    let receipt = key(RECEIPT, end.channel, sequence);
+    if end.is_ordered() {
+        sequence < end.next_sequence_recv
+    } else {
+        records(store).iter().any(|bytes| has_key(bytes, receipt))
+    }
+}
+
+/// The records in use rise strictly, and the free ones stand behind them: before each one in use, but the first, stands
+/// one in use with a lower key.
+fn in_order(store: &[u8]) -> bool {
+    records(store).windows(2).all(|pair| {
+        let [before, own] = [key_of(&pair[0]), key_of(&pair[1])];
+        own == 0 || (1..own).contains(&before)
+    })
+}
+
+/// The record is free, or none before it has its kind, channel and sequence.
+fn record_is_first(store: &[u8], index: usize) -> bool {
+    let (before, own) = (&records(store)[..index], key_of(&records(store)[index]));
+    own == 0 || before.iter().all(|bytes| !has_key(bytes, own))
 }

@@ -4,6 +4,7 @@
 pub mod accept;
 pub mod although;
 pub mod call;
+pub mod converting;
 pub mod damage;
 pub mod draft;
 pub mod fault;
@@ -44,7 +45,7 @@ impl Generator {
             self.left = CALLS_PER_STORE;
         }
         self.left -= 1;
-        match self.rng.below(100) {
+        match self.rng.below(106) {
             0..=22 => self.accepted(),
             23..=45 => self.with_faults(false),
             46..=71 => self.with_faults(true),
@@ -53,7 +54,8 @@ impl Generator {
             88..=90 => self.garbage(),
             91..=93 => self.flipped(),
             94..=98 => self.maker(),
-            _ => self.length(),
+            99 => self.length(),
+            _ => self.converter(),
         }
     }
 
@@ -218,6 +220,14 @@ impl Generator {
     fn maker(&mut self) -> Call {
         let making::Making { store, openings, intended } = making::making(&mut self.rng);
         Call { origin: Origin::Maker, task: Task::Make { store, openings }, intended: Some(intended) }
+    }
+
+    /// With a datagram that is accepted where the records are in order.
+    fn converter(&mut self) -> Call {
+        match self.draft() {
+            Some(draft) => converting::converting(&mut self.rng, &draft.store, draft.encode()),
+            None => self.garbage(),
+        }
     }
 
     fn length(&mut self) -> Call {

@@ -6,6 +6,7 @@
 
 pub mod bytes;
 pub mod compare;
+pub mod convert;
 pub mod coverage;
 pub mod datagram;
 pub mod effect;
@@ -30,6 +31,7 @@ mod shim;
 #[cfg(test)]
 mod tests;
 
+pub use convert::convert_store;
 pub use maker::make_store;
 pub use store::store_length;
 

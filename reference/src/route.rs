@@ -13,8 +13,13 @@ extern "C" {
         size: *mut u32,
     ) -> u8;
     fn route_make_store(store: *mut u8, store_len: usize, openings: *const u8, openings_len: usize) -> u8;
+    fn route_convert_store(store: *mut u8, store_len: usize) -> u8;
     fn route_store_length(records: usize) -> usize;
 }
 
-pub const ROUTE: Subject =
-    Subject { handle: route_handle, make_store: route_make_store, store_length: route_store_length };
+pub const ROUTE: Subject = Subject {
+    handle: route_handle,
+    make_store: route_make_store,
+    convert_store: route_convert_store,
+    store_length: route_store_length,
+};

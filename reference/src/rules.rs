@@ -6,7 +6,7 @@ mod handshake;
 
 use crate::bytes::*;
 use crate::datagram::*;
-use crate::effect::{Effect, Emitted};
+use crate::effect::{Change, Effect, Emitted};
 use crate::fit::fit;
 use crate::places::OUTPUT;
 use crate::refusal::*;
@@ -92,7 +92,7 @@ impl Call<'_> {
         let sequence = self.end.next_sequence_send;
         let mut end = self.end;
         end.next_sequence_send = raised(sequence)?;
-        let free = first_free(self.store).ok_or(NO_FREE_RECORD)?;
+        refuse_if(!has_room(self.store), NO_FREE_RECORD)?;
         let record =
             Record { kind: COMMITMENT, channel: end.channel, sequence, timeout_height, timeout_timestamp, digest };
         let packet = Packet {
@@ -105,7 +105,7 @@ impl Call<'_> {
             dest_channel: end.counterparty_channel,
             digest,
         };
-        Ok(self.effect(end, Some((free, record)), Emitted::Sent(packet)))
+        Ok(self.effect(end, Some(Change::Insert(record)), Emitted::Sent(packet)))
     }
 
     fn receive(&self, packet: Packet, verdict: Verdict) -> Result<Effect, u8> {
@@ -125,9 +125,9 @@ impl Call<'_> {
             return Ok(self.effect(end, None, Emitted::Delivered(packet)));
         }
         refuse_if(received(self.store, &end, packet.sequence), ALREADY_THERE)?;
-        let free = first_free(self.store).ok_or(NO_FREE_RECORD)?;
+        refuse_if(!has_room(self.store), NO_FREE_RECORD)?;
         let receipt = Record { kind: RECEIPT, channel: end.channel, sequence: packet.sequence, ..Record::FREE };
-        Ok(self.effect(end, Some((free, receipt)), Emitted::Delivered(packet)))
+        Ok(self.effect(end, Some(Change::Insert(receipt)), Emitted::Delivered(packet)))
     }
 
     fn write(&self, sequence: u64, digest: Digest) -> Result<Effect, u8> {
@@ -135,23 +135,23 @@ impl Call<'_> {
         refuse_if(find_record(self.store, ACKNOWLEDGEMENT, end.channel, sequence).is_some(), ALREADY_THERE)?;
         refuse_if(!received(self.store, &end, sequence), NOT_RECEIVED)?;
         refuse_if(digest == NO_DIGEST, EMPTY_ACKNOWLEDGEMENT)?;
-        let free = first_free(self.store).ok_or(NO_FREE_RECORD)?;
+        refuse_if(!has_room(self.store), NO_FREE_RECORD)?;
         let record = Record { kind: ACKNOWLEDGEMENT, channel: end.channel, sequence, digest, ..Record::FREE };
         let emitted = Emitted::Written { port: end.port, channel: end.channel, sequence, digest };
-        Ok(self.effect(end, Some((free, record)), emitted))
+        Ok(self.effect(end, Some(Change::Insert(record)), emitted))
     }
 
     fn acknowledge(&self, packet: Packet, acknowledgement: Digest, verdict: Verdict) -> Result<Effect, u8> {
         let mut end = self.end;
         refuse_if(self.context.connection != 1, CONNECTION_NOT_OPEN)?;
         refuse_if(!self.sent_here(&packet), WRONG_END)?;
-        let place = self.commitment(&packet).ok_or(NO_COMMITMENT)?;
+        let index = self.commitment(&packet).ok_or(NO_COMMITMENT)?;
         refuse_if(!shows_acknowledgement(&verdict, &packet, &acknowledgement), OTHER_VERDICT)?;
         if end.is_ordered() {
             refuse_if(packet.sequence != end.next_sequence_ack, OUT_OF_ORDER)?;
             end.next_sequence_ack = raised(end.next_sequence_ack)?;
         }
-        Ok(self.effect(end, Some((place, Record::FREE)), Emitted::Acknowledged { packet, acknowledgement }))
+        Ok(self.effect(end, Some(Change::Remove(index)), Emitted::Acknowledged { packet, acknowledgement }))
     }
 
     fn time_out(&self, packet: Packet, verdict: Verdict) -> Result<Effect, u8> {
@@ -159,10 +159,10 @@ impl Call<'_> {
         let passed = reached(verdict.proof_height, packet.timeout_height)
             || reached(verdict.proof_time, packet.timeout_timestamp);
         refuse_if(!passed, TIMEOUT_NOT_PASSED)?;
-        let place = self.commitment(&packet).ok_or(NO_COMMITMENT)?;
+        let index = self.commitment(&packet).ok_or(NO_COMMITMENT)?;
         refuse_if(!shows_not_received(&verdict, &packet, self.end.is_ordered()), OTHER_VERDICT)?;
         refuse_if(self.says_taken(&verdict, &packet), OUT_OF_ORDER)?;
-        Ok(self.given_back(place, packet))
+        Ok(self.given_back(index, packet))
     }
 
     /// Above the sequence, the next receive that is claimed of an ordered channel says that the packet was taken.
@@ -170,11 +170,11 @@ impl Call<'_> {
         self.end.is_ordered() && verdict.sequence > packet.sequence
     }
 
-    /// What both time-outs do, with the place of the commitment.
-    fn given_back(&self, place: usize, packet: Packet) -> Effect {
+    /// What both time-outs do, with the index of the commitment.
+    fn given_back(&self, index: usize, packet: Packet) -> Effect {
         let state = if self.end.is_ordered() { CLOSED } else { self.end.state };
         let end = Channel { state, ..self.end };
-        self.effect(end, Some((place, Record::FREE)), Emitted::TimedOut(packet))
+        self.effect(end, Some(Change::Remove(index)), Emitted::TimedOut(packet))
     }
 
     /// At the sender the source is this end and the destination its counterparty.
@@ -194,7 +194,7 @@ impl Call<'_> {
         same.then_some(index)
     }
 
-    fn effect(&self, end: Channel, record: Option<(usize, Record)>, emitted: Emitted) -> Effect {
+    fn effect(&self, end: Channel, record: Option<Change>, emitted: Emitted) -> Effect {
         let Context { height, time, .. } = self.context;
         Effect { height, time, end: (self.index, end), next_channel: None, record, emitted: Some(emitted) }
     }

@@ -6,7 +6,7 @@ use crate::bytes::*;
 use crate::datagram::{self, Body, Packet, ACKNOWLEDGE, RECEIVE, TIME_OUT};
 use crate::places::{frame, header, PACKET_RECORDS};
 use crate::store::*;
-use crate::subject::{Handle, Subject};
+use crate::subject::{ConvertStore, Handle, Subject};
 
 pub const RIGHT: Subject = with(right);
 
@@ -35,11 +35,19 @@ pub const OUT_OF_TURN: Handle = out_of_turn;
 pub const GIVES_BACK: Handle = gives_back;
 
 pub const fn with(handle: Handle) -> Subject {
-    Subject { handle, make_store, store_length }
+    Subject { handle, make_store, convert_store, store_length }
+}
+
+pub const fn with_converter(convert_store: ConvertStore) -> Subject {
+    Subject { convert_store, ..RIGHT }
 }
 
 unsafe extern "C" fn make_store(store: *mut u8, store_len: usize, openings: *const u8, openings_len: usize) -> u8 {
     crate::make_store(from_raw_parts_mut(store, store_len), from_raw_parts(openings, openings_len))
+}
+
+unsafe extern "C" fn convert_store(store: *mut u8, store_len: usize) -> u8 {
+    crate::convert_store(from_raw_parts_mut(store, store_len))
 }
 
 unsafe extern "C" fn store_length(records: usize) -> usize {
@@ -68,12 +76,13 @@ macro_rules! behind_c {
     };
 }
 
-// Behind the macro, which the first two use.
+// Behind the macro, which all but the last use.
 pub mod closing;
 pub mod handshake;
+pub mod order;
 mod tools;
 
-use tools::{kind_of, refuse_where};
+use tools::{kind_of, refuse_where, remove_all};
 
 behind_c!(right, crate::handle);
 
@@ -104,10 +113,7 @@ behind_c!(without_receipt, |store, output, datagram| {
 behind_c!(frees_all, |store, output, datagram| {
     let answer = crate::handle(store, output, datagram);
     if answer.0 == 0 && kind_of(datagram) == ACKNOWLEDGE {
-        let commitments = (0..record_count(store)).filter(|index| record_at(store, *index).kind == COMMITMENT);
-        for index in commitments.collect::<Vec<_>>() {
-            Record::FREE.write(&mut store[record_place(index)..]);
-        }
+        remove_all(store, |record| record.kind == COMMITMENT);
     }
     answer
 });

@@ -82,7 +82,7 @@ fn of_send(store: &[u8], context: &Context, end: &Channel, height: u64, time: u6
         (NO_TIMEOUT, height == 0 && time == 0),
         (TIMEOUT_PASSED, reached(context.client_height, height)),
         (COUNTER_AT_END, end.next_sequence_send == u64::MAX),
-        (NO_FREE_RECORD, first_free(store).is_none()),
+        (NO_FREE_RECORD, is_full(store)),
     ]
 }
 
@@ -98,7 +98,7 @@ fn of_receive(store: &[u8], context: &Context, end: &Channel, packet: &Packet, v
         (OUT_OF_ORDER, ordered && packet.sequence != end.next_sequence_recv),
         (ALREADY_THERE, !ordered && received(store, end, packet.sequence)),
         (COUNTER_AT_END, ordered && end.next_sequence_recv == u64::MAX),
-        (NO_FREE_RECORD, !ordered && first_free(store).is_none()),
+        (NO_FREE_RECORD, !ordered && is_full(store)),
     ]
 }
 
@@ -107,7 +107,7 @@ fn of_write(store: &[u8], end: &Channel, sequence: u64, digest: &Digest) -> Vec<
         (ALREADY_THERE, find_record(store, ACKNOWLEDGEMENT, end.channel, sequence).is_some()),
         (NOT_RECEIVED, !received(store, end, sequence)),
         (EMPTY_ACKNOWLEDGEMENT, all_zero(digest)),
-        (NO_FREE_RECORD, first_free(store).is_none()),
+        (NO_FREE_RECORD, is_full(store)),
     ]
 }
 
@@ -158,5 +158,9 @@ fn is_committed(store: &[u8], end: &Channel, packet: &Packet) -> bool {
         timeout_timestamp: packet.timeout_timestamp,
         digest: packet.digest,
     };
-    records(store).any(|bytes| Record::read(bytes) == wanted)
+    records(store).iter().any(|bytes| Record::read(bytes) == wanted)
+}
+
+fn is_full(store: &[u8]) -> bool {
+    used_count(store) == record_count(store)
 }

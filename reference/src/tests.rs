@@ -3,9 +3,13 @@
 use std::collections::BTreeSet;
 
 use crate::compare::compare;
-use crate::generate::{Generator, Origin};
+use crate::fit::{entries_fit, fit};
+use crate::generate::damage::{converter_answer, damage, KINDS, TWO_OF_ONE_KEY};
+use crate::generate::rng::Rng;
+use crate::generate::{grow, Generator, Origin};
 use crate::history::{self, Truth};
-use crate::shim::{self, closing, handshake};
+use crate::shim::{self, closing, handshake, order};
+use crate::store::{key_of, records, records_in, sort_records};
 use crate::workload::{workload, Workload, SEGMENT};
 
 const SEED: u64 = 20_240_601;
@@ -31,11 +35,33 @@ fn unmet_cells_are_told() {
 
 #[test]
 fn wrong_handlers_are_found() {
-    for (name, handle) in shim::WRONG.into_iter().chain(handshake::WRONG).chain(closing::WRONG) {
-        let report = compare(&shim::with(handle), 5_000, SEED);
+    let handlers = shim::WRONG.into_iter().chain(handshake::WRONG).chain(closing::WRONG).chain(order::WRONG);
+    let converters = order::WRONG_CONVERTERS.map(|(name, convert)| (name, shim::with_converter(convert)));
+    for (name, subject) in handlers.map(|(name, handle)| (name, shim::with(handle))).chain(converters) {
+        let report = compare(&subject, 10_000, SEED);
         println!("{name}: {} different calls", report.different_calls);
         assert!(report.different_calls > 0, "{name}");
         assert!(report.reference_faults.is_empty());
+    }
+}
+
+/// A store whose order is damaged is fit but for that, and with any other damage its records are still in order, unless
+/// two of one key stand apart: so nothing but the damage makes it unfit.
+#[test]
+fn damages_stand_alone() {
+    let mut rng = Rng::new(SEED);
+    for _ in 0..20_000 {
+        let mut store = grow::grown(&mut rng);
+        let kind = damage(&mut rng, &mut store);
+        let (mut sorted, twice) = (store.clone(), kind == TWO_OF_ONE_KEY);
+        if records_in(store.len()).is_some() {
+            sort_records(&mut sorted);
+            let keys = |store: &[u8]| records(store).iter().map(|bytes| key_of(bytes)).collect::<Vec<_>>();
+            let in_order = keys(&store) == keys(&sorted);
+            assert!(twice || in_order == (converter_answer(kind) != 0), "{}", KINDS[kind].0);
+        }
+        assert!(!fit(&store) && fit(&sorted) == (converter_answer(kind) == 0), "{}", KINDS[kind].0);
+        assert!(entries_fit(&store) == (converter_answer(kind) == 0 || twice));
     }
 }
 
@@ -54,7 +80,8 @@ fn same_seed_same_calls() {
 fn every_origin_comes() {
     let mut generator = Generator::new(SEED);
     let origins: Vec<Origin> = (0..2_000).map(|_| generator.next_call().origin).collect();
-    for origin in [Origin::Accepted, Origin::Garbage, Origin::Flipped, Origin::Maker, Origin::Length] {
+    let named = [Origin::Accepted, Origin::Scattered, Origin::Garbage, Origin::Flipped, Origin::Maker, Origin::Length];
+    for origin in named {
         assert!(origins.contains(&origin), "{origin:?}");
     }
 }
@@ -99,6 +126,8 @@ fn wrong_histories_break_promises() {
         ("frees at close", closing::FREES_AT_CLOSE, Truth::Nothing, "left"),
         ("other not closed", closing::OTHER_NOT_CLOSED, Truth::Everything, "delivered after its time-out on close"),
         ("receives on closed", closing::RECEIVES_ON_CLOSED, Truth::Everything, "delivered after its time-out on close"),
+        ("by sequence", order::BY_SEQUENCE, Truth::Everything, "or the store is unfit now"),
+        ("leaves a gap", order::LEAVES_GAP, Truth::Everything, "or the store is unfit now"),
         ("two blocks", closing::TWO_BLOCKS, Truth::Everything, "timed out on close after its delivery"),
         ("gives back", closing::GIVES_BACK_ON_CLOSE, Truth::Everything, "timed out on close after its delivery"),
     ] {

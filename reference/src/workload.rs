@@ -1,5 +1,6 @@
-//! Mixed datagrams for one full store, for measuring.
+//! What is measured: mixed datagrams for one full store, records that shift all others, and stores out of order.
 
+use crate::bytes::put_u32;
 use crate::datagram::*;
 use crate::generate::accept::{accepted, pick_record};
 use crate::generate::draft::Draft;
@@ -8,7 +9,7 @@ use crate::generate::making::openings;
 use crate::generate::malform::malform;
 use crate::generate::rng::Rng;
 use crate::generate::shape::{channels, fill};
-use crate::places::OUTPUT;
+use crate::places::{opening, OUTPUT};
 use crate::store::*;
 
 /// After so many calls the store is set back, so that it stays full of the same mixture.
@@ -133,11 +134,57 @@ impl Segment {
     fn send_anyway(&mut self, rng: &mut Rng) -> Option<Vec<u8>> {
         let mut store = self.store.clone();
         let index = (0..record_count(&store)).find(|index| record_at(&store, *index).kind == COMMITMENT)?;
-        Record::FREE.write(&mut store[record_place(index)..]);
+        remove(&mut store, index);
         Some(accepted(rng, &store, SEND)?.encode())
     }
 }
 
 fn free_count(store: &[u8]) -> usize {
-    records(store).filter(|bytes| key_of(bytes) == 0).count()
+    record_count(store) - used_count(store)
+}
+
+/// A store with one free record, and two sends: the record of the first goes to the front, that of the second behind
+/// all others.
+pub struct Shifting {
+    pub store: Vec<u8>,
+    pub to_front: Vec<u8>,
+    pub to_end: Vec<u8>,
+}
+
+/// All records that are in use are commitments of the second of three channels.
+pub fn shifting(seed: u64, records: usize) -> Shifting {
+    let mut rng = Rng::new(seed);
+    let mut store = vec![0; store_length(records)];
+    let mut list = openings(&mut rng, 3);
+    (1..=3).zip(list.chunks_exact_mut(opening::LENGTH)).for_each(|(number, it)| put_u32(it, opening::CHANNEL, number));
+    crate::make_store(&mut store, &list);
+    let (index, end) = find_channel(&store, 2).expect("the maker made it");
+    Channel { next_sequence_send: records as u64, ..end }.write(&mut store[channel_place(index)..]);
+    for sequence in 1..records as u64 {
+        let (timeout_height, timeout_timestamp, digest) = (rng.number(), rng.number(), rng.digest());
+        insert(
+            &mut store,
+            &Record { kind: COMMITMENT, channel: 2, sequence, timeout_height, timeout_timestamp, digest },
+        );
+    }
+    let mut send_on = |channel: u32| loop {
+        if let Some(draft) = accepted(&mut rng, &store, SEND).filter(|draft| draft.end().channel == channel) {
+            return draft.encode();
+        }
+    };
+    let (to_front, to_end) = (send_on(1), send_on(3));
+    Shifting { store, to_front, to_end }
+}
+
+/// Full stores whose records stand in no order, so many, and one in which they stand the other way round.
+pub fn unsorted(seed: u64, records: usize, count: usize) -> (Vec<Vec<u8>>, Vec<u8>) {
+    let mut rng = Rng::new(seed);
+    let mut store = full(&mut rng, records);
+    records_mut(&mut store).reverse();
+    let shuffled = (0..count).map(|_| {
+        let mut shuffled = store.clone();
+        rng.shuffle(records_mut(&mut shuffled));
+        shuffled
+    });
+    (shuffled.collect(), store)
 }

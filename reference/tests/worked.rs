@@ -136,6 +136,25 @@ fn cases_17_and_18_packets_behind_a_timeout() {
     assert_eq!((record(&store, 0), record(&store, 1)), (&[0; 64][..], &[0; 64][..]));
 }
 
+/// Not among the cases: whichever of two records came in first, the store has the same bytes.
+#[test]
+fn records_come_in_either_order() {
+    let either = |one: Vec<u8>, other: Vec<u8>| {
+        let [first, second] = [[&one, &other], [&other, &one]].map(|datagrams| {
+            let mut store = fresh();
+            assert_eq!(datagrams.map(|datagram| number(&mut store, datagram)), [0, 0]);
+            store
+        });
+        assert_eq!(first, second);
+        first
+    };
+    let store = either(receive(8, 3, 101, 0), send(5, 60));
+    let (of_send, of_receive) =
+        (Bytes::default().n16(1).n16(0).n32(7).n64(1), Bytes::default().n16(2).n16(0).n32(8).n64(3));
+    assert_eq!((&record(&store, 0)[..16], &record(&store, 1)[..16]), (&of_send.0[..], &of_receive.0[..]));
+    either(receive(8, 3, 101, 0), receive(8, 2, 101, 0));
+}
+
 /// Not among the cases: the two emissions that they leave out.
 #[test]
 fn acknowledgement_is_written_and_taken() {

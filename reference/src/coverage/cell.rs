@@ -3,6 +3,9 @@
 use std::fmt;
 
 use super::closing::{self, Circumstance};
+use super::converter::{self, Disorder};
+use super::place::{self, Place};
+use super::standing::{self, Standing};
 use super::step::{self, Room, Text};
 use crate::datagram::*;
 use crate::generate::although::{self, Although};
@@ -54,10 +57,16 @@ pub enum Cell {
     Version(u16, Text),
     /// A step that makes an end met a store with this much room, and was accepted or refused for it alone.
     Room(u16, Room),
+    /// An accepted call put a packet record in there, or took it from there.
+    Place(Place),
     /// A record of this kind was emitted.
     Emitted(u16),
-    /// The store was damaged in the way of this index.
-    Damage(usize),
+    /// The store was damaged in the way of this index, and its records stood so.
+    Damage(usize, Standing),
+    /// The converter got a store that was damaged in the way of this index, and whose records stood so.
+    Converter(usize, Standing),
+    /// A store whose records stood so was converted, and then accepted a call that it refused before, if out of order.
+    Converted(Disorder),
     /// A datagram of this kind was malformed in the way of this index.
     Way(u16, usize),
     /// The maker answered so.
@@ -69,7 +78,7 @@ pub enum Cell {
 }
 
 /// The sorts of cells, as a run tells them.
-pub const SORTS: [&str; 17] = [
+pub const SORTS: [&str; 20] = [
     "answers by kind",
     "refusals alone",
     "pairs",
@@ -87,6 +96,9 @@ pub const SORTS: [&str; 17] = [
     "maker's next numbers",
     "lengths",
     "accepted although",
+    "places of records",
+    "damages converted",
+    "orders converted",
 ];
 
 impl Cell {
@@ -104,12 +116,15 @@ impl Cell {
             Cell::Version(..) => 8,
             Cell::Room(..) => 9,
             Cell::Emitted(_) => 10,
-            Cell::Damage(_) => 11,
+            Cell::Damage(..) => 11,
             Cell::Way(..) => 12,
             Cell::Maker(_) => 13,
             Cell::Next(_) => 14,
             Cell::Length => 15,
             Cell::Although(..) => 16,
+            Cell::Place(_) => 17,
+            Cell::Converter(..) => 18,
+            Cell::Converted(_) => 19,
         }
     }
 }
@@ -147,7 +162,10 @@ impl fmt::Display for Cell {
             Cell::Room(kind, room) => write!(out, "{}: {room}", name(*kind)),
             Cell::Emitted(0) => write!(out, "emitted: nothing"),
             Cell::Emitted(kind) => write!(out, "emitted: {kind:#06x}"),
-            Cell::Damage(way) => write!(out, "damage: {}", damage::KINDS[*way].0),
+            Cell::Place(place) => write!(out, "{place}"),
+            Cell::Damage(way, standing) => write!(out, "damage: {}, {standing}", damage::KINDS[*way].0),
+            Cell::Converter(way, standing) => write!(out, "converter: {}, {standing}", damage::KINDS[*way].0),
+            Cell::Converted(disorder) => write!(out, "converter: {disorder}"),
             Cell::Way(kind, way) => write!(out, "{}: malformed by {}", name(*kind), malform::WAYS[*way].0),
             Cell::Maker(number) => write!(out, "maker: answer {number}"),
             Cell::Next(number) => write!(out, "maker: next channel number {number}"),
@@ -259,8 +277,13 @@ pub fn possible() -> Vec<Cell> {
     cells.extend(rows().flat_map(alone_by_state));
     cells.extend(step::possible());
     cells.extend(closing::possible());
+    cells.extend(place::possible());
+    cells.extend(converter::possible());
     cells.extend(EMITTED.map(Cell::Emitted));
-    cells.extend((0..damage::KINDS.len()).map(Cell::Damage));
+    for way in 0..damage::KINDS.len() {
+        cells.extend(standing::possible(way, false).into_iter().map(|standing| Cell::Damage(way, standing)));
+        cells.extend(standing::possible(way, true).into_iter().map(|standing| Cell::Converter(way, standing)));
+    }
     cells.extend(maker.map(Cell::Maker));
     cells.extend([1, 1 << 32].map(Cell::Next));
     cells.push(Cell::Length);

@@ -93,7 +93,7 @@ fn ahead(rng: &mut Rng, now: u64) -> u64 {
 }
 
 fn fill_send(rng: &mut Rng, draft: &mut Draft, end: &Channel) -> Option<()> {
-    first_free(&draft.store)?;
+    has_room(&draft.store).then_some(())?;
     end.next_sequence_send.checked_add(1)?;
     draft.packet.timeout_height = ahead(rng, draft.context.client_height);
     draft.packet.timeout_timestamp = if rng.one_in(2) { 0 } else { rng.number() };
@@ -114,13 +114,13 @@ fn fill_receive(rng: &mut Rng, draft: &mut Draft, end: &Channel) -> Option<()> {
         packet.sequence = end.next_sequence_recv;
         return Some(());
     }
-    first_free(&draft.store)?;
+    has_room(&draft.store).then_some(())?;
     packet.sequence = rng.number_from_1();
     (!received(&draft.store, end, packet.sequence)).then_some(())
 }
 
 fn fill_write(rng: &mut Rng, draft: &mut Draft, end: &Channel) -> Option<()> {
-    first_free(&draft.store)?;
+    has_room(&draft.store).then_some(())?;
     draft.packet.dest_channel = end.channel;
     draft.packet.sequence = if end.is_ordered() {
         rng.between(1, end.next_sequence_recv.checked_sub(1).filter(|last| *last >= 1)?)
@@ -184,12 +184,9 @@ pub fn come_short(rng: &mut Rng, packet: &Packet, verdict: &mut Verdict) {
     verdict.proof_time = short_of(packet.timeout_timestamp);
 }
 
-/// One of the records of that kind on that channel.
+/// One of the records of that kind on that channel: they stand together.
 pub fn pick_record(rng: &mut Rng, store: &[u8], kind: u16, channel: u32) -> Option<(usize, Record)> {
-    let count = record_count(store);
-    let start = rng.index(count);
-    (0..count)
-        .map(|step| (start + step) % count)
-        .map(|index| (index, record_at(store, index)))
-        .find(|(_, record)| record.kind == kind && record.channel == channel)
+    let [first, behind] = [kind, kind + 1].map(|kind| place_of(store, key(kind, channel, 0)));
+    let index = (first < behind).then(|| first + rng.index(behind - first))?;
+    Some((index, record_at(store, index)))
 }

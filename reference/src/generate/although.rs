@@ -56,7 +56,7 @@ pub const ALL: [Although; 7] = [
         name: "no packet record is free",
         refusal: NO_FREE_RECORD,
         kinds: NEED_NO_ROOM,
-        holds: |store, _, _| first_free(store).is_none(),
+        holds: |store, _, _| !has_room(store),
         bring_about: |rng, draft| {
             fill(rng, &mut draft.store, 0, None);
         },
@@ -96,12 +96,11 @@ pub fn bring_about(rng: &mut Rng, draft: &mut Draft) {
     }
 }
 
-/// In a free place only, as the commitment of the packet has to stay.
+/// Where there is room only, as the commitment of the packet has to stay.
 fn put_receipt(_: &mut Rng, draft: &mut Draft) {
     let (channel, sequence) = (draft.end().channel, draft.packet.sequence);
     let there = find_record(&draft.store, RECEIPT, channel, sequence).is_some();
-    if let Some(index) = first_free(&draft.store).filter(|_| !there) {
-        let receipt = Record { kind: RECEIPT, channel, sequence, ..Record::FREE };
-        receipt.write(&mut draft.store[record_place(index)..]);
+    if has_room(&draft.store) && !there {
+        insert(&mut draft.store, &Record { kind: RECEIPT, channel, sequence, ..Record::FREE });
     }
 }

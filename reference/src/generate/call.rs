@@ -3,8 +3,20 @@
 /// What is called, with the bytes that it is lent.
 #[derive(Clone, Debug)]
 pub enum Task {
-    Handle { store: Vec<u8>, output: Vec<u8>, datagram: Vec<u8> },
-    Make { store: Vec<u8>, openings: Vec<u8> },
+    Handle {
+        store: Vec<u8>,
+        output: Vec<u8>,
+        datagram: Vec<u8>,
+    },
+    Make {
+        store: Vec<u8>,
+        openings: Vec<u8>,
+    },
+    /// The store is converted; before and behind it a datagram is handed in.
+    Convert {
+        store: Vec<u8>,
+        datagram: Vec<u8>,
+    },
     StoreLength(usize),
 }
 
@@ -28,6 +40,8 @@ pub enum Origin {
     Damaged(usize),
     /// The datagram, of this kind, is malformed in the way of this index.
     Malformed(u16, usize),
+    /// The store is fit, but perhaps for the order of its records.
+    Scattered,
     Garbage,
     Flipped,
     Maker,

@@ -4,6 +4,7 @@
 #![allow(clippy::ptr_arg)]
 
 mod end;
+mod order;
 mod record;
 
 use super::rng::Rng;
@@ -14,7 +15,7 @@ use crate::store::*;
 type Damage = fn(&mut Rng, &mut Vec<u8>) -> Option<()>;
 
 /// Each kind of damage with its name. A kind answers nothing when the store has no place for it.
-pub const KINDS: [(&str, Damage); 31] = [
+pub const KINDS: [(&str, Damage); 35] = [
     ("slice cut short", cut_short),
     ("slice too long", too_long),
     ("record too few or many", record_more_or_less),
@@ -38,7 +39,6 @@ pub const KINDS: [(&str, Damage); 31] = [
     ("record's zeros", record::zeros),
     ("record without channel", record::without_channel),
     ("sequence 0", record::sequence_zero),
-    ("record twice", record::twice),
     ("commitment not sent", record::commitment_not_sent),
     ("receipt on ordered", record::receipt_on_ordered),
     ("receipt not plain", record::receipt_not_plain),
@@ -46,12 +46,32 @@ pub const KINDS: [(&str, Damage); 31] = [
     ("not received, ordered", record::not_received_ordered),
     ("not received, unordered", record::not_received_unordered),
     ("free record not zero", record::free_not_zero),
+    ("two of one key", record::twice),
+    ("out of order by channel", |rng, store| order::swapped(rng, store, |one, next| one.channel != next.channel)),
+    ("out of order by kind", |rng, store| {
+        order::swapped(rng, store, |one, next| one.channel == next.channel && one.kind != next.kind)
+    }),
+    ("out of order by sequence", |rng, store| {
+        order::swapped(rng, store, |one, next| one.channel == next.channel && one.kind == next.kind)
+    }),
+    ("free one in between", order::gap),
 ];
 
-/// Damages the store in one way and answers its index among the kinds.
+/// The last kinds of damage are to the order alone: the converter mends them.
+const OF_ORDER: usize = 4;
+/// The kind before them needs two records, which may stand next to each other or apart.
+pub const TWO_OF_ONE_KEY: usize = KINDS.len() - OF_ORDER - 1;
+
+/// What the converter answers to a store that is damaged in the way of this index.
+pub fn converter_answer(kind: usize) -> u8 {
+    u8::from(kind <= TWO_OF_ONE_KEY)
+}
+
+/// Damages the store in one way and answers its index among the kinds. Two of one key come more often, as there is more
+/// than one way in which they stand.
 pub fn damage(rng: &mut Rng, store: &mut Vec<u8>) -> usize {
     loop {
-        let kind = rng.index(KINDS.len());
+        let kind = if rng.one_in(12) { TWO_OF_ONE_KEY } else { rng.index(KINDS.len()) };
         if KINDS[kind].1(rng, store).is_some() {
             return kind;
         }
@@ -66,7 +86,7 @@ fn flip(rng: &mut Rng, store: &mut [u8], at: usize, count: usize) -> Option<()> 
 
 fn cut_short(rng: &mut Rng, store: &mut Vec<u8>) -> Option<()> {
     let near = store.len() - 1 - rng.index(RECORD);
-    let length = rng.pick(&[0, 1, 5, 6, HEADER - 1, HEADER, PACKET_RECORDS - 1, near, near]);
+    let length = rng.pick(&[0, 1, 5, 6, HEADER - 1, HEADER, PACKET_RECORDS - 1, near, near, near, near]);
     store.truncate(length);
     Some(())
 }

@@ -141,7 +141,10 @@ fn other_commitment(rng: &mut Rng, draft: &mut Draft) {
         4 => draft.packet.digest = rng.other_digest(record.digest),
         _ => record = Record::FREE,
     }
-    record.write(&mut draft.store[record_place(index)..]);
+    remove(&mut draft.store, index);
+    if record != Record::FREE {
+        insert(&mut draft.store, &record);
+    }
 }
 
 /// Another end that may have sent this packet and has no commitment of that sequence.

@@ -43,6 +43,10 @@ impl Rng {
         (!from.is_empty()).then(|| self.pick(from))
     }
 
+    pub fn shuffle<T>(&mut self, items: &mut [T]) {
+        (1..items.len()).for_each(|last| items.swap(last, self.index(last + 1)));
+    }
+
     pub fn bytes(&mut self, count: usize) -> Vec<u8> {
         (0..count).map(|_| self.draw() as u8).collect()
     }

@@ -17,25 +17,28 @@ pub fn channels(store: &[u8]) -> Vec<(usize, Channel)> {
     (0..CHANNELS).filter_map(|index| Some((index, channel_at(store, index)?))).collect()
 }
 
-/// Puts a record into a free place, or else over a commitment, which nothing in a fit store leans on.
+/// Puts a record in, where none is free for it in place of a commitment of another key: nothing in a fit store leans on
+/// one.
 pub fn place(rng: &mut Rng, store: &mut [u8], record: &Record) -> bool {
-    let index = first_free(store).or_else(|| {
-        let ends = channels(store);
-        let (_, end) = rng.pick_any(&ends)?;
-        Some(pick_record(rng, store, COMMITMENT, end.channel)?.0)
-    });
-    let Some(index) = index else {
-        return false;
-    };
-    record.write(&mut store[record_place(index)..]);
+    if !has_room(store) {
+        let mut commitments: Vec<usize> = (0..record_count(store)).collect();
+        commitments.retain(|index| {
+            let other = record_at(store, *index);
+            other.kind == COMMITMENT && other.key() != record.key()
+        });
+        let Some(index) = rng.pick_any(&commitments) else {
+            return false;
+        };
+        remove(store, index);
+    }
+    insert(store, record);
     true
 }
 
-/// Fills free records until `left` are free, never with a receipt or acknowledgement of the packet to keep.
+/// Puts records in until `left` are free, never a receipt or acknowledgement of the packet to keep.
 pub fn fill(rng: &mut Rng, store: &mut [u8], left: usize, keep: Option<(u32, u64)>) -> bool {
-    let free: Vec<usize> = (0..record_count(store)).filter(|index| record_at(store, *index) == Record::FREE).collect();
     let ends = channels(store);
-    for index in free.iter().skip(left) {
+    for _ in used_count(store) + left..record_count(store) {
         let made = (0..20).find_map(|_| {
             let (at, _) = rng.pick_any(&ends)?;
             some_record(rng, store, at).filter(|record| {
@@ -46,7 +49,7 @@ pub fn fill(rng: &mut Rng, store: &mut [u8], left: usize, keep: Option<(u32, u64
         let Some(record) = made else {
             return false;
         };
-        record.write(&mut store[record_place(*index)..]);
+        insert(store, &record);
     }
     true
 }
@@ -135,28 +138,24 @@ pub fn make_ready(rng: &mut Rng, store: &mut [u8], kind: u16) {
 
 /// One random change after which a fit store is still fit.
 pub fn reshape(rng: &mut Rng, store: &mut [u8]) {
-    match rng.below(13) {
-        0 => swap_records(store, channel_place(rng.index(CHANNELS)), channel_place(rng.index(CHANNELS))),
-        1 | 2 => {
-            let count = record_count(store);
-            swap_records(store, record_place(rng.index(count)), record_place(rng.index(count)));
-        }
-        3 => {
+    match rng.below(11) {
+        0 => swap_ends(store, channel_place(rng.index(CHANNELS)), channel_place(rng.index(CHANNELS))),
+        1 => {
             put_u64(store, header::LAST_HEIGHT, rng.number());
             put_u64(store, header::LAST_TIME, rng.number());
         }
-        4 => {
+        2 => {
             let left = rng.index(3);
             fill(rng, store, left, None);
         }
-        5 => plain_record(rng, store),
-        6 => other_next(rng, store),
+        3 => plain_record(rng, store),
+        4 => other_next(rng, store),
         // Seldom, as the new ends have no packets.
-        7 if rng.one_in(6) => {
+        5 if rng.one_in(6) => {
             let left = rng.index(3);
             fill_channels(rng, store, left);
         }
-        8 => without_timeouts(rng, store),
+        6 => without_timeouts(rng, store),
         _ => other_counters(rng, store),
     }
 }
@@ -180,7 +179,8 @@ fn other_next(rng: &mut Rng, store: &mut [u8]) {
     put_u64(store, header::NEXT_CHANNEL, next.max(least));
 }
 
-fn swap_records(store: &mut [u8], one: usize, other: usize) {
+/// Channel records may stand in any order.
+fn swap_ends(store: &mut [u8], one: usize, other: usize) {
     let kept: [u8; RECORD] = get(store, one);
     store.copy_within(other..other + RECORD, one);
     put(store, other, kept);
@@ -189,13 +189,14 @@ fn swap_records(store: &mut [u8], one: usize, other: usize) {
 /// An acknowledgement or commitment without a digest, or a freed commitment.
 fn plain_record(rng: &mut Rng, store: &mut [u8]) {
     let index = rng.index(record_count(store));
-    let mut record = record_at(store, index);
+    let record = record_at(store, index);
     match (record.kind, rng.below(3)) {
-        (COMMITMENT, 0) => record = Record::FREE,
-        (COMMITMENT | ACKNOWLEDGEMENT, _) => record.digest = NO_DIGEST,
+        (COMMITMENT, 0) => remove(store, index),
+        (COMMITMENT | ACKNOWLEDGEMENT, _) => {
+            Record { digest: NO_DIGEST, ..record }.write(&mut store[record_place(index)..]);
+        }
         _ => {}
     }
-    record.write(&mut store[record_place(index)..]);
 }
 
 /// Counters rise; next acknowledge, and next receive of an unordered end, may be anything from 1.

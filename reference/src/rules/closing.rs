@@ -23,14 +23,14 @@ impl Call<'_> {
     /// received in the block that shows it so never will be. Neither state nor connection is asked for.
     pub fn time_out_on_close(&self, packet: Packet, closed: EndVerdict, verdict: Verdict) -> Result<Effect, u8> {
         refuse_if(!self.sent_here(&packet), WRONG_END)?;
-        let place = self.commitment(&packet).ok_or(NO_COMMITMENT)?;
+        let index = self.commitment(&packet).ok_or(NO_COMMITMENT)?;
         refuse_if(!shows_end(&closed, &self.closed_other()), OTHER_VERDICT)?;
         refuse_if(!shows_not_received(&verdict, &packet, self.end.is_ordered()), OTHER_VERDICT)?;
         let one_block = closed.proof_height == verdict.proof_height && closed.proof_time == verdict.proof_time;
         refuse_if(!one_block, OTHER_VERDICT)?;
         refuse_if(self.says_taken(&verdict, &packet), OUT_OF_ORDER)?;
         refuse_if(!has_version(&closed, &self.end.version), WRONG_VERSION)?;
-        Ok(self.given_back(place, packet))
+        Ok(self.given_back(index, packet))
     }
 
     fn closed_other(&self) -> Channel {

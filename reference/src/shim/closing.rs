@@ -3,7 +3,7 @@
 use std::slice::{from_raw_parts, from_raw_parts_mut};
 
 use super::handshake::{compares_nothing, takes_version, verdict_place};
-use super::tools::{change_where, emits_end, end_of, refuse_where};
+use super::tools::{change_where, emits_end, end_of, refuse_where, remove_all};
 use crate::bytes::*;
 use crate::datagram::*;
 use crate::places::{channel, context, end_verdict, frame, time_out_on_close, verdict};
@@ -96,12 +96,7 @@ behind_c!(state_first_at_close, |store, output, datagram| {
 behind_c!(frees_at_close, |store, output, datagram| {
     let answer = crate::handle(store, output, datagram);
     if let Some((_, end)) = end_of(store, datagram, &CLOSING, answer, 0) {
-        for index in 0..record_count(store) {
-            let record = record_at(store, index);
-            if (record.kind, record.channel) == (COMMITMENT, end.channel) {
-                Record::FREE.write(&mut store[record_place(index)..]);
-            }
-        }
+        remove_all(store, |record| (record.kind, record.channel) == (COMMITMENT, end.channel));
     }
     answer
 });

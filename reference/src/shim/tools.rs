@@ -64,3 +64,12 @@ pub fn emits_end(store: &mut [u8], output: &mut [u8], datagram: &[u8], kinds: &[
     put_u32(output, frame::BODY + 2, end.channel);
     (0, 12)
 }
+
+/// Removes the records that are so; from the last one on, so that none is passed over.
+pub fn remove_all(store: &mut [u8], gone: impl Fn(&Record) -> bool) {
+    for index in (0..record_count(store)).rev() {
+        if gone(&record_at(store, index)) {
+            remove(store, index);
+        }
+    }
+}

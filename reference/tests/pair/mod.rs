@@ -68,20 +68,15 @@ impl Pair {
         find_record(&self.stores[1 - at], ACKNOWLEDGEMENT, ENDS[1 - at].1, sequence).is_some()
     }
 
-    /// What differs between the states of a search. Which records are in use changes no answer, nor does the last
-    /// height, as the clock never goes back.
+    /// What differs between the states of a search. The last height changes no answer, as the clock never goes back.
     pub fn key(&self) -> Vec<u8> {
         let mut key = vec![self.clock as u8];
         for (at, store) in self.stores.iter().enumerate() {
             let end = self.end(at);
             key.extend([end.state, end.next_sequence_send as u8]);
             key.extend([end.next_sequence_recv as u8, end.next_sequence_ack as u8]);
-            let mut used: Vec<[u8; 3]> = (0..RECORDS)
-                .map(|index| record_at(store, index))
-                .map(|record| [record.kind as u8, record.sequence as u8, record.timeout_height as u8])
-                .collect();
-            used.sort_unstable();
-            key.extend(used.concat());
+            let records = (0..RECORDS).map(|index| record_at(store, index));
+            key.extend(records.flat_map(|it| [it.kind as u8, it.sequence as u8, it.timeout_height as u8]));
         }
         key
     }

@@ -1,4 +1,5 @@
-//! Damage to packet records.
+//! Damage to packet records. They stay in order, so that fitness is lost for one reason; but two of one key stand apart
+//! too.
 
 #![allow(clippy::ptr_arg)]
 
@@ -7,13 +8,20 @@ use super::flip;
 use crate::bytes::*;
 use crate::generate::accept::pick_record;
 use crate::generate::rng::Rng;
+use crate::generate::shape::place;
 use crate::places::{record, RECORD};
 use crate::store::*;
 
 /// Any packet record in use.
 fn some_record(rng: &mut Rng, store: &[u8]) -> Option<usize> {
-    let index = rng.index(record_count(store));
-    (record_at(store, index).kind != 0).then_some(index)
+    let used = used_count(store);
+    (used > 0).then(|| rng.index(used))
+}
+
+/// Lets a record that got another key, or a free one that got one, stand where it belongs.
+fn settle(store: &mut [u8]) -> Option<()> {
+    sort_records(store);
+    Some(())
 }
 
 pub fn zeros(rng: &mut Rng, store: &mut Vec<u8>) -> Option<()> {
@@ -24,7 +32,7 @@ pub fn zeros(rng: &mut Rng, store: &mut Vec<u8>) -> Option<()> {
 pub fn kind(rng: &mut Rng, store: &mut Vec<u8>) -> Option<()> {
     let index = some_record(rng, store)?;
     put_u16(store, record_place(index) + record::KIND, rng.pick(&[0, 4, 5, 0x0100, 0x0101, 0x0201, 0xffff]));
-    Some(())
+    settle(store)
 }
 
 pub fn without_channel(rng: &mut Rng, store: &mut Vec<u8>) -> Option<()> {
@@ -34,32 +42,30 @@ pub fn without_channel(rng: &mut Rng, store: &mut Vec<u8>) -> Option<()> {
         return None;
     }
     put_u32(store, record_place(index) + record::CHANNEL, number);
-    Some(())
+    settle(store)
 }
 
 pub fn sequence_zero(rng: &mut Rng, store: &mut Vec<u8>) -> Option<()> {
     let index = some_record(rng, store)?;
     put_u64(store, record_place(index) + record::SEQUENCE, 0);
-    Some(())
+    settle(store)
 }
 
-/// The same kind, channel and sequence in a second place; the other values may differ.
+/// The same kind, channel and sequence in the next place or in any slot; the digest may differ.
 pub fn twice(rng: &mut Rng, store: &mut Vec<u8>) -> Option<()> {
     let index = some_record(rng, store)?;
     let mut twin = record_at(store, index);
     if twin.kind != RECEIPT && rng.one_in(2) {
         twin.digest = rng.digest();
     }
-    put_record(rng, store, index, &twin)
-}
-
-/// Puts a record into a place that is not the kept one.
-fn put_record(rng: &mut Rng, store: &mut [u8], keep: usize, record: &Record) -> Option<()> {
-    let index = rng.index(record_count(store));
-    if index == keep {
+    if !place(rng, store, &twin) {
         return None;
     }
-    record.write(&mut store[record_place(index)..]);
+    if rng.one_in(2) {
+        let (from, to) = (place_of(store, twin.key()), rng.index(record_count(store)));
+        remove(store, from);
+        insert_at(store, to, &twin);
+    }
     Some(())
 }
 
@@ -73,7 +79,7 @@ pub fn commitment_not_sent(rng: &mut Rng, store: &mut Vec<u8>) -> Option<()> {
         end.next_sequence_send = rng.between(1, record.sequence);
         end.write(&mut store[channel_place(index)..]);
     }
-    Some(())
+    settle(store)
 }
 
 pub fn receipt_on_ordered(rng: &mut Rng, store: &mut Vec<u8>) -> Option<()> {
@@ -83,7 +89,7 @@ pub fn receipt_on_ordered(rng: &mut Rng, store: &mut Vec<u8>) -> Option<()> {
     }
     let sequence = rng.between(1, end.next_sequence_recv);
     let receipt = Record { kind: RECEIPT, channel: end.channel, sequence, ..Record::FREE };
-    put_record(rng, store, usize::MAX, &receipt)
+    place(rng, store, &receipt).then_some(())
 }
 
 pub fn receipt_not_plain(rng: &mut Rng, store: &mut Vec<u8>) -> Option<()> {
@@ -105,7 +111,7 @@ pub fn not_received_ordered(rng: &mut Rng, store: &mut Vec<u8>) -> Option<()> {
     }
     let sequence = rng.between(end.next_sequence_recv, u64::MAX);
     let early = Record { kind: ACKNOWLEDGEMENT, channel: end.channel, sequence, digest: rng.digest(), ..Record::FREE };
-    put_record(rng, store, usize::MAX, &early)
+    place(rng, store, &early).then_some(())
 }
 
 /// An acknowledgement loses its receipt to nothing or to another channel, or gets the sequence next to it.
@@ -116,8 +122,11 @@ pub fn not_received_unordered(rng: &mut Rng, store: &mut Vec<u8>) -> Option<()> 
     if rng.one_in(2) {
         let (_, other) = some_channel(rng, store)?;
         let moved = Record { channel: other.channel, ..record_at(store, receipt) };
-        let left = if other.channel == end.channel { Record::FREE } else { moved };
-        left.write(&mut store[record_place(receipt)..]);
+        let may_have_it = !other.is_ordered() && !received(store, &other, moved.sequence);
+        remove(store, receipt);
+        if may_have_it {
+            insert(store, &moved);
+        }
         return Some(());
     }
     record.sequence = rng.other_than(record.sequence).max(1);
@@ -125,10 +134,11 @@ pub fn not_received_unordered(rng: &mut Rng, store: &mut Vec<u8>) -> Option<()> 
         return None;
     }
     record.write(&mut store[record_place(index)..]);
-    Some(())
+    settle(store)
 }
 
 pub fn free_not_zero(rng: &mut Rng, store: &mut Vec<u8>) -> Option<()> {
-    let index = first_free(store)?;
-    flip(rng, store, record_place(index) + record::ZEROS, RECORD - record::ZEROS)
+    let index = (0..record_count(store)).find(|index| record_at(store, *index) == Record::FREE)?;
+    flip(rng, store, record_place(index) + record::ZEROS, RECORD - record::ZEROS)?;
+    settle(store)
 }
