@@ -11,11 +11,12 @@
  * with different memory may run at the same time. Any bytes may stand in the memory: none makes a call fail in another
  * way than by its answer.
  *
- * WHAT HOLDS FOR THE STORE. Each call gets the bytes that the last accepted call on its ledger left, or at first the
- * maker. Nobody else changes them, and no older copy of them is put back, not even after a crash. An older copy is a
- * fit store too, so no answer tells; but it does not know what came after it, and a packet that was delivered or
+ * WHAT HOLDS FOR THE STORE. Each call gets the bytes that the last accepted call on its ledger left, or the maker or
+ * the converter. Nobody else changes them, and no older copy of them is put back, not even after a crash. An older copy
+ * is a fit store too, so no answer tells; but it does not know what came after it, and a packet that was delivered or
  * finished since would be delivered or finished again, and a channel number given out again. The proof is about lists
- * of calls in which this holds. So the host saves the store before it hands on the emitted record. */
+ * of calls, from the maker on, in which this holds. So the host saves the store before it hands on the emitted record,
+ * and what the converter left before the next call. */
 
 #ifndef ROUTE_H
 #define ROUTE_H
@@ -101,7 +102,7 @@ enum route_state {
  * kinds of datagrams that can get it; no kind means all. */
 enum route_answer {
     ROUTE_ACCEPTED = 0,
-    ROUTE_STORE_NOT_FIT = 1,         /* the store's bytes are not those of a fit store */
+    ROUTE_STORE_NOT_FIT = 1,         /* the store's bytes are not those of a fit store; see route_convert_store */
     ROUTE_OUTPUT_SHORT = 2,          /* the output is shorter than ROUTE_OUTPUT_LENGTH */
     ROUTE_MALFORMED = 3,             /* the datagram is malformed */
     ROUTE_GOES_BACK = 4,             /* height or time is below the last, or the same height has another time */
@@ -134,7 +135,7 @@ enum route_answer {
 
 /* Answers one datagram and carries it out. Answers 0 to 20 and 25 to 27.
  *
- * store, store_len         the ledger's store, as the maker or the last accepted call left it
+ * store, store_len         the ledger's store, as the maker, the converter or the last accepted call left it
  * output, output_len       takes the emitted record; at least ROUTE_OUTPUT_LENGTH bytes, whatever the kind
  * datagram, datagram_len   the datagram; its bytes are not changed
  * size                     takes the length of the emitted record, 0 where none is emitted; never NULL
@@ -154,6 +155,18 @@ uint8_t route_handle(uint8_t *store, size_t store_len, uint8_t *output, size_t o
  *
  * With another answer than 0 no byte of the slice has changed. */
 uint8_t route_make_store(uint8_t *store, size_t store_len, const uint8_t *openings, size_t openings_len);
+
+/* Puts the packet records of a store in order: those in use at the front, rising by channel, then kind, then sequence,
+ * and the free ones behind. Every call asks for this order; stores that were kept before it was asked for may lack it.
+ * Answers 0 or 1.
+ *
+ * store, store_len         the bytes that the last accepted call left: a store that is fit, but perhaps for the order
+ *                          of its packet records
+ *
+ * With ROUTE_ACCEPTED the store is fit. It has the same packet records, and every byte before them is as it was. One
+ * that was in order already has not changed at all. With ROUTE_STORE_NOT_FIT no byte has changed: something else is
+ * unfit, or two records have the same kind, channel and sequence. No memory beside the store is used. */
+uint8_t route_convert_store(uint8_t *store, size_t store_len);
 
 /* The length of a store with so many packet records: ROUTE_STORE_LENGTH(records) for 1 to ROUTE_MAX_RECORDS, and 0 for
  * every other number, as no store has that many. */

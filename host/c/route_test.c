@@ -1,5 +1,5 @@
 /* The library through its header, from C: a fresh store, sends, a time-out, the steps that open and close a channel, a
- * time-out on close, refusals, lengths that are wrong. */
+ * time-out on close, packet records put in order, refusals, lengths that are wrong. */
 
 #include "datagrams.h"
 #include "route.h"
@@ -127,7 +127,7 @@ static void test_refusals(void)
 /* An ordered channel is closed by a time-out. It then takes no send, but the time-out of a packet behind it. */
 static void test_time_out(void)
 {
-    uint8_t send[ROUTE_SEND_LENGTH], time_out[ROUTE_TIME_OUT_LENGTH];
+    uint8_t send[ROUTE_SEND_LENGTH], time_out[ROUTE_TIME_OUT_LENGTH], behind[64];
     fresh();
     make_send(send, 60);
     EXPECT(call(send, sizeof send) == ROUTE_ACCEPTED);
@@ -135,10 +135,11 @@ static void test_time_out(void)
     make_time_out(time_out, 1, 59);
     EXPECT(call(time_out, sizeof time_out) == ROUTE_TIMEOUT_NOT_PASSED);
     make_time_out(time_out, 1, 60);
+    memcpy(behind, store + 1152, 64);
     EXPECT(call(time_out, sizeof time_out) == ROUTE_ACCEPTED && size == ROUTE_TIMED_OUT_LENGTH);
     EXPECT(output[4] == (ROUTE_TIMED_OUT & 0xff) && output[5] == ROUTE_TIMED_OUT >> 8);
     EXPECT(memcmp(output + 6, time_out + 38, 68) == 0);
-    EXPECT(store[66] == 4 && all_are(store + 1088, 64, 0) && !all_are(store + 1152, 64, 0));
+    EXPECT(store[66] == 4 && memcmp(store + 1088, behind, 64) == 0 && all_are(store + 1152, 64, 0));
     EXPECT(call(time_out, sizeof time_out) == ROUTE_NO_COMMITMENT);
     EXPECT(call(send, sizeof send) == ROUTE_NOT_OPEN);
     make_time_out(time_out, 2, 60);
@@ -243,6 +244,34 @@ static void test_time_out_on_close(void)
     EXPECT(all_are(store + 1088, 128, 0));
 }
 
+/* Two records that stand the wrong way round, a free one before one in use, and two of one kind, channel and sequence,
+ * which no order makes fit. */
+static void test_convert(void)
+{
+    uint8_t send[ROUTE_SEND_LENGTH], in_order[STORE];
+    fresh();
+    make_send(send, 60);
+    EXPECT(call(send, sizeof send) == ROUTE_ACCEPTED);
+    EXPECT(call(send, sizeof send) == ROUTE_ACCEPTED);
+    memcpy(in_order, store, STORE);
+    EXPECT(route_convert_store(store, STORE) == ROUTE_ACCEPTED && memcmp(store, in_order, STORE) == 0);
+    memcpy(store + 1088, in_order + 1152, 64);
+    memcpy(store + 1152, in_order + 1088, 64);
+    EXPECT(call(send, sizeof send) == ROUTE_STORE_NOT_FIT);
+    EXPECT(route_convert_store(store, STORE) == ROUTE_ACCEPTED && memcmp(store, in_order, STORE) == 0);
+    EXPECT(call(send, sizeof send) == ROUTE_NO_FREE_RECORD);
+    memset(store + 1088, 0, 64);
+    EXPECT(call(send, sizeof send) == ROUTE_STORE_NOT_FIT);
+    EXPECT(route_convert_store(store, STORE) == ROUTE_ACCEPTED && memcmp(store, in_order, 1088) == 0);
+    EXPECT(memcmp(store + 1088, in_order + 1152, 64) == 0 && all_are(store + 1152, 64, 0));
+    memcpy(store + 1152, store + 1088, 64);
+    store[1215] = 1; /* the digest is another */
+    memcpy(in_order, store, STORE);
+    EXPECT(route_convert_store(store, STORE) == ROUTE_STORE_NOT_FIT && memcmp(store, in_order, STORE) == 0);
+    EXPECT(route_convert_store(store, STORE - 1) == ROUTE_STORE_NOT_FIT);
+    EXPECT(route_convert_store(NULL, 0) == ROUTE_STORE_NOT_FIT);
+}
+
 static void test_lengths(void)
 {
     EXPECT(route_store_length(0) == 0 && route_store_length(ROUTE_MAX_RECORDS + 1) == 0);
@@ -262,6 +291,7 @@ int main(void)
     test_open_try();
     test_close();
     test_time_out_on_close();
+    test_convert();
     test_lengths();
     printf(failed ? "%d of the C test's expectations failed\n" : "the C test passed\n", failed);
     return failed != 0;

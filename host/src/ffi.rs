@@ -1,4 +1,4 @@
-//! The static library's three functions, as `include/route.h` tells them to C.
+//! The static library's four functions, as `include/route.h` tells them to C.
 //!
 //! [`Store`](crate::Store) is the safe way to call them.
 
@@ -28,6 +28,14 @@ extern "C" {
     /// `store` is valid for reads and writes of `store_len` bytes and `openings` for reads of `openings_len` bytes.
     /// They do not overlap, and nobody else reads or writes them meanwhile. A pointer with the length 0 may be null.
     pub fn route_make_store(store: *mut u8, store_len: usize, openings: *const u8, openings_len: usize) -> u8;
+
+    /// Puts the packet records of a store in order: 0, or 1 where it is not fit but for their order.
+    ///
+    /// # Safety
+    ///
+    /// `store` is valid for reads and writes of `store_len` bytes, and nobody else reads or writes them meanwhile. With
+    /// the length 0 it may be null.
+    pub fn route_convert_store(store: *mut u8, store_len: usize) -> u8;
 
     /// The length of a store with so many packet records, 0 where no store has so many.
     ///
@@ -60,6 +68,12 @@ pub(crate) fn handle(store: &mut [u8], output: &mut [u8], datagram: &[u8]) -> (u
 pub(crate) fn make_store(store: &mut [u8], openings: &[u8]) -> u8 {
     // SAFETY: each pointer is that of a slice, with its length, and the first one is exclusive.
     unsafe { route_make_store(store.as_mut_ptr(), store.len(), openings.as_ptr(), openings.len()) }
+}
+
+/// [`route_convert_store`] on a slice.
+pub(crate) fn convert_store(store: &mut [u8]) -> u8 {
+    // SAFETY: the pointer is that of a slice, with its length, and it is exclusive.
+    unsafe { route_convert_store(store.as_mut_ptr(), store.len()) }
 }
 
 /// [`route_store_length`].

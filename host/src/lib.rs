@@ -24,6 +24,8 @@
 //! tells; but a packet that was delivered or finished since would be delivered or finished again. The proof is about
 //! lists of calls in which this holds. So a host saves [`Store::as_bytes`] before it hands on the emitted record.
 //!
+//! Packet records stand in order. Bytes that were kept before this was asked for are taken by [`Store::convert`].
+//!
 //! `examples/two_ledgers.rs` has two ledgers in one program.
 
 #![deny(missing_docs)]

@@ -15,7 +15,8 @@ use std::fmt;
 #[repr(u8)]
 #[non_exhaustive]
 pub enum Refusal {
-    /// The bytes are not those of a fit store.
+    /// The bytes are not those of a fit store. Where only the order of the packet records is wrong,
+    /// [`Store::convert`](crate::Store::convert) takes them.
     StoreNotFit = 1,
     /// The output is shorter than 106 bytes.
     OutputShort = 2,

@@ -27,7 +27,7 @@ impl Opening {
 
 /// One ledger's channel ends and packet records, in the bytes that the library works on.
 ///
-/// A `Store` is always fit: it was made by the library or tested by it, and no call makes a fit store unfit.
+/// A `Store` is always fit: it was made, tested or converted by the library, and no call makes a fit store unfit.
 ///
 /// ```
 /// use route::{Context, Datagram, Emitted, End, Opening, Order, OtherHeight, OwnHeight, Refusal, Store, Timeout};
@@ -100,13 +100,49 @@ impl Store {
     ///
     /// # Errors
     ///
-    /// [`Refusal::StoreNotFit`] if they are not those of a fit store.
+    /// [`Refusal::StoreNotFit`] if they are not those of a fit store. Where only the order of their packet records is
+    /// wrong, [`convert`](Store::convert) takes them.
     pub fn from_bytes(bytes: impl Into<Vec<u8>>) -> Result<Store, Refusal> {
         let mut bytes = bytes.into();
         // With an empty output every call is refused, and changes nothing: an unfit store with 1, a fit one with 2.
         match refusal(ffi::handle(&mut bytes, &mut [], &[]).0) {
             Refusal::OutputShort => Ok(Store { bytes }),
             number => Err(number),
+        }
+    }
+
+    /// The store in these bytes, with its packet records put in order, as [`records`](Store::records) lists them. This
+    /// is for bytes that were kept before this order was part of a fit store. They are those of the last accepted call
+    /// on this ledger, as for [`from_bytes`](Store::from_bytes). The store has the same packet records, and every byte
+    /// before them is kept; one that was in order is taken as it is.
+    ///
+    /// A vector is converted in place. A slice is copied and keeps its bytes.
+    ///
+    /// ```
+    /// # use route::{Context, Datagram, End, Opening, Order, OtherHeight, OwnHeight, Refusal, Store, Timeout};
+    /// # let (own, counterparty) = (End { port: 5, channel: 7 }, End { port: 6, channel: 9 });
+    /// # let mut store = Store::make(2, &[Opening { own, counterparty, order: Order::Ordered }])?;
+    /// # let context =
+    /// #     Context { height: OwnHeight(100), time: 1_000, client: OtherHeight(50), port: 5, connected: true };
+    /// # let send = Datagram::send(&context, 7, Timeout::at_height(OtherHeight(60)), [1; 32]);
+    /// # store.handle(&send)?;
+    /// # store.handle(&send)?;
+    /// let mut kept = store.as_bytes().to_vec();
+    /// kept[1088..].rotate_left(64); // the record of packet 2 stands before that of packet 1
+    /// assert_eq!(Store::from_bytes(kept.as_slice()), Err(Refusal::StoreNotFit));
+    /// assert_eq!(Store::convert(kept)?, store);
+    /// # Ok::<(), Refusal>(())
+    /// ```
+    ///
+    /// # Errors
+    ///
+    /// [`Refusal::StoreNotFit`] if they are not those of a store that is fit but perhaps for the order of its packet
+    /// records: also where two records have the same kind, channel and sequence.
+    pub fn convert(bytes: impl Into<Vec<u8>>) -> Result<Store, Refusal> {
+        let mut bytes = bytes.into();
+        match ffi::convert_store(&mut bytes) {
+            0 => Ok(Store { bytes }),
+            number => Err(refusal(number)),
         }
     }
 
@@ -182,7 +218,7 @@ impl Store {
         self.channels().find(|end| end.own.channel == number)
     }
 
-    /// Its packet records that are in use, in the order in which they stand.
+    /// Its packet records that are in use, as they stand: rising by channel, then kind, then sequence.
     pub fn records(&self) -> impl Iterator<Item = Record> + '_ {
         self.bytes[Store::RECORDS_FROM..].chunks_exact(Store::SLOT).filter_map(Record::read)
     }

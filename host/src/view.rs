@@ -97,7 +97,7 @@ impl Channel {
     }
 }
 
-/// What a packet record is.
+/// What a packet record is. A channel's records stand in the order of their kinds.
 #[derive(Clone, Copy, Debug, PartialEq, Eq, PartialOrd, Ord, Hash)]
 #[non_exhaustive]
 pub enum RecordKind {
@@ -109,7 +109,7 @@ pub enum RecordKind {
     Acknowledgement,
 }
 
-/// A packet record. Kind, channel and sequence tell it from all others of the store.
+/// A packet record. Kind, channel and sequence tell it from all others of the store, and give it its place among them.
 #[derive(Clone, Copy, Debug, PartialEq, Eq, Hash)]
 pub struct Record {
     /// What it is.

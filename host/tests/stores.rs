@@ -1,4 +1,4 @@
-//! Stores: made, kept as bytes, read, and left alone by refusals.
+//! Stores: made, kept as bytes, read, put in order, and left alone by refusals.
 
 mod common;
 
@@ -127,4 +127,110 @@ fn verdicts_hold_or_not() {
     assert!(store.holds(&Verdict::receipt_absent(&incoming(UNORDERED, 4, Timeout::NONE), block(1))));
     let written = Verdict::acknowledgement_present(&incoming(UNORDERED, 3, Timeout::NONE), [9; 32], block(1));
     assert!(!store.holds(&written));
+}
+
+/// A send, two receives and a write: four records on two channels, of all kinds. One record is free.
+const KEYS: [(u32, RecordKind, u64); 4] = [
+    (7, RecordKind::Commitment, 1),
+    (8, RecordKind::Receipt, 3),
+    (8, RecordKind::Receipt, 4),
+    (8, RecordKind::Acknowledgement, 3),
+];
+
+fn after(calls: &[Datagram]) -> Store {
+    let mut store = Store::make(5, &[ORDERED, UNORDERED]).unwrap();
+    calls.iter().for_each(|call| assert!(store.handle(call).is_ok()));
+    store
+}
+
+fn four_records() -> Store {
+    let received = |sequence| receive(UNORDERED, sequence, Timeout::NONE);
+    after(&[received(4), received(3), Datagram::write(&CONTEXT, 8, 3, DIGEST), send(60)])
+}
+
+/// All orders of so many things, the rising one first.
+fn orders(count: usize) -> Vec<Vec<usize>> {
+    let Some(last) = count.checked_sub(1) else { return vec![vec![]] };
+    let with_last = |order: Vec<usize>| {
+        (0..count).rev().map(move |at| [&order[..at], &[last], &order[at..]].concat()).collect::<Vec<_>>()
+    };
+    orders(last).into_iter().flat_map(with_last).collect()
+}
+
+/// The bytes with the packet records of these indices.
+fn with_records(store: &Store, indices: impl IntoIterator<Item = usize>) -> Vec<u8> {
+    let (front, records) = store.as_bytes().split_at(1088);
+    let slots: Vec<&[u8]> = records.chunks_exact(64).collect();
+    [front, &indices.into_iter().map(|index| slots[index]).collect::<Vec<_>>().concat()].concat()
+}
+
+#[test]
+fn records_stand_in_order() {
+    let mut store = four_records();
+    let keys = |store: &Store| store.records().map(|r| (r.channel, r.kind, r.sequence)).collect::<Vec<_>>();
+    assert_eq!((keys(&store), store.free_records()), (KEYS.to_vec(), 1));
+    // The records behind the one that is freed move down, and each keeps its bytes.
+    let behind = store.as_bytes()[1152..].to_vec();
+    store.handle(time_out(&sent(), 60, 1)).unwrap();
+    assert_eq!((keys(&store), store.free_records()), (KEYS[1..].to_vec(), 2));
+    assert_eq!(store.as_bytes()[1088..], [behind, vec![0; 64]].concat());
+}
+
+#[test]
+fn order_of_calls_is_not_seen() {
+    let calls = [send(60), receive(UNORDERED, 3, Timeout::NONE), receive(UNORDERED, 4, Timeout::NONE)];
+    let write = Datagram::write(&CONTEXT, 8, 3, DIGEST);
+    for order in orders(calls.len()) {
+        let first = order.iter().map(|index| calls[*index].clone());
+        assert_eq!(after(&first.chain([write.clone()]).collect::<Vec<_>>()), four_records(), "{order:?}");
+    }
+}
+
+#[test]
+fn out_of_order_is_refused_and_converted() {
+    let store = four_records();
+    for order in orders(store.capacity()) {
+        let bytes = with_records(&store, order.iter().copied());
+        let taken = if order.is_sorted() { Ok(store.clone()) } else { Err(Refusal::StoreNotFit) };
+        assert_eq!(Store::from_bytes(bytes.as_slice()), taken, "{order:?}");
+        assert_eq!(Store::convert(bytes), Ok(store.clone()), "{order:?}");
+    }
+}
+
+#[test]
+fn full_store_is_converted() {
+    let mut store = Store::make(Store::MAX_RECORDS, &[ORDERED, UNORDERED]).unwrap();
+    for sequence in 1..=Store::MAX_RECORDS as u64 / 2 {
+        store.handle(send(60)).unwrap();
+        store.handle(receive(UNORDERED, sequence, Timeout::NONE)).unwrap();
+    }
+    assert_eq!(store.free_records(), 0);
+    let backwards = with_records(&store, (0..store.capacity()).rev());
+    assert_eq!(Store::from_bytes(backwards.as_slice()), Err(Refusal::StoreNotFit));
+    assert_eq!(Store::convert(backwards), Ok(store));
+}
+
+#[test]
+fn unfit_is_not_converted() {
+    let store = four_records();
+    let with = |at: usize, byte: u8| {
+        // Out of order besides, so that a sorting would be seen.
+        let mut bytes = with_records(&store, [1, 0, 2, 3, 4]);
+        bytes[at] = byte;
+        bytes
+    };
+    // One kind, channel and sequence twice: in every byte, and with another digest.
+    let same_twice = with_records(&store, [3, 2, 1, 0, 0]);
+    let mut twice = same_twice.clone();
+    twice[1407] = 9;
+    // The store's kind, a zero byte, a channel number, a record's kind, sequence 0, a receipt that is not there.
+    let changed = [(4, 2), (63, 1), (68, 8), (1088, 4), (1096, 0), (1096, 5)].map(|(at, byte)| with(at, byte));
+    let short = with_records(&store, [1, 0, 2, 3]);
+    for bytes in changed.into_iter().chain([twice, same_twice, short, vec![0; 1408], vec![]]) {
+        assert_eq!(Store::convert(bytes.as_slice()), Err(Refusal::StoreNotFit));
+        let mut left = bytes.clone();
+        // SAFETY: pointer and length are those of a vector that nobody else uses.
+        let number = unsafe { ffi::route_convert_store(left.as_mut_ptr(), left.len()) };
+        assert_eq!((number, left), (1, bytes));
+    }
 }
