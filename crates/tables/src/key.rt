@@ -25,7 +25,7 @@ pub fn key_at(s: &[u8], at: usize) -> Key
 }
 
 // A free slot has no key. The sequence is what most records differ in.
-pub fn has_key(s: &[u8], at: usize, k: Key) -> bool
+pub(crate) fn has_key(s: &[u8], at: usize, k: Key) -> bool
     requires { ⌜ at + slotSize ≤ length (now s) ⌝ }
     ensures { λ r. ⌜ r ≡ holds (hasKey k) (slotIn recordIn (part at slotSize (now (s .entry)))) ⌝ }
 {

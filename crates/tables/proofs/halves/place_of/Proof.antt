@@ -43,29 +43,32 @@ loop-holds c =
     let most = place-length (a .k) (records (a .count) (now (a .s))) in
     (omega arith, omega (arith, most, length-slots recordIn recordsFrom (a .count) (now (a .s))), omega arith)
 
+-- the test of the slot in the middle, by the place
+module _ (b : tie.After-stands-before Inv-loop μ-loop) where
+  abbrev middle : ℕ
+  middle = b .before .before .loop .low + (b .before .before .loop .high - b .before .before .loop .low) / 2
+
+  abbrev place : ℕ
+  place =
+      let a = b .before .before .before .before .args in
+      placeOf (a .k) (records (a .count) (now (a .s)))
+
+  tested : b .stands-before .result ≡ ltb middle place
+  tested =
+      let o = b .before .before .before .before in
+      side (o .args .count) (now (o .args .s)) (o .pre .1) (o .args .k) middle (omega arith) (b .stands-before .ensures)
+
 loop-again : tie.Need-loop-again Inv-loop μ-loop
 loop-again c =
-    let l = c .before .before .before in
-    let o = l .before .before in
-    let a = o .args in
-    let v = l .loop in
-    let middle : ℕ = v .low + (v .high - v .low) / 2 in
-    let here = ltb-true middle (placeOf (a .k) (records (a .count) (now (a .s))))
-    (sym (side (a .count) (now (a .s)) (o .pre .1) (a .k) middle (omega arith) (c .before .stands-before .ensures)) ∙
-    c .if1 .taken) in
-    (omega (arith, here), v .inv .1, v .inv .2)
+    let inv = c .before .before .before .loop .inv in
+    let here = ltb-true (middle (c .before)) (place (c .before)) (sym (tested (c .before)) ∙ c .if1 .taken) in
+    (omega (arith, here), inv .1, inv .2)
 
 loop-again-2 : tie.Need-loop-again-2 Inv-loop μ-loop
 loop-again-2 c =
-    let l = c .before .before .before in
-    let o = l .before .before in
-    let a = o .args in
-    let v = l .loop in
-    let middle : ℕ = v .low + (v .high - v .low) / 2 in
-    let here = ltb-false middle (placeOf (a .k) (records (a .count) (now (a .s))))
-    (sym (side (a .count) (now (a .s)) (o .pre .1) (a .k) middle (omega arith) (c .before .stands-before .ensures)) ∙
-    c .if1 .left) in
-    (v .inv .0, here, omega arith)
+    let inv = c .before .before .before .loop .inv in
+    let here = ltb-false (middle (c .before)) (place (c .before)) (sym (tested (c .before)) ∙ c .if1 .left) in
+    (inv .0, here, omega arith)
 
 returns : tie.Need-returns Inv-loop μ-loop
 returns c = omega arith
