@@ -15,7 +15,7 @@ use Rattle.slots.proofs.ScanLaws.{set-insert, set-replace, insert-nothing, repl
 use Rattle.datagram.specs.Names.{Kind, send, receive, write, acknowledge, timeOut, openInit, openTry, openAcknowledge}
 use Rattle.datagram.specs.Names.{openConfirm, closeInit, closeConfirm, timeOutOnClose, kindOf, Datagram, datagramOf}
 use Rattle.datagram.specs.Names.{datagramIn, kindIn, isSound}
-use Rattle.rules.specs.Names.{lowest, table, refusals, orNone, endFor, Effect, sends}
+use Rattle.rules.specs.Names.{firstGiven, table, refusals, orNone, endFor, Effect, sends}
 use Rattle.rules.specs.Names.{receives, writesAcknowledgement, acknowledges, timesOut, makes, moves, effectOf}
 use Rattle.rules.specs.Names.{effectFor, placed, numberAfter, answerTo, effectIn}
 use Rattle.rules.proofs.RefusalLaws.{givenAt, silent, not-given}
@@ -31,9 +31,9 @@ module _ (s o d : List ℕ) (accepted : answerTo s o d ≡ 0) where
   channel = orNone (endFor (storeIn s) (datagramIn d))
 
   -- of its kind
-  of-kind : {k : Kind} → datagramIn d .kind ≡ some k → lowest (some k) (refusals s (length o) d) ≡ 0
+  of-kind : {k : Kind} → datagramIn d .kind ≡ some k → firstGiven (some k) (refusals s (length o) d) ≡ 0
   unfolding answerTo
-  of-kind q = subst (λ (x : Option Kind). lowest x (refusals s (length o) d) ≡ 0) q accepted
+  of-kind q = subst (λ (x : Option Kind). firstGiven x (refusals s (length o) d) ≡ 0) q accepted
 
   left : Left (datagramIn d .kind) (storeIn s .next) channel (datagramIn d)
   left =

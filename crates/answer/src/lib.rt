@@ -53,7 +53,7 @@ ghost use Rattle.slots.specs.Layout.{recordsFrom, storeIn};
 ghost use Rattle.slots.specs.Fit.{isFit};
 ghost use Rattle.datagram.specs.Kind.{openTry, kindOf, sizeOf};
 ghost use Rattle.datagram.specs.Datagram.{contextIn, datagramOf, datagramIn, isSound};
-ghost use Rattle.rules.specs.Refusals.{lowest, makesEnd, refusals, orNone, endFor};
+ghost use Rattle.rules.specs.Refusals.{firstGiven, makesEnd, refusals, orNone, endFor};
 ghost use Rattle.verdicts.specs.Lines.{numberBehind};
 ghost use Rattle.answer.specs.Known.{Known};
 
@@ -67,7 +67,7 @@ const OPEN_TRY: u16 = 7;
 pub fn answer(store: &[u8], room: usize, datagram: &[u8]) -> u8
     ensures { λ r. ⌜
         r ≡
-        lowest (datagramIn (now (datagram .entry)) .kind)
+        firstGiven (datagramIn (now (datagram .entry)) .kind)
         (refusals (now (store .entry)) room (now (datagram .entry)))
         ⌝ }
 {

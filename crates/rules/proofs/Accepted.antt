@@ -12,7 +12,7 @@ use Rattle.datagram.specs.Names.{openAcknowledge, openConfirm, closeInit, close
 use Rattle.datagram.specs.Names.{onPacket, onEnd}
 use Rattle.rules.specs.Names.{firstEndDifference, hasVersion, moved, receivesInOrder, isReceiptThere}
 use Rattle.rules.specs.Names.{timesOutInOrder, isSendAtTop, isReceiveAtTop, isAcknowledgeAtTop, needsReceipt}
-use Rattle.rules.specs.Names.{isFull, neededEnd, neededInit, answering, neededTryOpen, neededPeer, lowest}
+use Rattle.rules.specs.Names.{isFull, neededEnd, neededInit, answering, neededTryOpen, neededPeer, firstGiven}
 use Rattle.rules.specs.Names.{fitsDestination, fitsSource, isLateAtReceiver, isProvedLate, isCommitted}
 use Rattle.rules.specs.Names.{commitmentDifference, absenceDifference, verdictNumber, table, Line, makesEnd}
 use Rattle.rules.specs.Names.{endFor, isInState, isAcknowledgementThere}
@@ -85,10 +85,10 @@ module _ (bs : List ℕ) (room : ℕ) (b : List ℕ) (s : Store) (d : Datagram) 
   lines = table bs room b s d c
 
   -- from acceptance of a kind, what its lines of a number gave: each by its place among them, and the first
-  abbrev quiet-at : (i n : ℕ) (k : Kind) → lowest (some k) lines ≡ 0 → getD (givenAt n (some k) lines) i 0 ≡ 0
+  abbrev quiet-at : (i n : ℕ) (k : Kind) → firstGiven (some k) lines ≡ 0 → getD (givenAt n (some k) lines) i 0 ≡ 0
   quiet-at i n k h = each-silent i (givenAt n (some k) lines) (silent n (some k) lines h)
 
-  abbrev quiet : (n : ℕ) (k : Kind) → lowest (some k) lines ≡ 0 → getD (givenAt n (some k) lines) 0 0 ≡ 0
+  abbrev quiet : (n : ℕ) (k : Kind) → firstGiven (some k) lines ≡ 0 → getD (givenAt n (some k) lines) 0 0 ≡ 0
   quiet n k h = quiet-at 0 n k h
 
   -- the state that a line asks for
@@ -101,13 +101,13 @@ module _ (bs : List ℕ) (room : ℕ) (b : List ℕ) (s : Store) (d : Datagram) 
   shows-needed e h v = shows (d .endVerdict) e (no-difference _ h) (test-holds _ 26 v)
 
   -- a datagram that makes no end is about one that is there
-  pub end-there : (k : Option Kind) → lowest k lines ≡ 0 → makesEnd k ≡ false → isSome (endFor s d) ≡ true
+  pub end-there : (k : Option Kind) → firstGiven k lines ≡ 0 → makesEnd k ≡ false → isSome (endFor s d) ≡ true
   unfolding givenAt table
   end-there k h n =
       let given : Bool → List ℕ = λ b. pick (not b) (pick (not (isSome (endFor s d))) 5 0 ∷ []) [] in
       test-holds _ 4 ((subst (λ (b : Bool). Every (λ m. m ≡ 0) (given b)) n (silent 5 k lines h)) .0)
 
-  pub send-ok : lowest (some send) lines ≡ 0 → SendOk s c
+  pub send-ok : firstGiven (some send) lines ≡ 0 → SendOk s c
   unfolding givenAt table only _or_
   send-ok h =
       record {
@@ -116,7 +116,7 @@ module _ (bs : List ℕ) (room : ℕ) (b : List ℕ) (s : Store) (d : Datagram) 
         room = test-holds (hasFree (s .records)) 19 (quiet 20 send h);
       }
 
-  pub receive-ok : lowest (some receive) lines ≡ 0 → ReceiveOk s d c
+  pub receive-ok : firstGiven (some receive) lines ≡ 0 → ReceiveOk s d c
   unfolding givenAt table only _or_
   receive-ok h =
       record {
@@ -130,7 +130,7 @@ module _ (bs : List ℕ) (room : ℕ) (b : List ℕ) (s : Store) (d : Datagram) 
         room = not-given _ 19 (quiet 20 receive h);
       }
 
-  pub write-ok : lowest (some write) lines ≡ 0 → WriteOk s d c
+  pub write-ok : firstGiven (some write) lines ≡ 0 → WriteOk s d c
   unfolding givenAt table only _or_
   write-ok h =
       record {
@@ -139,7 +139,7 @@ module _ (bs : List ℕ) (room : ℕ) (b : List ℕ) (s : Store) (d : Datagram) 
         room = test-holds (hasFree (s .records)) 19 (quiet 20 write h);
       }
 
-  pub acknowledge-ok : lowest (some acknowledge) lines ≡ 0 → AcknowledgeOk s d c
+  pub acknowledge-ok : firstGiven (some acknowledge) lines ≡ 0 → AcknowledgeOk s d c
   unfolding givenAt table only _or_
   acknowledge-ok h =
       record {
@@ -162,13 +162,13 @@ module _ (bs : List ℕ) (room : ℕ) (b : List ℕ) (s : Store) (d : Datagram) 
         inOrder = test-holds _ 14 o;
       }
 
-  pub timeout-ok : lowest (some timeOut) lines ≡ 0 → TimeoutOk s d c
+  pub timeout-ok : firstGiven (some timeOut) lines ≡ 0 → TimeoutOk s d c
   unfolding givenAt table only _or_
   timeout-ok h =
       timed-out (byTime (test-holds _ 11 (quiet 12 timeOut h))) (quiet 9 timeOut h) (quiet 13 timeOut h)
       (quiet 14 timeOut h) (quiet 15 timeOut h)
 
-  pub timeout-on-close-ok : d .kind ≡ some timeOutOnClose → lowest (some timeOutOnClose) lines ≡ 0 → TimeoutOk s d c
+  pub timeout-on-close-ok : d .kind ≡ some timeOutOnClose → firstGiven (some timeOutOnClose) lines ≡ 0 → TimeoutOk s d c
   unfolding givenAt table only _or_
   timeout-on-close-ok e h =
       let shut = shows-needed (neededPeer stateClosed c) (quiet 14 timeOutOnClose h) (quiet 27 timeOutOnClose h) in
@@ -177,11 +177,11 @@ module _ (bs : List ℕ) (room : ℕ) (b : List ℕ) (s : Store) (d : Datagram) 
       timed-out (byClose e shut block) (quiet 9 timeOutOnClose h) (quiet 13 timeOutOnClose h)
       (quiet-at 1 14 timeOutOnClose h) (quiet 15 timeOutOnClose h)
 
-  pub init-ok : lowest (some openInit) lines ≡ 0 → MakeOk s d
+  pub init-ok : firstGiven (some openInit) lines ≡ 0 → MakeOk s d
   unfolding givenAt table only _or_
   init-ok h = not-full s d (not-given _ 24 (quiet 25 openInit h)) (test-holds _ 26 (quiet 27 openInit h))
 
-  pub try-ok : lowest (some openTry) lines ≡ 0 → MakeOk s d × Alike (d .endVerdict .end) (neededInit d)
+  pub try-ok : firstGiven (some openTry) lines ≡ 0 → MakeOk s d × Alike (d .endVerdict .end) (neededInit d)
   unfolding givenAt table only _or_
   try-ok h = (
     not-full s d (not-given _ 24 (quiet 25 openTry h)) (test-holds _ 26 (quiet 27 openTry h)),
@@ -200,7 +200,7 @@ module _ (bs : List ℕ) (room : ℕ) (b : List ℕ) (s : Store) (d : Datagram) 
         begun = λ q. h (sym (a .state) ∙ q);
       }
 
-  pub open-acknowledge-ok : lowest (some openAcknowledge) lines ≡ 0 → OpenOk d c (answering c d)
+  pub open-acknowledge-ok : firstGiven (some openAcknowledge) lines ≡ 0 → OpenOk d c (answering c d)
   unfolding givenAt table only _or_ neededTryOpen answering
   open-acknowledge-ok h =
       let k = in-state stateInit 25 (quiet 26 openAcknowledge h) in
@@ -212,7 +212,7 @@ module _ (bs : List ℕ) (room : ℕ) (b : List ℕ) (s : Store) (d : Datagram) 
             (shows-needed (neededTryOpen c d) (quiet 14 openAcknowledge h) (quiet 27 openAcknowledge h));
       }
 
-  pub open-confirm-ok : lowest (some openConfirm) lines ≡ 0 → OpenOk d c (c .counterparty)
+  pub open-confirm-ok : firstGiven (some openConfirm) lines ≡ 0 → OpenOk d c (c .counterparty)
   unfolding givenAt table only _or_ neededPeer
   open-confirm-ok h =
       let k = in-state stateTryOpen 25 (quiet 26 openConfirm h) in
@@ -225,11 +225,11 @@ module _ (bs : List ℕ) (room : ℕ) (b : List ℕ) (s : Store) (d : Datagram) 
       }
 
   -- an end that closes was OPEN
-  pub close-init-ok : lowest (some closeInit) lines ≡ 0 → c .state ≡ stateOpen
+  pub close-init-ok : firstGiven (some closeInit) lines ≡ 0 → c .state ≡ stateOpen
   unfolding givenAt table only _or_
   close-init-ok h = in-state stateOpen 25 (quiet 26 closeInit h)
 
-  pub close-confirm-ok : lowest (some closeConfirm) lines ≡ 0 →
+  pub close-confirm-ok : firstGiven (some closeConfirm) lines ≡ 0 →
       (c .state ≡ stateOpen) × Alike (d .endVerdict .end) (neededPeer stateClosed c)
   unfolding givenAt table only _or_
   close-confirm-ok h = (

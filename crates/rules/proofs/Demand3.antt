@@ -9,7 +9,7 @@ use Rattle.rules.specs.declared.Told.{Told}
 use Rattle.rules.specs.Names.{newEnd, makesEnd, orNone, refusals, sentPacket, makes, moves, effectOf}
 use Rattle.rules.specs.Names.{effectFor, answerTo, effectIn, called, Call, datagramGot, Met, endOf, Recorded}
 use Rattle.rules.specs.Names.{Answered, Demand3Holds}
-use Rattle.rules.proofs.RefusalLaws.{lowest-zero}
+use Rattle.rules.proofs.RefusalLaws.{first-given-zero}
 use Rattle.rules.proofs.KindLaws.{of-kinds, movesEnd, packets-record, recordOf}
 use Rattle.rules.proofs.Acted.{accepted-store, accepted-size, accepted-record, accepted-rest, refused-call}
 use Rattle.rules.proofs.Acted.{acted, acted-sent, acted-carried}
@@ -54,7 +54,7 @@ unfolding answerTo
 answered c m p q =
     let n : c .told .number ≡ answerTo (c .store) (c .output) (c .datagram) =
     ap (λ (t : Told). t .number) (m .told) ∙ number (c .store) (c .output) (c .datagram) in
-    let l = lowest-zero (datagramGot c .kind) (refusals (c .store) (length (c .output)) (c .datagram)) in
+    let l = first-given-zero (datagramGot c .kind) (refusals (c .store) (length (c .output)) (c .datagram)) in
     record {
       number = n;
       accepts = (λ t. l .0 (sym n ∙ t), λ q. n ∙ l .1 q);

@@ -27,7 +27,7 @@ ghost use Rattle.slots.specs.Layout.{Store, recordsFrom, storeIn};
 ghost use Rattle.datagram.specs.Kind.{openInit, openTry, openAcknowledge, openConfirm};
 ghost use Rattle.datagram.specs.Datagram.{Datagram};
 ghost use Rattle.rules.specs.Handshake.{isFull};
-ghost use Rattle.rules.specs.Refusals.{lowest};
+ghost use Rattle.rules.specs.Refusals.{firstGiven};
 ghost use Rattle.verdicts.specs.Lines.{numberBehind};
 ghost use Rattle.steps.specs.Moving.{movingLines};
 
@@ -101,7 +101,7 @@ pub fn open_try_row(
 
 // Lines 8, 14, 26 and 27 of a step that moves an end to another state, by the record that it needs and its prior state.
 pub fn moving_row(connected: bool, v: EndVerdict, needed: Channel, prior: u8, c: Channel) -> u8
-    ensures { λ r. ⌜ r ≡ lowest none (movingLines connected v needed prior c) ⌝ }
+    ensures { λ r. ⌜ r ≡ firstGiven none (movingLines connected v needed prior c) ⌝ }
 {
     if !connected {
         return 8;

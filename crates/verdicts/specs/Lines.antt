@@ -8,7 +8,7 @@ use Rattle.slots.specs.declared.Channel.{Channel}
 use Rattle.slots.specs.Layout.{Store}
 use Rattle.datagram.specs.Kind.{Kind}
 use Rattle.datagram.specs.Datagram.{Datagram}
-use Rattle.rules.specs.Refusals.{Line, lowest, table}
+use Rattle.rules.specs.Refusals.{Line, firstGiven, table}
 
 -- the lines behind those of a number
 unfoldable pub behind : (number : ℕ) → List Line → List Line
@@ -18,4 +18,4 @@ behind n (l ∷ ls) = pick (ltb n (l .place)) (l ∷ ls) (behind n ls)
 -- the answer by them. Bytes and room matter to the first three lines alone: behind them the table is the same for all,
 -- so these are none
 unfoldable pub numberBehind : (number : ℕ) → Option Kind → Store → Datagram → Channel → ℕ
-numberBehind n k s d c = lowest k (behind n (table [] 0 [] s d c))
+numberBehind n k s d c = firstGiven k (behind n (table [] 0 [] s d c))

@@ -6,24 +6,24 @@ use borrow.Author.Tests.{lt-ltb, le-ltb}
 use Rattle.slots.specs.Layout.{storeIn}
 use Rattle.datagram.specs.Datagram.{datagramIn}
 use Rattle.sound.proofs.SoundLaws.{malformed}
-use Rattle.rules.specs.Refusals.{lowest, table, refusals, orNone, endFor}
+use Rattle.rules.specs.Refusals.{firstGiven, table, refusals, orNone, endFor}
 use Rattle.verdicts.specs.Lines.{behind, numberBehind}
 use Rattle.verdicts.proofs.TestedLaws.{holds, fails}
 use Rattle.answer.proofs.answer.Statement.{statement}
 use Rattle.answer.proofs.answer.Tie as tie
 
 returns : tie.Need-returns
-unfolding table lowest
+unfolding table firstGiven
 returns c = rw (fails (c .before .is-fit .ensures) (c .if1 .taken))
 
 returns-2 : tie.Need-returns-2
-unfolding table lowest
+unfolding table firstGiven
 returns-2 c =
     let e1 = c .before in
     rw (holds (e1 .before .is-fit .ensures) (e1 .if1 .left), lt-ltb _ _ (c .if2 .taken))
 
 returns-3 : tie.Need-returns-3
-unfolding table lowest
+unfolding table firstGiven
 returns-3 c =
     let e2 = c .before .before .before in
     let e1 = e2 .before in
@@ -38,7 +38,7 @@ is-sound-requires : tie.Need-is-sound-requires
 is-sound-requires c κs = sym (c .before .before .before .frame-in .ensures) ∙ c .before .kind .given .1
 
 returns-4 : tie.Need-returns-4
-unfolding table lowest
+unfolding table firstGiven
 returns-4 c =
     let e2 = c .before .before .before .before .before .before in
     let e1 = e2 .before in
@@ -58,9 +58,9 @@ past : (e : tie.Else3) →
     let a = e .before .before .before .before .before .before .before .before .before .before .before .args in
     let s = storeIn (now (a .store)) in
     let d = datagramIn (now (a .datagram)) in
-    lowest (d .kind) (refusals (now (a .store)) (a .room) (now (a .datagram))) ≡
+    firstGiven (d .kind) (refusals (now (a .store)) (a .room) (now (a .datagram))) ≡
     numberBehind 3 (d .kind) s d (orNone (endFor s d))
-unfolding numberBehind behind table lowest
+unfolding numberBehind behind table firstGiven
 past e =
     let e2 = e .before .before .before .before .before .before in
     let e1 = e2 .before in

@@ -22,7 +22,7 @@ use Rattle.slots.proofs.SlotTestLaws.{channel-index}
 use Rattle.datagram.specs.Kind.{send, receive, write, acknowledge, kindOf, only}
 use Rattle.datagram.specs.Datagram.{Datagram, datagramOf}
 use Rattle.datagram.proofs.MatchLaws.{by-kind}
-use Rattle.rules.specs.Refusals.{lowest, table, orNone, endFor}
+use Rattle.rules.specs.Refusals.{firstGiven, table, orNone, endFor}
 use Rattle.rules.proofs.RefusalLaws.{given-both}
 use Rattle.verdicts.specs.Lines.{behind, numberBehind}
 use Rattle.answer.proofs.answer_on.Statement.{statement}
@@ -62,7 +62,7 @@ channel-in-requires : tie.Need-channel-in-requires
 channel-in-requires c κs = c .before .before .pre .0 .long
 
 returns : tie.Need-returns
-unfolding numberBehind behind table lowest
+unfolding numberBehind behind table firstGiven
 returns c =
     let f = c .before .before in
     let o = start f in
@@ -88,7 +88,7 @@ Left n k =
     numberBehind n (kindOf (o .args .kind)) s (sent o) (k .channel-at .result)
 
 past-5 : (k : tie.After-channel-at) → Left 5 k
-unfolding numberBehind behind table lowest
+unfolding numberBehind behind table firstGiven
 past-5 k =
     let o = origin (k .before) in
     let there =
@@ -106,28 +106,28 @@ open-kinds n h =
     (omega arith, λ e. clash {b = false} (sym (ap isSome e) ∙ h) refl)
 
 returns-2 : tie.Need-returns-2
-unfolding numberBehind behind table lowest _and_
+unfolding numberBehind behind table firstGiven _and_
 returns-2 c =
     let k = c .before .before in
     let o = origin (k .before) in
     sym (past-5 k ∙ rw (open-kinds (o .args .kind) (o .pre .0 .known), given-both, c .if1 .taken))
 
 past-6 : (e : tie.Else1) → Left 6 (e .before .before)
-unfolding numberBehind behind table lowest _and_
+unfolding numberBehind behind table firstGiven _and_
 past-6 e =
     let k = e .before .before in
     let o = origin (k .before) in
     past-5 k ∙ rw (open-kinds (o .args .kind) (o .pre .0 .known), given-both, e .if1 .left)
 
 returns-3 : tie.Need-returns-3
-unfolding numberBehind behind table lowest
+unfolding numberBehind behind table firstGiven
 returns-3 c =
     let e1 = c .before .before .before in
     let o = origin (e1 .before .before .before) in
     sym (past-6 e1 ∙ rw (o .pre .1, o .pre .0 .context, ne-eqb _ _ (c .if2 .taken)))
 
 past-7 : (e : tie.Else2) → Left 7 (e .before .before .before .before .before)
-unfolding numberBehind behind table lowest
+unfolding numberBehind behind table firstGiven
 past-7 e =
     let e1 = e .before .before .before in
     let o = origin (e1 .before .before .before) in

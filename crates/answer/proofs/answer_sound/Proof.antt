@@ -21,7 +21,7 @@ use Rattle.datagram.specs.Kind.{openInit, openTry, kindOf, only, bodyFrom}
 use Rattle.datagram.specs.Datagram.{contextIn, Datagram, datagramOf, datagramIn}
 use Rattle.datagram.proofs.KindLaws.{of-number}
 use Rattle.datagram.proofs.DatagramLaws.{Sound, sound-is}
-use Rattle.rules.specs.Refusals.{makesEnd, lowest, goesBack, table, orNone, endFor}
+use Rattle.rules.specs.Refusals.{makesEnd, firstGiven, goesBack, table, orNone, endFor}
 use Rattle.verdicts.specs.Lines.{behind, numberBehind}
 use Rattle.verdicts.proofs.TestedLaws.{came}
 use Rattle.answer.specs.Known.{Known}
@@ -68,7 +68,7 @@ u64-at-requires-2 : tie.Need-u64-at-requires-2
 u64-at-requires-2 c κs = omega (arith, sized (c .before .before .before .before) .whole)
 
 returns : tie.Need-returns
-unfolding numberBehind behind table lowest datagramIn
+unfolding numberBehind behind table firstGiven datagramIn
 returns c = rw (came (clock (c .before)) (c .if1 .taken))
 
 kind-in-requires : tie.Need-kind-in-requires
@@ -101,7 +101,7 @@ past-4 : (k : tie.After-kind-in) (c : Channel) →
     let b = sent (origin k) in
     let n = k .kind-in .result in
     numberBehind 3 (datagramIn b .kind) s (datagramIn b) c ≡ numberBehind 4 (kindOf n) s (datagramOf (kindOf n) b) c
-unfolding numberBehind behind table lowest datagramIn
+unfolding numberBehind behind table firstGiven datagramIn
 past-4 k c = rw (k .kind-in .ensures, came (clock (k .before .before)) (k .before .if1 .left))
 
 -- the end that it is about
@@ -118,7 +118,7 @@ making-numbers n =
 -- lines 5 to 7 are not for them, and theirs look at no end
 making-number : (n : ℕ) (s : Store) (d : Datagram) (c e : Channel) → (eqb n 6 or eqb n 7) ≡ true →
     numberBehind 4 (kindOf n) s d c ≡ numberBehind 7 (kindOf n) s d e
-unfolding numberBehind behind table lowest only _or_ withNumber
+unfolding numberBehind behind table firstGiven only _or_ withNumber
 making-number n s d c e h =
     cases (eqb n 6) (λ i. rw (eqb-true n 6 i)) (λ i. let j : eqb n 7 ≡ true = rw i at h in rw (eqb-true n 7 j))
 

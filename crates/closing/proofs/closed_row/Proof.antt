@@ -10,7 +10,7 @@ use Rattle.datagram.specs.Kind.{only, timeOutOnClose}
 use Rattle.datagram.specs.Datagram.{Datagram, onPacket, onEnd}
 use Rattle.rules.specs.Verdict.{firstEndDifference, blockDifference, hasVersion}
 use Rattle.rules.specs.Handshake.{neededPeer}
-use Rattle.rules.specs.Refusals.{absenceDifference, verdictNumber, lowest, table}
+use Rattle.rules.specs.Refusals.{absenceDifference, verdictNumber, firstGiven, table}
 use Rattle.verdicts.specs.Lines.{behind, numberBehind}
 use Rattle.verdicts.proofs.TestedLaws.{holds, fails, is-zero, is-not-zero}
 use Rattle.closing.proofs.closed_row.Statement.{statement}
@@ -50,20 +50,20 @@ block-number k =
     ap verdictNumber (k .before .block-difference .ensures (onEnd (a .v)) (onPacket (a .w)) refl refl refl refl)
 
 returns : tie.Need-returns
-unfolding numberBehind behind table lowest only _or_
+unfolding numberBehind behind table firstGiven only _or_
 returns c =
     let n = end-number (c .before) in
     λ s d p v w. rw (v, is-not-zero n (c .if1 .taken)) n
 
 returns-2 : tie.Need-returns-2
-unfolding numberBehind behind table lowest only _or_
+unfolding numberBehind behind table firstGiven only _or_
 returns-2 c =
     let e1 = c .before .before .before in
     let n = absence-number (c .before) in
     λ s d p v w. rw (p, v, w, is-zero (end-number (e1 .before)) (e1 .if1 .left), is-not-zero n (c .if2 .taken)) n
 
 returns-3 : tie.Need-returns-3
-unfolding numberBehind behind table lowest only _or_
+unfolding numberBehind behind table firstGiven only _or_
 returns-3 c =
     let e2 = c .before .before .before in
     let e1 = e2 .before .before .before in
@@ -79,7 +79,7 @@ returns-3 c =
 
 past-14 : (e : tie.Else3) →
     Left 14 (e .before .before .before .before .before .before .before .before .before .before)
-unfolding numberBehind behind table lowest only _or_
+unfolding numberBehind behind table firstGiven only _or_
 past-14 e s d h =
     let e2 = e .before .before .before in
     let e1 = e2 .before .before .before in
@@ -93,14 +93,14 @@ past-14 e s d h =
     )
 
 returns-4 : tie.Need-returns-4
-unfolding numberBehind behind table lowest only _or_
+unfolding numberBehind behind table firstGiven only _or_
 returns-4 c =
     λ s d p v w. sym (past-14 (c .before .before) s d (p, v, w) ∙
     rw (p, w, fails (c .before .times-out-in-order .ensures) (c .if4 .taken)))
 
 past-15 : (e : tie.Else4) →
     Left 15 (e .before .before .before .before .before .before .before .before .before .before .before .before)
-unfolding numberBehind behind table lowest only _or_
+unfolding numberBehind behind table firstGiven only _or_
 past-15 e s d h =
     past-14 (e .before .before) s d h ∙
     rw (h .0, h .2, holds (e .before .times-out-in-order .ensures) (e .if4 .left))
@@ -114,13 +114,13 @@ version k =
     k .has-version .ensures ∙ ap (hasVersion (needed .before .args .v)) (needed .needed-peer .ensures)
 
 returns-5 : tie.Need-returns-5
-unfolding numberBehind behind table lowest only _or_
+unfolding numberBehind behind table firstGiven only _or_
 returns-5 c =
     λ s d p v w. sym (past-15 (c .before .before) s d (p, v, w) ∙
     rw (v, fails (version (c .before)) (c .if5 .taken)))
 
 returns-6 : tie.Need-returns-6
-unfolding numberBehind behind table lowest only _or_
+unfolding numberBehind behind table firstGiven only _or_
 returns-6 c =
     λ s d p v w. sym (past-15 (c .before .before) s d (p, v, w) ∙
     rw (v, holds (version (c .before)) (c .if5 .left)))

@@ -7,18 +7,18 @@ use Rattle.wire.specs.Choice.{_or_}
 use Rattle.slots.specs.Layout.{storeIn}
 use Rattle.datagram.specs.Kind.{only, timeOutOnClose}
 use Rattle.datagram.specs.Datagram.{Datagram}
-use Rattle.rules.specs.Refusals.{lowest, table}
+use Rattle.rules.specs.Refusals.{firstGiven, table}
 use Rattle.verdicts.specs.Lines.{behind, numberBehind}
 use Rattle.verdicts.proofs.TestedLaws.{holds, fails}
 use Rattle.closing.proofs.time_out_on_close_row.Statement.{statement}
 use Rattle.closing.proofs.time_out_on_close_row.Tie as tie
 
 returns : tie.Need-returns
-unfolding numberBehind behind table lowest only _or_
+unfolding numberBehind behind table firstGiven only _or_
 returns c = λ d p v w. rw (p, fails (c .before .fits-source .ensures) (c .if1 .taken))
 
 returns-2 : tie.Need-returns-2
-unfolding numberBehind behind table lowest only _or_
+unfolding numberBehind behind table firstGiven only _or_
 returns-2 c =
     let e1 = c .before .before in
     λ d p v w. rw (
@@ -33,7 +33,7 @@ past-13 : (e : tie.Else2) (d : Datagram) →
     let s = storeIn (now (a .store)) in
     d .packet ≡ a .p →
     numberBehind 7 (some timeOutOnClose) s d (a .c) ≡ numberBehind 13 (some timeOutOnClose) s d (a .c)
-unfolding numberBehind behind table lowest only _or_
+unfolding numberBehind behind table firstGiven only _or_
 past-13 e d p =
     let e1 = e .before .before in
     rw (

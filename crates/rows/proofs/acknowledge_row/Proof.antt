@@ -8,7 +8,7 @@ use Rattle.wire.specs.Choice.{_or_}
 use Rattle.slots.specs.Layout.{storeIn}
 use Rattle.datagram.specs.Kind.{only, acknowledge}
 use Rattle.datagram.specs.Datagram.{Datagram}
-use Rattle.rules.specs.Refusals.{acknowledgementDifference, verdictNumber, lowest, table}
+use Rattle.rules.specs.Refusals.{acknowledgementDifference, verdictNumber, firstGiven, table}
 use Rattle.verdicts.specs.Lines.{behind, numberBehind}
 use Rattle.verdicts.proofs.TestedLaws.{came, holds, fails, is-zero, is-not-zero}
 use Rattle.rows.proofs.acknowledge_row.Statement.{statement}
@@ -23,32 +23,32 @@ Left n o =
     numberBehind n (some acknowledge) (storeIn (now (a .store))) d (a .c)
 
 returns : tie.Need-returns
-unfolding numberBehind behind table lowest only _or_
+unfolding numberBehind behind table firstGiven only _or_
 returns c = λ d x p a v. rw (x, came (c .before .lacks-connection .ensures) (c .if1 .taken))
 
 past-8 : (e : tie.Else1) → Left 8 (e .before .before .before)
-unfolding numberBehind behind table lowest only _or_
+unfolding numberBehind behind table firstGiven only _or_
 past-8 e d x p a v = rw (x, came (e .before .lacks-connection .ensures) (e .if1 .left))
 
 returns-2 : tie.Need-returns-2
-unfolding numberBehind behind table lowest only _or_
+unfolding numberBehind behind table firstGiven only _or_
 returns-2 c =
     λ d x p a v. sym (past-8 (c .before .before) d x p a v ∙
     rw (p, fails (c .before .fits-source .ensures) (c .if2 .taken)))
 
 past-9 : (e : tie.Else2) → Left 9 (e .before .before .before .before .before)
-unfolding numberBehind behind table lowest only _or_
+unfolding numberBehind behind table firstGiven only _or_
 past-9 e d x p a v =
     past-8 (e .before .before) d x p a v ∙ rw (p, holds (e .before .fits-source .ensures) (e .if2 .left))
 
 returns-3 : tie.Need-returns-3
-unfolding numberBehind behind table lowest only _or_
+unfolding numberBehind behind table firstGiven only _or_
 returns-3 c =
     λ d x p a v. sym (past-9 (c .before .before) d x p a v ∙
     rw (p, fails (c .before .is-committed .ensures) (c .if3 .taken)))
 
 past-13 : (e : tie.Else3) → Left 13 (e .before .before .before .before .before .before .before)
-unfolding numberBehind behind table lowest only _or_
+unfolding numberBehind behind table firstGiven only _or_
 past-13 e d x p a v =
     past-9 (e .before .before) d x p a v ∙ rw (p, holds (e .before .is-committed .ensures) (e .if3 .left))
 
@@ -59,7 +59,7 @@ number : (k : tie.After-verdict-number) →
 number k = k .verdict-number .ensures ∙ ap verdictNumber (k .before .acknowledgement-difference .ensures)
 
 returns-4 : tie.Need-returns-4
-unfolding numberBehind behind table lowest only _or_
+unfolding numberBehind behind table firstGiven only _or_
 returns-4 c =
     let n = number (c .before) in
     λ d x p a v. sym (past-13 (c .before .before .before) d x p a v ∙
@@ -67,7 +67,7 @@ returns-4 c =
 
 past-14 : (e : tie.Else4) →
     Left 14 (e .before .before .before .before .before .before .before .before .before .before)
-unfolding numberBehind behind table lowest only _or_
+unfolding numberBehind behind table firstGiven only _or_
 past-14 e d x p a v =
     past-13 (e .before .before .before) d x p a v ∙ rw (p, a, v, is-zero (number (e .before)) (e .if4 .left))
 

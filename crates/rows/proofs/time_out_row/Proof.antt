@@ -8,7 +8,7 @@ use Rattle.wire.specs.Choice.{_or_}
 use Rattle.slots.specs.Layout.{storeIn}
 use Rattle.datagram.specs.Kind.{only, timeOut}
 use Rattle.datagram.specs.Datagram.{Datagram}
-use Rattle.rules.specs.Refusals.{absenceDifference, verdictNumber, lowest, table}
+use Rattle.rules.specs.Refusals.{absenceDifference, verdictNumber, firstGiven, table}
 use Rattle.verdicts.specs.Lines.{behind, numberBehind}
 use Rattle.verdicts.proofs.TestedLaws.{holds, fails, is-zero, is-not-zero}
 use Rattle.rows.proofs.time_out_row.Statement.{statement}
@@ -23,32 +23,32 @@ Left n o =
     numberBehind n (some timeOut) (storeIn (now (a .store))) d (a .c)
 
 returns : tie.Need-returns
-unfolding numberBehind behind table lowest only _or_
+unfolding numberBehind behind table firstGiven only _or_
 returns c = λ d p v. rw (p, fails (c .before .fits-source .ensures) (c .if1 .taken))
 
 past-9 : (e : tie.Else1) → Left 9 (e .before .before .before)
-unfolding numberBehind behind table lowest only _or_
+unfolding numberBehind behind table firstGiven only _or_
 past-9 e d p v = rw (p, holds (e .before .fits-source .ensures) (e .if1 .left))
 
 returns-2 : tie.Need-returns-2
-unfolding numberBehind behind table lowest only _or_
+unfolding numberBehind behind table firstGiven only _or_
 returns-2 c =
     λ d p v. sym (past-9 (c .before .before .before) d p v ∙
     rw (p, v, fails (c .before .is-proved-late .ensures) (c .if2 .taken)))
 
 past-12 : (e : tie.Else2) → Left 12 (e .before .before .before .before .before .before)
-unfolding numberBehind behind table lowest only _or_
+unfolding numberBehind behind table firstGiven only _or_
 past-12 e d p v =
     past-9 (e .before .before .before) d p v ∙ rw (p, v, holds (e .before .is-proved-late .ensures) (e .if2 .left))
 
 returns-3 : tie.Need-returns-3
-unfolding numberBehind behind table lowest only _or_
+unfolding numberBehind behind table firstGiven only _or_
 returns-3 c =
     λ d p v. sym (past-12 (c .before .before) d p v ∙
     rw (p, fails (c .before .is-committed .ensures) (c .if3 .taken)))
 
 past-13 : (e : tie.Else3) → Left 13 (e .before .before .before .before .before .before .before .before)
-unfolding numberBehind behind table lowest only _or_
+unfolding numberBehind behind table firstGiven only _or_
 past-13 e d p v =
     past-12 (e .before .before) d p v ∙ rw (p, holds (e .before .is-committed .ensures) (e .if3 .left))
 
@@ -59,31 +59,31 @@ number : (k : tie.After-verdict-number) →
 number k = k .verdict-number .ensures ∙ ap verdictNumber (k .before .absence-difference .ensures)
 
 returns-4 : tie.Need-returns-4
-unfolding numberBehind behind table lowest only _or_
+unfolding numberBehind behind table firstGiven only _or_
 returns-4 c =
     let n = number (c .before) in
     λ d p v. sym (past-13 (c .before .before .before) d p v ∙ rw (p, v, is-not-zero n (c .if4 .taken)) (sym n))
 
 past-14 : (e : tie.Else4) →
     Left 14 (e .before .before .before .before .before .before .before .before .before .before .before)
-unfolding numberBehind behind table lowest only _or_
+unfolding numberBehind behind table firstGiven only _or_
 past-14 e d p v =
     past-13 (e .before .before .before) d p v ∙ rw (p, v, is-zero (number (e .before)) (e .if4 .left))
 
 returns-5 : tie.Need-returns-5
-unfolding numberBehind behind table lowest only _or_
+unfolding numberBehind behind table firstGiven only _or_
 returns-5 c =
     λ d p v. sym (past-14 (c .before .before) d p v ∙
     rw (p, v, fails (c .before .times-out-in-order .ensures) (c .if5 .taken)))
 
 past-15 : (e : tie.Else5) →
     Left 15 (e .before .before .before .before .before .before .before .before .before .before .before .before .before)
-unfolding numberBehind behind table lowest only _or_
+unfolding numberBehind behind table firstGiven only _or_
 past-15 e d p v =
     past-14 (e .before .before) d p v ∙ rw (p, v, holds (e .before .times-out-in-order .ensures) (e .if5 .left))
 
 returns-6 : tie.Need-returns-6
-unfolding numberBehind behind table lowest only _or_
+unfolding numberBehind behind table firstGiven only _or_
 returns-6 c = λ d p v. sym (past-15 c d p v)
 
 pub time-out-row-spec : {M : Type 1} → statement M

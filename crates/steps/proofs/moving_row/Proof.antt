@@ -5,7 +5,7 @@ use Prim.Native.Nat.{ℕ}
 use borrow.Author.Needs.{needs}
 use borrow.Author.Tests.{eq-eqb, ne-eqb}
 use Rattle.rules.specs.Verdict.{firstEndDifference}
-use Rattle.rules.specs.Refusals.{lowest, verdictNumber}
+use Rattle.rules.specs.Refusals.{firstGiven, verdictNumber}
 use Rattle.verdicts.specs.Lines.{behind}
 use Rattle.verdicts.proofs.TestedLaws.{holds, fails, is-zero, is-not-zero}
 use Rattle.steps.specs.Moving.{movingLines}
@@ -16,7 +16,7 @@ use Rattle.steps.proofs.moving_row.Tie as tie
 abbrev left : ℕ → tie.Start → ℕ
 left n o =
     let a = o .args in
-    lowest none (behind n (movingLines (a .connected) (a .v) (a .needed) (a .prior) (a .c)))
+    firstGiven none (behind n (movingLines (a .connected) (a .v) (a .needed) (a .prior) (a .c)))
 
 -- what line 14 gives
 number : (k : tie.After-verdict-number) →
@@ -25,11 +25,11 @@ number : (k : tie.After-verdict-number) →
 number k = k .verdict-number .ensures ∙ ap verdictNumber (k .before .end-difference .ensures)
 
 returns : tie.Need-returns
-unfolding movingLines lowest
+unfolding movingLines firstGiven
 returns c = rw (c .if1 .taken)
 
 returns-2 : tie.Need-returns-2
-unfolding movingLines lowest
+unfolding movingLines firstGiven
 returns-2 c =
     let e1 = c .before .before .before in
     let n = number (c .before) in
@@ -37,26 +37,26 @@ returns-2 c =
 
 past-14 : (e : tie.Else2) →
     let o = e .before .before .before .before in left 0 o ≡ left 14 o
-unfolding movingLines behind lowest
+unfolding movingLines behind firstGiven
 past-14 e =
     let e1 = e .before .before .before in
     rw (e1 .if1 .left, is-zero (number (e .before)) (e .if2 .left))
 
 returns-3 : tie.Need-returns-3
-unfolding movingLines behind lowest
+unfolding movingLines behind firstGiven
 returns-3 c = sym (past-14 (c .before .before) ∙ rw (ne-eqb _ _ (c .if3 .taken)))
 
 past-26 : (e : tie.Else3) →
     let o = e .before .before .before .before .before .before in left 0 o ≡ left 26 o
-unfolding movingLines behind lowest
+unfolding movingLines behind firstGiven
 past-26 e = past-14 (e .before .before) ∙ rw (eq-eqb _ _ (e .if3 .left))
 
 returns-4 : tie.Need-returns-4
-unfolding movingLines behind lowest
+unfolding movingLines behind firstGiven
 returns-4 c = sym (past-26 (c .before .before) ∙ rw (fails (c .before .has-version .ensures) (c .if4 .taken)))
 
 returns-5 : tie.Need-returns-5
-unfolding movingLines behind lowest
+unfolding movingLines behind firstGiven
 returns-5 c = sym (past-26 (c .before .before) ∙ rw (holds (c .before .has-version .ensures) (c .if4 .left)))
 
 pub moving-row-spec : {M : Type 1} → statement M

@@ -13,7 +13,7 @@ use Rattle.datagram.specs.Kind.{only, openTry}
 use Rattle.datagram.specs.Datagram.{Datagram}
 use Rattle.rules.specs.Verdict.{sameButVersion, firstEndDifference, hasVersion}
 use Rattle.rules.specs.Handshake.{neededEnd, neededInit}
-use Rattle.rules.specs.Refusals.{lowest, verdictNumber, table}
+use Rattle.rules.specs.Refusals.{firstGiven, verdictNumber, table}
 use Rattle.verdicts.specs.Lines.{behind, numberBehind}
 use Rattle.verdicts.proofs.TestedLaws.{came, holds, fails, is-zero, is-not-zero}
 use Rattle.steps.proofs.open_try_row.Statement.{statement}
@@ -33,7 +33,7 @@ Left n o =
     numberBehind n (some openTry) (storeIn (now (o .args .store))) d c
 
 returns : tie.Need-returns
-unfolding numberBehind behind table lowest only _or_
+unfolding numberBehind behind table firstGiven only _or_
 returns c = λ d e x o p v f w. rw (x, came (c .before .lacks-connection .ensures) (c .if1 .taken))
 
 -- what line 14 gives, which does not look at the version
@@ -49,33 +49,33 @@ number k d h =
     (k .before .end-difference .ensures ∙ ap (firstEndDifference (a .v)) (k .before .before .needed-init .ensures)))
 
 past-8 : (e : tie.Else1) → Left 8 (e .before .before .before)
-unfolding numberBehind behind table lowest only _or_
+unfolding numberBehind behind table firstGiven only _or_
 past-8 e d c h = rw (h .0, came (e .before .lacks-connection .ensures) (e .if1 .left))
 
 returns-2 : tie.Need-returns-2
-unfolding numberBehind behind table lowest only _or_
+unfolding numberBehind behind table firstGiven only _or_
 returns-2 c =
     λ d e x o p v f w.
     let n = number (c .before) d (x, o, p, v) in
     sym (past-8 (c .before .before .before .before) d e (x, o, p, v) ∙ rw (is-not-zero n (c .if2 .taken)) (sym n))
 
 past-14 : (e : tie.Else2) → Left 14 (e .before .before .before .before .before .before .before)
-unfolding numberBehind behind table lowest only _or_
+unfolding numberBehind behind table firstGiven only _or_
 past-14 e d c h =
     past-8 (e .before .before .before .before) d c h ∙ rw (is-zero (number (e .before) d h) (e .if2 .left))
 
 returns-3 : tie.Need-returns-3
-unfolding numberBehind behind table lowest only _or_
+unfolding numberBehind behind table firstGiven only _or_
 returns-3 c =
     λ d e x o p v f w. sym (past-14 (c .before .before) d e (x, o, p, v) ∙
     rw (came (c .before .is-full .ensures) (c .if3 .taken)))
 
 past-25 : (e : tie.Else3) → Left 25 (e .before .before .before .before .before .before .before .before .before)
-unfolding numberBehind behind table lowest only _or_
+unfolding numberBehind behind table firstGiven only _or_
 past-25 e d c h = past-14 (e .before .before) d c h ∙ rw (came (e .before .is-full .ensures) (e .if3 .left))
 
 returns-4 : tie.Need-returns-4
-unfolding numberBehind behind table lowest only _or_
+unfolding numberBehind behind table firstGiven only _or_
 returns-4 c =
     λ d e x o p v f w. sym (past-25 (c .before) d e (x, o, p, v) ∙ rw (fails (sym f) (c .if4 .taken)))
 
@@ -91,7 +91,7 @@ version k d h w =
     (k .has-version .ensures ∙ ap (hasVersion (a .v)) (needed .needed-init .ensures))
 
 returns-5 : tie.Need-returns-5
-unfolding numberBehind behind table lowest only _or_
+unfolding numberBehind behind table firstGiven only _or_
 returns-5 c =
     let e4 = c .before .before in
     λ d e x o p v f w.
@@ -99,7 +99,7 @@ returns-5 c =
     sym (past-25 (e4 .before) d e (x, o, p, v) ∙ rw (holds (sym f) (e4 .if4 .left), fails same (c .if5 .taken)))
 
 returns-6 : tie.Need-returns-6
-unfolding numberBehind behind table lowest only _or_
+unfolding numberBehind behind table firstGiven only _or_
 returns-6 c =
     let e4 = c .before .before in
     λ d e x o p v f w.
