@@ -26,6 +26,7 @@ pub mod Truth
 pub mod Timeouts
 pub mod HonestLaws
 pub mod Facts
+pub mod Computation
 pub mod CaseLaws
 pub mod Demand3
 pub mod Stays
