@@ -16,7 +16,6 @@ use slots::Channel;
 use steps::moving_row;
 use verdicts::absence_difference;
 use verdicts::block_difference;
-use verdicts::verdict_number;
 ghost use mathlib.Core.Path.{_≡_};
 ghost use mathlib.Core.Option.{some};
 ghost use Rattle.slots.specs.Layout.{Store, storeIn};
@@ -89,15 +88,15 @@ fn closed_row(p: Packet, v: EndVerdict, w: Verdict, c: Channel) -> u8
         ⌝ }
 {
     let needed = needed_peer(Channel::CLOSED, c);
-    let end = verdict_number(end_difference(v, needed));
+    let end = end_difference(v, needed);
     if end != 0 {
         return end;
     }
-    let absence = verdict_number(absence_difference(c, p, w));
+    let absence = absence_difference(c, p, w);
     if absence != 0 {
         return absence;
     }
-    let block = verdict_number(block_difference(v.height, v.time, w.height, w.time));
+    let block = block_difference(v.height, v.time, w.height, w.time);
     if block != 0 {
         return block;
     }

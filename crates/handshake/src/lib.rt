@@ -31,18 +31,18 @@ fn same_but_version(a: Channel, b: Channel) -> bool
             & (a.next.acknowledge == b.next.acknowledge))
 }
 
-// 14, for 7 to 9, 11 and 12: 1 the claim, 6 the record but for its version; 0 where none of them differs.
+// For 7 to 9, 11 and 12: 140 the claim, 145 the record but for its version; 0 where none of them differs.
 pub fn end_difference(v: EndVerdict, needed: Channel) -> u8
     ensures { λ r. ⌜ r ≡ firstEndDifference v needed ⌝ }
 {
     if v.claim != END_IS {
-        return 1;
+        return 140;
     }
     let end = v.end;
     if (v.kind == Channel::KIND) & same_but_version(end, needed) {
         return 0;
     }
-    6
+    145
 }
 
 // 27, for 7 to 9, 11 and 12.

@@ -1,5 +1,5 @@
-// What depends on a channel's ordering: the tests 14 for 5 and 12, 15, 16 for 2, 17, 19, and 20 for 2; whether a
-// counter rises. Beside it only the fitness of acknowledgements depends on it, in entries.
+// What depends on a channel's ordering: lines 14 for 5 and 12, 15, 16 for 2, 17, 19, and 20 for 2; whether a counter
+// rises. Beside it only the fitness of acknowledgements depends on it, in entries.
 use slots::Channel;
 use slots::Key;
 use slots::Record;
@@ -83,7 +83,7 @@ pub fn is_received(store: &[u8], count: usize, c: Channel, sequence: u64) -> boo
     has_receipt(store, count, c, sequence)
 }
 
-// 14, for 5 and 12: what a verdict has to claim of a packet that was not received, next receive or no receipt.
+// Line 14, for 5 and 12: what a verdict has to claim of a packet that was not received, next receive or no receipt.
 pub fn absence_claim(c: Channel) -> u16
     ensures { λ r. ⌜ r ≡ claimNumber (absenceClaim c) ⌝ }
 {

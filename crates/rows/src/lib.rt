@@ -30,7 +30,6 @@ use tables::halves::has_record;
 use verdicts::absence_difference;
 use verdicts::acknowledgement_difference;
 use verdicts::commitment_difference;
-use verdicts::verdict_number;
 use wire::is_zero_digest;
 ghost use mathlib.Core.Path.{_≡_};
 ghost use mathlib.Core.Bool.{not};
@@ -85,7 +84,7 @@ pub fn receive_row(store: &[u8], count: usize, x: Context, p: Packet, v: Verdict
     if is_late_at_receiver(x, timeout) {
         return 11;
     }
-    let number = verdict_number(commitment_difference(p, v));
+    let number = commitment_difference(p, v);
     if number != 0 {
         return number;
     }
@@ -179,7 +178,7 @@ pub fn acknowledge_row(
     if !is_committed(store, count, p) {
         return 13;
     }
-    let number = verdict_number(acknowledgement_difference(p, digest, v));
+    let number = acknowledgement_difference(p, digest, v);
     if number != 0 {
         return number;
     }
@@ -217,7 +216,7 @@ pub fn time_out_row(store: &[u8], count: usize, p: Packet, v: Verdict, c: Channe
     if !is_committed(store, count, p) {
         return 13;
     }
-    let number = verdict_number(absence_difference(c, p, v));
+    let number = absence_difference(c, p, v);
     if number != 0 {
         return number;
     }

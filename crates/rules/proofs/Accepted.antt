@@ -14,9 +14,9 @@ use Rattle.rules.specs.Names.{firstEndDifference, hasVersion, moved, rec
 use Rattle.rules.specs.Names.{timesOutInOrder, isSendAtTop, isReceiveAtTop, isAcknowledgeAtTop, needsReceipt}
 use Rattle.rules.specs.Names.{isFull, neededEnd, neededInit, answering, neededTryOpen, neededPeer, firstGiven}
 use Rattle.rules.specs.Names.{fitsDestination, fitsSource, isLateAtReceiver, isProvedLate, isCommitted}
-use Rattle.rules.specs.Names.{commitmentDifference, absenceDifference, verdictNumber, table, Line, makesEnd}
+use Rattle.rules.specs.Names.{commitmentDifference, absenceDifference, table, Line, makesEnd}
 use Rattle.rules.specs.Names.{endFor, isInState, isAcknowledgementThere}
-use Rattle.rules.proofs.RefusalLaws.{givenAt, silent, each-silent, not-given, test-holds, no-difference}
+use Rattle.rules.proofs.RefusalLaws.{givenAt, silent, each-silent, not-given, test-holds}
 use Rattle.rules.proofs.VerdictLaws.{Alike, Partners, one-block, shows}
 
 pub record SendOk (s : Store) (c : Channel) : Type 0 where
@@ -96,9 +96,9 @@ module _ (bs : List ℕ) (room : ℕ) (b : List ℕ) (s : Store) (d : Datagram) 
   in-state n m h = eqb-true (c .state) n (test-holds _ m h)
 
   -- the end verdict shows the record that it asks for
-  shows-needed : (e : Channel) → verdictNumber (firstEndDifference (d .endVerdict) e) ≡ 0 →
+  shows-needed : (e : Channel) → firstEndDifference (d .endVerdict) e ≡ 0 →
       pick {A = ℕ} (not (hasVersion (d .endVerdict) e)) 27 0 ≡ 0 → Alike (d .endVerdict .end) e
-  shows-needed e h v = shows (d .endVerdict) e (no-difference _ h) (test-holds _ 26 v)
+  shows-needed e h v = shows (d .endVerdict) e h (test-holds _ 26 v)
 
   -- a datagram that makes no end is about one that is there
   pub end-there : (k : Option Kind) → firstGiven k lines ≡ 0 → makesEnd k ≡ false → isSome (endFor s d) ≡ true
@@ -123,7 +123,7 @@ module _ (bs : List ℕ) (room : ℕ) (b : List ℕ) (s : Store) (d : Datagram) 
         state = in-state stateOpen 5 (quiet 6 receive h);
         fits = test-holds _ 8 (quiet 9 receive h);
         early = not-given _ 10 (quiet 11 receive h);
-        about = no-difference _ (quiet 14 receive h);
+        about = quiet 14 receive h;
         inOrder = test-holds _ 14 (quiet 15 receive h);
         new = not-given _ 15 (quiet 16 receive h);
         below = not-given _ 18 (quiet 19 receive h);
@@ -150,7 +150,7 @@ module _ (bs : List ℕ) (room : ℕ) (b : List ℕ) (s : Store) (d : Datagram) 
   -- what both time-outs ask for
   timed-out : Why d c → pick {A = ℕ} (not (fitsSource c (d .packet))) 9 0 ≡ 0 →
       pick {A = ℕ} (not (isCommitted (s .records) (d .packet))) 13 0 ≡ 0 →
-      verdictNumber (absenceDifference c (d .packet) (d .verdict)) ≡ 0 →
+      absenceDifference c (d .packet) (d .verdict) ≡ 0 →
       pick {A = ℕ} (not (timesOutInOrder c (d .packet .sequence) (d .verdict .sequence))) 15 0 ≡ 0 →
       TimeoutOk s d c
   timed-out w f k a o =
@@ -158,7 +158,7 @@ module _ (bs : List ℕ) (room : ℕ) (b : List ℕ) (s : Store) (d : Datagram) 
         why = w;
         fits = test-holds _ 8 f;
         committed = test-holds _ 12 k;
-        about = no-difference _ a;
+        about = a;
         inOrder = test-holds _ 14 o;
       }
 
@@ -172,8 +172,7 @@ module _ (bs : List ℕ) (room : ℕ) (b : List ℕ) (s : Store) (d : Datagram) 
   unfolding givenAt table only _or_
   timeout-on-close-ok e h =
       let shut = shows-needed (neededPeer stateClosed c) (quiet 14 timeOutOnClose h) (quiet 27 timeOutOnClose h) in
-      let block = one-block (onEnd (d .endVerdict)) (onPacket (d .verdict))
-      (no-difference _ (quiet-at 2 14 timeOutOnClose h)) in
+      let block = one-block (onEnd (d .endVerdict)) (onPacket (d .verdict)) (quiet-at 2 14 timeOutOnClose h) in
       timed-out (byClose e shut block) (quiet 9 timeOutOnClose h) (quiet 13 timeOutOnClose h)
       (quiet-at 1 14 timeOutOnClose h) (quiet 15 timeOutOnClose h)
 

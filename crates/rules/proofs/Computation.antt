@@ -23,7 +23,7 @@ use Rattle.rules.specs.Names.{timedOutEnd, isSendAtTop, isReceiveAtTop, 
 use Rattle.rules.specs.Names.{isFull, neededEnd, neededInit, answering, neededTryOpen, neededPeer, firstGiven}
 use Rattle.rules.specs.Names.{goesBack, noChannel, fitsDestination, fitsSource, isLateAtSender, isLateAtReceiver}
 use Rattle.rules.specs.Names.{isProvedLate, isCommitted, commitmentDifference, acknowledgementDifference}
-use Rattle.rules.specs.Names.{absenceDifference, verdictNumber, table, sentPacket, commitment, sends, receives}
+use Rattle.rules.specs.Names.{absenceDifference, table, sentPacket, commitment, sends, receives}
 use Rattle.rules.specs.Names.{writesAcknowledgement, acknowledges, timesOut, makes, moves, effectOf, effectFor}
 use Rattle.rules.specs.Names.{placed, numberAfter, edited, applied, answerTo, effectIn, nextStore, called}
 use Rattle.rules.specs.Names.{anOpening, openings, aContext, aDigest, anAnswer, aPacket, aBlock, aVerdict, aSend}
@@ -46,11 +46,10 @@ unfolding _and_ _or_ withNumber same areZero little numberOf part field pieces i
     receivedEdit acknowledgesInOrder raisesAcknowledge acknowledgedEnd absenceClaim absenceSequence timesOutInOrder
     timedOutEnd isSendAtTop isReceiveAtTop isAcknowledgeAtTop needsReceipt newEnd isFull neededEnd neededInit answering
     neededTryOpen neededPeer firstGiven goesBack noChannel fitsDestination fitsSource isLateAtSender isLateAtReceiver
-    isProvedLate isCommitted commitmentDifference acknowledgementDifference absenceDifference verdictNumber table
-    sentPacket commitment sends receives writesAcknowledgement acknowledges timesOut makes moves effectOf effectFor
-    placed numberAfter edited applied answerTo effectIn nextStore called aSlice anOpening openings aContext aDigest
-    anAnswer aPacket aBlock aVerdict aSend receiveBy aWrite acknowledgeBy timeoutBy anOutput fresh atTop openingsOn
-    stores requests calls fold empty aVersion endWith anEndVerdict anOpenInit openTryBy openAcknowledgeBy openConfirmBy
-    storeOf handshakes transfers openedStores closings aCloseInit closeConfirmBy timeoutOnCloseBy blockDifference
-    holding
+    isProvedLate isCommitted commitmentDifference acknowledgementDifference absenceDifference table sentPacket
+    commitment sends receives writesAcknowledgement acknowledges timesOut makes moves effectOf effectFor placed
+    numberAfter edited applied answerTo effectIn nextStore called aSlice anOpening openings aContext aDigest anAnswer
+    aPacket aBlock aVerdict aSend receiveBy aWrite acknowledgeBy timeoutBy anOutput fresh atTop openingsOn stores
+    requests calls fold empty aVersion endWith anEndVerdict anOpenInit openTryBy openAcknowledgeBy openConfirmBy storeOf
+    handshakes transfers openedStores closings aCloseInit closeConfirmBy timeoutOnCloseBy blockDifference holding
 computation = tt

@@ -40,12 +40,12 @@ pub about : (v : Verdict) (k : ℕ) (e : PortChannel) (n : ℕ) (t : Timeout) (d
     About v k e n t d
 unfolding firstDifference
 about v k e n t d h =
-    let a = passed (eqb (v .claim) k) 0 _ h in
-    let b = passed (eqb (v .about .port) (e .port)) 1 _ (a .1) in
-    let c = passed (eqb (v .about .channel) (e .channel)) 2 _ (b .1) in
-    let f = passed (eqb (v .sequence) n) 3 _ (c .1) in
-    let g = passed (sameTimeout (v .timeout) t) 4 _ (f .1) in
-    let i = passed (same (v .digest) d) 5 _ (g .1) in
+    let a = passed (eqb (v .claim) k) 139 _ h in
+    let b = passed (eqb (v .about .port) (e .port)) 140 _ (a .1) in
+    let c = passed (eqb (v .about .channel) (e .channel)) 141 _ (b .1) in
+    let f = passed (eqb (v .sequence) n) 142 _ (c .1) in
+    let g = passed (sameTimeout (v .timeout) t) 143 _ (f .1) in
+    let i = passed (same (v .digest) d) 144 _ (g .1) in
     let p = eqb-true (v .about .port) (e .port) (b .0) in
     let q = eqb-true (v .about .channel) (e .channel) (c .0) in
     let w : v .about ≡ e = λ j. record { port = p j; channel = q j } in
@@ -79,7 +79,7 @@ has-values t d (some r) h =
 pub one-block : (v w : AnyVerdict) → blockDifference v w ≡ 0 → blockHeight v ≡ blockHeight w
 unfolding blockDifference
 one-block v w h =
-    let a = passed _ 6 0 h in
+    let a = passed _ 145 0 h in
     let q = eqb-true (blockHeight v .0) (blockHeight w .0) (and-both (a .0) .0) in
     λ i. record { 0 = q i }
 
@@ -207,8 +207,8 @@ alike c e h v =
 pub shows : (v : EndVerdict) (e : Channel) → firstEndDifference v e ≡ 0 → hasVersion v e ≡ true → Alike (v .end) e
 unfolding firstEndDifference hasVersion
 shows v e h k =
-    let a = passed (eqb (v .claim) (claimNumber endIs)) 0 _ h in
-    let b = passed (eqb (v .kind) channelKind and sameButVersion (v .end) e) 5 _ (a .1) in
+    let a = passed (eqb (v .claim) (claimNumber endIs)) 139 _ h in
+    let b = passed (eqb (v .kind) channelKind and sameButVersion (v .end) e) 144 _ (a .1) in
     alike (v .end) e (and-both (b .0) .1) k
 
 -- and where its claim holds, the end that is shown is there

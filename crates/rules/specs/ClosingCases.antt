@@ -119,11 +119,8 @@ packetsBy f = map f (timeouts usual unchanged unchanged)
 abbrev pub numbersOf : (ℕ → List (List ℕ)) → List ℕ → List (List ℕ)
 numbersOf ds ns = map (numbersFrom (sent 3 3)) (map ds ns)
 
--- the first and the last byte of a packet's verdict behind its block: port, channel, sequence, timeouts, digest; and of
--- a packet in its datagram: sequence, timeouts, source port and channel, destination port and channel, digest
-abbrev pub verdictPlaces : List ℕ
-verdictPlaces = 18 ∷ 19 ∷ 20 ∷ 23 ∷ 24 ∷ 31 ∷ 32 ∷ 39 ∷ 40 ∷ 47 ∷ 48 ∷ 79 ∷ []
-
+-- the first and the last byte of a packet's parts in its datagram: sequence, timeouts, source port and channel,
+-- destination port and channel, digest
 abbrev pub packetPlaces : List ℕ
 packetPlaces =
     38 ∷ 45 ∷ 46 ∷ 53 ∷ 54 ∷ 61 ∷ 62 ∷ 63 ∷ 64 ∷ 67 ∷ 68 ∷ 69 ∷ 70 ∷ 73 ∷ 74 ∷ 105 ∷ []
@@ -197,25 +194,20 @@ pub record ClosingCases : Type 0 where
       replicate 6 (replicate 2 13) ++ replicate 2 (replicate 2 9) ++ replicate 2 (replicate 2 5) ++
       replicate 4 (replicate 2 9) ++ replicate 2 (replicate 2 13)
   -- the end verdict's parts; its claim and its record's state and order, by each value
-  pub otherRecord : numbersOf (λ i. endsBy (byteAt i 3)) recordPlaces ≡ replicate 18 (replicate 4 14)
+  pub otherRecord : numbersOf (λ i. endsBy (byteAt i 3)) recordPlaces ≡ replicate 18 (replicate 4 145)
   pub eachEndClaim : numbersOf (λ b. endsBy (byteAt 0 b)) (0 ∷ 1 ∷ 2 ∷ 3 ∷ 4 ∷ 5 ∷ 6 ∷ []) ≡
-      replicate 4 3 ∷ replicate 4 (replicate 4 14) ++ (replicate 4 0 ∷ replicate 4 3 ∷ [])
+      replicate 4 3 ∷ replicate 4 (replicate 4 140) ++ (replicate 4 0 ∷ replicate 4 3 ∷ [])
   pub eachState : numbersOf (λ b. endsBy (byteAt 20 b)) (1 ∷ 2 ∷ 3 ∷ 4 ∷ []) ≡
-      replicate 3 (replicate 4 14) ++ (replicate 4 0 ∷ [])
+      replicate 3 (replicate 4 145) ++ (replicate 4 0 ∷ [])
   pub eachOrder : numbersOf (λ b. endsBy (byteAt 21 b)) (1 ∷ 2 ∷ []) ≡
-      (0 ∷ 14 ∷ 0 ∷ 14 ∷ []) ∷ (14 ∷ 0 ∷ 14 ∷ 0 ∷ []) ∷ []
-  -- the packet's verdict's parts, and its claim by each value. On an ordered channel a number above the packet's
-  -- sequence is out of order, and any other may be claimed
-  pub otherVerdict : numbersOf (λ i. verdictsBy (byteAt i 4)) verdictPlaces ≡
-      replicate 4 (replicate 2 14) ++ replicate 2 (15 ∷ 14 ∷ []) ++ replicate 6 (replicate 2 14)
-  pub eachClaim : numbersOf (λ b. verdictsBy (byteAt 0 b)) (0 ∷ 1 ∷ 2 ∷ 3 ∷ 4 ∷ 5 ∷ 6 ∷ []) ≡
-      replicate 2 3 ∷ replicate 2 14 ∷ replicate 2 14 ∷ (14 ∷ 0 ∷ []) ∷ (0 ∷ 14 ∷ []) ∷ replicate 2 14 ∷
-      replicate 2 3 ∷ []
+      (0 ∷ 145 ∷ 0 ∷ 145 ∷ []) ∷ (145 ∷ 0 ∷ 145 ∷ 0 ∷ []) ∷ []
+  -- the packet's verdict's sequence: on an ordered channel a number above the packet's is out of order, and any other
+  -- may be claimed. Its other parts are in VerdictCases.antt
   pub eachNumber : numbersOf (λ b. verdictsBy (byteAt 24 b)) (0 ∷ 1 ∷ 2 ∷ 3 ∷ []) ≡
-      (0 ∷ 14 ∷ []) ∷ (0 ∷ 14 ∷ []) ∷ (0 ∷ 0 ∷ []) ∷ (15 ∷ 14 ∷ []) ∷ []
+      (0 ∷ 143 ∷ []) ∷ (0 ∷ 143 ∷ []) ∷ (0 ∷ 0 ∷ []) ∷ (15 ∷ 143 ∷ []) ∷ []
   -- any block will do; of two verdicts, one
   pub otherBlock : numbersOf (λ i. endsBy (byteAt i 4) ++ verdictsBy (byteAt i 4)) blockPlaces ≡
-      replicate 4 (replicate 2 0 ++ replicate 4 14)
+      replicate 4 (replicate 2 0 ++ replicate 4 146)
   pub oneBlock : numbersOf (λ i. timeouts usual (byteAt i 4) (byteAt i 4)) blockPlaces ≡ replicate 4 (replicate 2 0)
   -- an end in each state, on which nothing was sent
   pub otherState : map (λ bs. numbersFrom bs
@@ -227,8 +219,8 @@ pub record ClosingCases : Type 0 where
       (map (closeConfirmOf usual (aBlock 9 7) 5 7 6 9 1) ([] ∷ aVersion 1 ∷ []) ++
       map (λ v. timeoutOnCloseOf usual (aBlock 9 7) (toNine 1) 1 v 4 1) ([] ∷ aVersion 1 ∷ [])) ≡
       0 ∷ 27 ∷ 0 ∷ 27 ∷ []
-  -- WHERE TWO NUMBERS APPLY: 7 and 8, 7 and 9, 8 and 14, 8 and 26, 9 and 13, 13 and 14, 14 and 15, 14 and 26, 14 and
-  -- 27, 15 and 27, 26 and 27
+  -- WHERE TWO NUMBERS APPLY: 7 and 8, 7 and 9, 8 and 145, 8 and 26, 9 and 13, 13 and line 14's, these and 15, 145 and
+  -- 26, line 14's and 27, 15 and 27, 26 and 27
   pub portOrConnection : numbersFrom (sent 3 3) (closings (aContext 100 1000 6 0)) ≡ replicate 6 7
   pub portOrPacket : numbersFrom (sent 3 3)
       (map (byteAt 68 4) (timeouts (aContext 100 1000 6 1) unchanged unchanged)) ≡ replicate 2 7
@@ -242,12 +234,12 @@ pub record ClosingCases : Type 0 where
       replicate 6 13
   pub verdictOrOrder : numbersFrom (sent 3 3)
       (timeouts usual openEnd above ++ verdictsBy (λ v. byteAt 18 4 (above v)) ++
-      timeouts usual (byteAt 2 4) above) ≡ replicate 6 14
+      timeouts usual (byteAt 2 4) above) ≡ 145 ∷ 145 ∷ 141 ∷ 141 ∷ 146 ∷ 143 ∷ []
   pub verdictOrVersion : numbersFrom (sent 3 3)
       (endsBy openEnd ++ timeouts usual otherVersion (byteAt 18 4) ++ timeouts usual otherVersion (byteAt 2 4)) ≡
-      replicate 8 14
-  pub orderOrVersion : numbersFrom (sent 3 3) (timeouts usual otherVersion above) ≡ 15 ∷ 14 ∷ []
-  pub verdictOrState : numbersFrom (sent 4 4) (confirms usual openEnd) ≡ replicate 2 14
+      replicate 4 145 ++ (141 ∷ 141 ∷ 146 ∷ 146 ∷ [])
+  pub orderOrVersion : numbersFrom (sent 3 3) (timeouts usual otherVersion above) ≡ 15 ∷ 143 ∷ []
+  pub verdictOrState : numbersFrom (sent 4 4) (confirms usual openEnd) ≡ replicate 2 145
   pub stateOrVersion : numbersFrom (sent 4 4) (confirms usual otherVersion) ≡ replicate 2 26
   -- NO OTHER LINE is for them: not for counters at their top, nor where no number and no record is left, nor for a
   -- receipt of the packet's sequence

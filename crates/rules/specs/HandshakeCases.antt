@@ -6,16 +6,15 @@ use mathlib.Core.Path.{_≡_}
 use mathlib.Core.List.{List, [], _∷_, _++_, map}
 use Prim.Native.Nat.{ℕ, _+_, _-_}
 use lib.ListN.{length, replicate, drop, take, set}
-use Rattle.wire.specs.Bytes.{little, noDigest}
+use Rattle.wire.specs.Bytes.{little}
 use Rattle.slots.specs.Layout.{storeIn}
 use Rattle.openings.specs.Maker.{makeStore}
 use Rattle.rules.specs.Call.{Answer, called, refused, callTold}
 use Rattle.rules.specs.Calls.{fold}
-use Rattle.rules.specs.Examples.{anOpening, aSlice, openings, empty, aContext, aDigest, anAnswer, aBlock}
-use Rattle.rules.specs.Examples.{aVersion, endRecord, anEndVerdict, receiveBy, acknowledgeBy, timeoutBy}
-use Rattle.rules.specs.Examples.{anOpenInit, openTryBy, openAcknowledgeBy, openAcknowledgeOf, openConfirmBy}
-use Rattle.rules.specs.Examples.{openConfirmOf, anOutput}
-use Rattle.rules.specs.Cases.{usual, fromNine, toNine, ofEachKind, proved, ready, numberFrom, numbersFrom, after}
+use Rattle.rules.specs.Examples.{anOpening, aSlice, openings, empty, aContext, aBlock, aVersion, endRecord}
+use Rattle.rules.specs.Examples.{anEndVerdict, anOpenInit, openTryBy, openAcknowledgeBy, openAcknowledgeOf}
+use Rattle.rules.specs.Examples.{openConfirmBy, openConfirmOf, anOutput}
+use Rattle.rules.specs.Cases.{usual, ofEachKind, numberFrom, numbersFrom, after}
 
 -- THE STORES by their bytes: last height 100 and time 1000, the next channel number, and the channel records
 unfoldable pub storeOf : (next : ℕ) → (ends : List ℕ) → List ℕ
@@ -176,26 +175,21 @@ pub record HandshakeCases : Type 0 where
   -- packets on an end that is not OPEN
   pub packetsOnInit : numbersFrom begun (ofEachKind usual 1) ≡ replicate 4 6 ++ (9 ∷ [])
   pub packetsOnTryOpen : numbersFrom begun (ofEachKind usual 2) ≡ replicate 4 6 ++ (13 ∷ [])
-  pub otherCaller : numbersFrom begun (steps (aContext 100 1000 6 1)) ≡ 0 ∷ 14 ∷ 7 ∷ 7 ∷ []
+  pub otherCaller : numbersFrom begun (steps (aContext 100 1000 6 1)) ≡ 0 ∷ 145 ∷ 7 ∷ 7 ∷ []
   pub unconnected : numbersFrom begun (steps (aContext 100 1000 5 0)) ≡ 0 ∷ 8 ∷ 8 ∷ 8 ∷ []
   -- the verdict's parts, by another byte in one place; its claim and its record's state and order, by each value
   pub otherBlock : map (λ i. withByte i 4) blockPlaces ≡ replicate 4 (replicate 3 0)
-  pub otherRecord : map (λ i. withByte i 4) recordPlaces ≡ replicate 18 (replicate 3 14)
+  pub otherRecord : map (λ i. withByte i 4) recordPlaces ≡ replicate 18 (replicate 3 145)
   pub otherVersions : map (λ i. withByte i 4) versionPlaces ≡ replicate 2 (replicate 3 27)
   pub eachClaim : map (withByte 0) (0 ∷ 1 ∷ 2 ∷ 3 ∷ 4 ∷ 5 ∷ 6 ∷ []) ≡
-      replicate 3 3 ∷ replicate 4 (replicate 3 14) ++ (replicate 3 0 ∷ replicate 3 3 ∷ [])
+      replicate 3 3 ∷ replicate 4 (replicate 3 140) ++ (replicate 3 0 ∷ replicate 3 3 ∷ [])
   pub eachState : map (withByte 20) (1 ∷ 2 ∷ 3 ∷ 4 ∷ []) ≡
-      (0 ∷ 14 ∷ 14 ∷ []) ∷ (14 ∷ 0 ∷ 14 ∷ []) ∷ (14 ∷ 14 ∷ 0 ∷ []) ∷ replicate 3 14 ∷ []
-  pub eachOrder : map (withByte 21) (1 ∷ 2 ∷ []) ≡ (14 ∷ 0 ∷ 14 ∷ []) ∷ (0 ∷ 14 ∷ 0 ∷ []) ∷ []
-  pub packetClaim : numbersFrom ready
-      (receiveBy usual (fromNine 2 101 0) (proved 5 6 9 2 101 0 aDigest) ∷
-      acknowledgeBy usual (toNine 1) (proved 5 6 9 1 0 0 anAnswer) ∷
-      timeoutBy usual (toNine 1) (proved 5 6 9 1 0 0 noDigest) ∷ []) ≡
-      replicate 3 14
-  -- a full table, also where 14 and where 27 applies; numbers used up
+      (0 ∷ 145 ∷ 145 ∷ []) ∷ (145 ∷ 0 ∷ 145 ∷ []) ∷ (145 ∷ 145 ∷ 0 ∷ []) ∷ replicate 3 145 ∷ []
+  pub eachOrder : map (withByte 21) (1 ∷ 2 ∷ []) ≡ (145 ∷ 0 ∷ 145 ∷ []) ∷ (0 ∷ 145 ∷ 0 ∷ []) ∷ []
+  -- a full table, also where 145 and where 27 applies; numbers used up
   pub full : numbersFrom filled
       (steps usual ++ provedSteps usual otherEnd ++ makers (aVersion 25 ∷ [])) ≡
-      25 ∷ 25 ∷ 0 ∷ 0 ∷ 14 ∷ 14 ∷ 14 ∷ 25 ∷ 25 ∷ []
+      25 ∷ 25 ∷ 0 ∷ 0 ∷ 145 ∷ 145 ∷ 145 ∷ 25 ∷ 25 ∷ []
   pub usedUp : numbersFrom (storeOf 4294967296 (initEnd 1 ++ endTwo 2)) (steps usual) ≡ 25 ∷ 25 ∷ 0 ∷ 0 ∷ []
   pub otherState : map (λ bs. numbersFrom bs movesOnOne) inEachState ≡
       (0 ∷ 26 ∷ []) ∷ (26 ∷ 0 ∷ []) ∷ replicate 2 (replicate 2 26)
@@ -209,9 +203,9 @@ pub record HandshakeCases : Type 0 where
       (map (λ n. openAcknowledgeBy usual 1 10 (shownTryOpen (aVersion n))) (24 ∷ 23 ∷ 0 ∷ [])) ≡ 0 ∷ 27 ∷ 27 ∷ []
   pub noVersion : numbersFrom (after empty (anInit usual []))
       (map (λ n. openAcknowledgeBy usual 1 10 (shownTryOpen (aVersion n))) (0 ∷ 1 ∷ [])) ≡ 0 ∷ 27 ∷ []
-  -- WHERE TWO NUMBERS APPLY: 7 and 8, 8 and 14, 14 and 27, 14 and 26, 26 and 27
+  -- WHERE TWO NUMBERS APPLY: 7 and 8, 8 and 145, 145 and 27, 145 and 26, 26 and 27
   pub portOrConnection : numbersFrom begun (steps (aContext 100 1000 6 0)) ≡ 0 ∷ 8 ∷ 7 ∷ 7 ∷ []
   pub connectionOrVerdict : numbersFrom begun (provedSteps (aContext 100 1000 5 0) otherEnd) ≡ replicate 3 8
-  pub verdictOrVersion : numbersFrom begun (provedSteps usual otherEnd) ≡ replicate 3 14
-  pub stateOrVerdict : numbersFrom opened (movesOn 1 2 usual otherEnd) ≡ replicate 2 14
+  pub verdictOrVersion : numbersFrom begun (provedSteps usual otherEnd) ≡ replicate 3 145
+  pub stateOrVerdict : numbersFrom opened (movesOn 1 2 usual otherEnd) ≡ replicate 2 145
   pub stateOrVersion : numbersFrom opened (movesOn 1 2 usual otherVersion) ≡ replicate 2 26

@@ -101,7 +101,7 @@ history = calls stores requests
 -- what was told, and what happened
 abbrev pub numbersTold : List ℕ
 numbersTold =
-    replicate 8 0 ++ (14 ∷ replicate 5 0) ++ (11 ∷ replicate 6 0) ++ (6 ∷ replicate 5 0) ++ (6 ∷ replicate 2 0)
+    replicate 8 0 ++ (145 ∷ replicate 5 0) ++ (11 ∷ replicate 6 0) ++ (6 ∷ replicate 5 0) ++ (6 ∷ replicate 2 0)
 
 -- the state of an end after all calls
 abbrev pub stateOn : Side → (channel : ℕ) → ℕ

@@ -6,11 +6,11 @@ use Prim.Native.Nat.{ℕ}
 use Rattle.slots.specs.declared.Channel.{Channel}
 use Rattle.datagram.specs.declared.EndVerdict.{EndVerdict}
 use Rattle.rules.specs.Verdict.{firstEndDifference, hasVersion}
-use Rattle.rules.specs.Refusals.{Line, line, giving, every, isInState, verdictNumber}
+use Rattle.rules.specs.Refusals.{Line, line, giving, every, isInState}
 
 unfoldable pub movingLines : (connected : Bool) → EndVerdict → (needed : Channel) → (prior : ℕ) → Channel → List Line
 movingLines b v e n c =
     line 8 every (not b) ∷
-    giving 14 every (verdictNumber (firstEndDifference v e)) ∷
+    giving 14 every (firstEndDifference v e) ∷
     line 26 every (not (isInState n c)) ∷
     line 27 every (not (hasVersion v e)) ∷ []

@@ -14,7 +14,6 @@ use slots::PortChannel;
 use slots::VERSION;
 use tables::scan::find_free_channel;
 use tables::scan::is_found;
-use verdicts::verdict_number;
 use wire::u64_at;
 ghost use mathlib.Core.Path.{_≡_};
 ghost use mathlib.Core.Bool.{true};
@@ -83,7 +82,7 @@ pub fn open_try_row(
         return 8;
     }
     let needed = needed_init(x.port, order, counterparty, version);
-    let number = verdict_number(end_difference(v, needed));
+    let number = end_difference(v, needed);
     if number != 0 {
         return number;
     }
@@ -106,7 +105,7 @@ pub fn moving_row(connected: bool, v: EndVerdict, needed: Channel, prior: u8, c:
     if !connected {
         return 8;
     }
-    let number = verdict_number(end_difference(v, needed));
+    let number = end_difference(v, needed);
     if number != 0 {
         return number;
     }

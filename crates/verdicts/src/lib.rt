@@ -1,4 +1,4 @@
-// A verdict against what is needed of it: the part that differs first, 0 where none does, and the number that it gives.
+// Line 14, a verdict against what is needed of it: the number of the part that differs first, 0 where none does.
 use datagram::Packet;
 use datagram::Verdict;
 use heights::no_timeout;
@@ -14,7 +14,6 @@ ghost use mathlib.Core.Path.{_≡_};
 ghost use Rattle.datagram.specs.Datagram.{AnyVerdict, blockHeight, blockTime};
 ghost use Rattle.rules.specs.Verdict.{firstDifference, blockDifference};
 ghost use Rattle.rules.specs.Refusals.{commitmentDifference, acknowledgementDifference, absenceDifference};
-ghost use Rattle.rules.specs.Refusals.{verdictNumber};
 
 fn first_difference(
     v: Verdict,
@@ -27,29 +26,29 @@ fn first_difference(
     ensures { λ r. ⌜ r ≡ firstDifference v claim about sequence timeout digest ⌝ }
 {
     if v.claim != claim {
-        return 1;
+        return 140;
     }
     if v.about.port != about.port {
-        return 2;
+        return 141;
     }
     if v.about.channel != about.channel {
-        return 3;
+        return 142;
     }
     if v.sequence != sequence {
-        return 4;
+        return 143;
     }
     let found = v.timeout;
     if !same_timeout(found, timeout) {
-        return 5;
+        return 144;
     }
     let stored = v.digest;
     if !same_digest(stored, digest) {
-        return 6;
+        return 145;
     }
     0
 }
 
-// 14, for 2: the commitment at the packet's source.
+// For 2: the commitment at the packet's source.
 pub fn commitment_difference(p: Packet, v: Verdict) -> u8
     ensures { λ r. ⌜ r ≡ commitmentDifference p v ⌝ }
 {
@@ -59,7 +58,7 @@ pub fn commitment_difference(p: Packet, v: Verdict) -> u8
     first_difference(v, 1, source, p.sequence, timeout, digest)
 }
 
-// 14, for 4: the acknowledgement at the packet's destination.
+// For 4: the acknowledgement at the packet's destination.
 pub fn acknowledgement_difference(p: Packet, digest: [u8; 32], v: Verdict) -> u8
     ensures { λ r. ⌜ r ≡ acknowledgementDifference p digest v ⌝ }
 {
@@ -67,7 +66,7 @@ pub fn acknowledgement_difference(p: Packet, digest: [u8; 32], v: Verdict) -> u8
     first_difference(v, 2, destination, p.sequence, no_timeout(), digest)
 }
 
-// 14, for 5 and 12: at the packet's destination, that it was not received.
+// For 5 and 12: at the packet's destination, that it was not received.
 pub fn absence_difference(c: Channel, p: Packet, v: Verdict) -> u8
     ensures { λ r. ⌜ r ≡ absenceDifference c p v ⌝ }
 {
@@ -77,7 +76,7 @@ pub fn absence_difference(c: Channel, p: Packet, v: Verdict) -> u8
     first_difference(v, claim, destination, sequence, no_timeout(), [0u8; 32])
 }
 
-// 14, for 12: whether two verdicts, each of a height and a time, are of one block of the other ledger.
+// For 12: 146 where two verdicts, each of a height and a time, are not of one block of the other ledger.
 pub fn block_difference(height: OtherHeight, time: u64, other: OtherHeight, other_time: u64) -> u8
     ensures { λ r. ⌜
         ((v w : AnyVerdict) → blockHeight v ≡ height → blockTime v ≡ time → blockHeight w ≡ other →
@@ -87,15 +86,5 @@ pub fn block_difference(height: OtherHeight, time: u64, other: OtherHeight, othe
     if (height.0 == other.0) & (time == other_time) {
         return 0;
     }
-    7
-}
-
-// 14: one number for every difference.
-pub fn verdict_number(difference: u8) -> u8
-    ensures { λ r. ⌜ r ≡ verdictNumber difference ⌝ }
-{
-    if difference == 0 {
-        return 0;
-    }
-    14
+    146
 }

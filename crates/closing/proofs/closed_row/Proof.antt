@@ -10,7 +10,7 @@ use Rattle.datagram.specs.Kind.{only, timeOutOnClose}
 use Rattle.datagram.specs.Datagram.{Datagram, onPacket, onEnd}
 use Rattle.rules.specs.Verdict.{firstEndDifference, blockDifference, hasVersion}
 use Rattle.rules.specs.Handshake.{neededPeer}
-use Rattle.rules.specs.Refusals.{absenceDifference, verdictNumber, firstGiven, table}
+use Rattle.rules.specs.Refusals.{firstGiven, table}
 use Rattle.verdicts.specs.Lines.{behind, numberBehind}
 use Rattle.verdicts.proofs.TestedLaws.{holds, fails, is-zero, is-not-zero}
 use Rattle.closing.proofs.closed_row.Statement.{statement}
@@ -26,28 +26,20 @@ Left n o =
     (s : Store) (d : Datagram) → Has o d →
     numberBehind 13 (some timeOutOnClose) s d (o .args .c) ≡ numberBehind n (some timeOutOnClose) s d (o .args .c)
 
--- WHAT LINE 14 GIVES: of the end verdict, of the packet's verdict, and of their blocks
-end-number : (k : tie.After-verdict-number) →
-    let a = k .before .before .before .args in
-    k .verdict-number .result ≡ verdictNumber (firstEndDifference (a .v) (neededPeer stateClosed (a .c)))
+-- WHAT LINE 14 GIVES of the end verdict, and of both blocks
+end-number : (k : tie.After-end-difference) →
+    let a = k .before .before .args in
+    k .end-difference .result ≡ firstEndDifference (a .v) (neededPeer stateClosed (a .c))
 end-number k =
-    let a = k .before .before .before .args in
-    k .verdict-number .ensures ∙
-    ap verdictNumber
-    (k .before .end-difference .ensures ∙ ap (firstEndDifference (a .v)) (k .before .before .needed-peer .ensures))
+    k .end-difference .ensures ∙
+    ap (firstEndDifference (k .before .before .args .v)) (k .before .needed-peer .ensures)
 
-absence-number : (k : tie.After-verdict-number2) →
+block-number : (k : tie.After-block-difference) →
     let a = k .before .before .before .before .before .before .args in
-    k .verdict-number2 .result ≡ verdictNumber (absenceDifference (a .c) (a .p) (a .w))
-absence-number k = k .verdict-number2 .ensures ∙ ap verdictNumber (k .before .absence-difference .ensures)
-
-block-number : (k : tie.After-verdict-number3) →
-    let a = k .before .before .before .before .before .before .before .before .before .args in
-    k .verdict-number3 .result ≡ verdictNumber (blockDifference (onEnd (a .v)) (onPacket (a .w)))
+    k .block-difference .result ≡ blockDifference (onEnd (a .v)) (onPacket (a .w))
 block-number k =
-    let a = k .before .before .before .before .before .before .before .before .before .args in
-    k .verdict-number3 .ensures ∙
-    ap verdictNumber (k .before .block-difference .ensures (onEnd (a .v)) (onPacket (a .w)) refl refl refl refl)
+    let a = k .before .before .before .before .before .before .args in
+    k .block-difference .ensures (onEnd (a .v)) (onPacket (a .w)) refl refl refl refl
 
 returns : tie.Need-returns
 unfolding numberBehind behind table firstGiven only _or_
@@ -58,37 +50,37 @@ returns c =
 returns-2 : tie.Need-returns-2
 unfolding numberBehind behind table firstGiven only _or_
 returns-2 c =
-    let e1 = c .before .before .before in
-    let n = absence-number (c .before) in
+    let e1 = c .before .before in
+    let n = c .before .absence-difference .ensures in
     λ s d p v w. rw (p, v, w, is-zero (end-number (e1 .before)) (e1 .if1 .left), is-not-zero n (c .if2 .taken)) n
 
 returns-3 : tie.Need-returns-3
 unfolding numberBehind behind table firstGiven only _or_
 returns-3 c =
-    let e2 = c .before .before .before in
-    let e1 = e2 .before .before .before in
+    let e2 = c .before .before in
+    let e1 = e2 .before .before in
     let n = block-number (c .before) in
     λ s d p v w. rw (
       p,
       v,
       w,
       is-zero (end-number (e1 .before)) (e1 .if1 .left),
-      is-zero (absence-number (e2 .before)) (e2 .if2 .left),
+      is-zero (e2 .before .absence-difference .ensures) (e2 .if2 .left),
       is-not-zero n (c .if3 .taken),
     ) n
 
 past-14 : (e : tie.Else3) →
-    Left 14 (e .before .before .before .before .before .before .before .before .before .before)
+    Left 14 (e .before .before .before .before .before .before .before)
 unfolding numberBehind behind table firstGiven only _or_
 past-14 e s d h =
-    let e2 = e .before .before .before in
-    let e1 = e2 .before .before .before in
+    let e2 = e .before .before in
+    let e1 = e2 .before .before in
     rw (
       h .0,
       h .1,
       h .2,
       is-zero (end-number (e1 .before)) (e1 .if1 .left),
-      is-zero (absence-number (e2 .before)) (e2 .if2 .left),
+      is-zero (e2 .before .absence-difference .ensures) (e2 .if2 .left),
       is-zero (block-number (e .before)) (e .if3 .left),
     )
 
@@ -99,18 +91,18 @@ returns-4 c =
     rw (p, w, fails (c .before .times-out-in-order .ensures) (c .if4 .taken)))
 
 past-15 : (e : tie.Else4) →
-    Left 15 (e .before .before .before .before .before .before .before .before .before .before .before .before)
+    Left 15 (e .before .before .before .before .before .before .before .before .before)
 unfolding numberBehind behind table firstGiven only _or_
 past-15 e s d h =
     past-14 (e .before .before) s d h ∙
     rw (h .0, h .2, holds (e .before .times-out-in-order .ensures) (e .if4 .left))
 
 version : (k : tie.After-has-version) →
-    let needed = k .before .before .before .before .before .before .before .before .before .before .before .before in
+    let needed = k .before .before .before .before .before .before .before .before .before in
     let a = needed .before .args in
     k .has-version .result ≡ hasVersion (a .v) (neededPeer stateClosed (a .c))
 version k =
-    let needed = k .before .before .before .before .before .before .before .before .before .before .before .before in
+    let needed = k .before .before .before .before .before .before .before .before .before in
     k .has-version .ensures ∙ ap (hasVersion (needed .before .args .v)) (needed .needed-peer .ensures)
 
 returns-5 : tie.Need-returns-5
@@ -129,6 +121,5 @@ pub closed-row-spec : {M : Type 1} → statement M
 closed-row-spec =
     tie.close
     (tie.spec
-    (λ c κs. search needs) (λ c κs. search needs) (λ c κs. search needs) returns (λ c κs. search needs)
-    (λ c κs. search needs) returns-2 (λ c κs. search needs) (λ c κs. search needs) returns-3 (λ c κs. search needs)
-    returns-4 (λ c κs. search needs) returns-5 returns-6)
+    (λ c κs. search needs) (λ c κs. search needs) returns (λ c κs. search needs) returns-2 (λ c κs. search needs)
+    returns-3 (λ c κs. search needs) returns-4 (λ c κs. search needs) returns-5 returns-6)

@@ -1,5 +1,5 @@
 -- The lines of an acknowledgement, one after another. Assumes nothing.
-use mathlib.Core.Path.{_≡_, sym, ap, _∙_}
+use mathlib.Core.Path.{_≡_, sym, _∙_}
 use mathlib.Core.Option.{some}
 use Prim.Native.Nat.{ℕ}
 use denote.Ref.{now}
@@ -8,7 +8,7 @@ use Rattle.wire.specs.Choice.{_or_}
 use Rattle.slots.specs.Layout.{storeIn}
 use Rattle.datagram.specs.Kind.{only, acknowledge}
 use Rattle.datagram.specs.Datagram.{Datagram}
-use Rattle.rules.specs.Refusals.{acknowledgementDifference, verdictNumber, firstGiven, table}
+use Rattle.rules.specs.Refusals.{firstGiven, table}
 use Rattle.verdicts.specs.Lines.{behind, numberBehind}
 use Rattle.verdicts.proofs.TestedLaws.{came, holds, fails, is-zero, is-not-zero}
 use Rattle.rows.proofs.acknowledge_row.Statement.{statement}
@@ -52,28 +52,23 @@ unfolding numberBehind behind table firstGiven only _or_
 past-13 e d x p a v =
     past-9 (e .before .before) d x p a v ∙ rw (p, holds (e .before .is-committed .ensures) (e .if3 .left))
 
--- what line 14 gives
-number : (k : tie.After-verdict-number) →
-    let a = k .before .before .before .before .before .before .before .before .before .args in
-    k .verdict-number .result ≡ verdictNumber (acknowledgementDifference (a .p) (a .digest) (a .v))
-number k = k .verdict-number .ensures ∙ ap verdictNumber (k .before .acknowledgement-difference .ensures)
-
 returns-4 : tie.Need-returns-4
 unfolding numberBehind behind table firstGiven only _or_
 returns-4 c =
-    let n = number (c .before) in
-    λ d x p a v. sym (past-13 (c .before .before .before) d x p a v ∙
+    let n = c .before .acknowledgement-difference .ensures in
+    λ d x p a v. sym (past-13 (c .before .before) d x p a v ∙
     rw (p, a, v, is-not-zero n (c .if4 .taken)) (sym n))
 
 past-14 : (e : tie.Else4) →
-    Left 14 (e .before .before .before .before .before .before .before .before .before .before)
+    Left 14 (e .before .before .before .before .before .before .before .before .before)
 unfolding numberBehind behind table firstGiven only _or_
 past-14 e d x p a v =
-    past-13 (e .before .before .before) d x p a v ∙ rw (p, a, v, is-zero (number (e .before)) (e .if4 .left))
+    past-13 (e .before .before) d x p a v ∙
+    rw (p, a, v, is-zero (e .before .acknowledgement-difference .ensures) (e .if4 .left))
 
 returns-5 : tie.Need-returns-5
 returns-5 c =
-    let o = c .before .before .before .before .before .before .before .before .before .before .before in
+    let o = c .before .before .before .before .before .before .before .before .before .before in
     λ d x p a v. c .acknowledgement-row .ensures (storeIn (now (o .args .store))) d p ∙
     sym (past-14 (c .before) d x p a v)
 
@@ -82,4 +77,4 @@ acknowledge-row-spec =
     tie.close
     (tie.spec
     (λ c κs. search needs) returns (λ c κs. search needs) returns-2 (λ c κs. search needs) returns-3
-    (λ c κs. search needs) (λ c κs. search needs) returns-4 (λ c κs. search needs) returns-5)
+    (λ c κs. search needs) returns-4 (λ c κs. search needs) returns-5)

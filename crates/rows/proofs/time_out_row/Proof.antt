@@ -1,5 +1,5 @@
 -- The lines of a timeout, one after another. Assumes nothing.
-use mathlib.Core.Path.{_≡_, sym, ap, _∙_}
+use mathlib.Core.Path.{_≡_, sym, _∙_}
 use mathlib.Core.Option.{some}
 use Prim.Native.Nat.{ℕ}
 use denote.Ref.{now}
@@ -8,7 +8,7 @@ use Rattle.wire.specs.Choice.{_or_}
 use Rattle.slots.specs.Layout.{storeIn}
 use Rattle.datagram.specs.Kind.{only, timeOut}
 use Rattle.datagram.specs.Datagram.{Datagram}
-use Rattle.rules.specs.Refusals.{absenceDifference, verdictNumber, firstGiven, table}
+use Rattle.rules.specs.Refusals.{firstGiven, table}
 use Rattle.verdicts.specs.Lines.{behind, numberBehind}
 use Rattle.verdicts.proofs.TestedLaws.{holds, fails, is-zero, is-not-zero}
 use Rattle.rows.proofs.time_out_row.Statement.{statement}
@@ -52,23 +52,17 @@ unfolding numberBehind behind table firstGiven only _or_
 past-13 e d p v =
     past-12 (e .before .before) d p v ∙ rw (p, holds (e .before .is-committed .ensures) (e .if3 .left))
 
--- what line 14 gives
-number : (k : tie.After-verdict-number) →
-    let a = k .before .before .before .before .before .before .before .before .before .before .args in
-    k .verdict-number .result ≡ verdictNumber (absenceDifference (a .c) (a .p) (a .v))
-number k = k .verdict-number .ensures ∙ ap verdictNumber (k .before .absence-difference .ensures)
-
 returns-4 : tie.Need-returns-4
 unfolding numberBehind behind table firstGiven only _or_
 returns-4 c =
-    let n = number (c .before) in
-    λ d p v. sym (past-13 (c .before .before .before) d p v ∙ rw (p, v, is-not-zero n (c .if4 .taken)) (sym n))
+    let n = c .before .absence-difference .ensures in
+    λ d p v. sym (past-13 (c .before .before) d p v ∙ rw (p, v, is-not-zero n (c .if4 .taken)) (sym n))
 
 past-14 : (e : tie.Else4) →
-    Left 14 (e .before .before .before .before .before .before .before .before .before .before .before)
+    Left 14 (e .before .before .before .before .before .before .before .before .before .before)
 unfolding numberBehind behind table firstGiven only _or_
 past-14 e d p v =
-    past-13 (e .before .before .before) d p v ∙ rw (p, v, is-zero (number (e .before)) (e .if4 .left))
+    past-13 (e .before .before) d p v ∙ rw (p, v, is-zero (e .before .absence-difference .ensures) (e .if4 .left))
 
 returns-5 : tie.Need-returns-5
 unfolding numberBehind behind table firstGiven only _or_
@@ -77,7 +71,7 @@ returns-5 c =
     rw (p, v, fails (c .before .times-out-in-order .ensures) (c .if5 .taken)))
 
 past-15 : (e : tie.Else5) →
-    Left 15 (e .before .before .before .before .before .before .before .before .before .before .before .before .before)
+    Left 15 (e .before .before .before .before .before .before .before .before .before .before .before .before)
 unfolding numberBehind behind table firstGiven only _or_
 past-15 e d p v =
     past-14 (e .before .before) d p v ∙ rw (p, v, holds (e .before .times-out-in-order .ensures) (e .if5 .left))
@@ -91,4 +85,4 @@ time-out-row-spec =
     tie.close
     (tie.spec
     (λ c κs. search needs) returns (λ c κs. search needs) returns-2 (λ c κs. search needs) returns-3
-    (λ c κs. search needs) (λ c κs. search needs) returns-4 (λ c κs. search needs) returns-5 returns-6)
+    (λ c κs. search needs) returns-4 (λ c κs. search needs) returns-5 returns-6)

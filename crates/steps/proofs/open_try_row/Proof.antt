@@ -13,7 +13,7 @@ use Rattle.datagram.specs.Kind.{only, openTry}
 use Rattle.datagram.specs.Datagram.{Datagram}
 use Rattle.rules.specs.Verdict.{sameButVersion, firstEndDifference, hasVersion}
 use Rattle.rules.specs.Handshake.{neededEnd, neededInit}
-use Rattle.rules.specs.Refusals.{firstGiven, verdictNumber, table}
+use Rattle.rules.specs.Refusals.{firstGiven, table}
 use Rattle.verdicts.specs.Lines.{behind, numberBehind}
 use Rattle.verdicts.proofs.TestedLaws.{came, holds, fails, is-zero, is-not-zero}
 use Rattle.steps.proofs.open_try_row.Statement.{statement}
@@ -37,16 +37,14 @@ unfolding numberBehind behind table firstGiven only _or_
 returns c = λ d e x o p v f w. rw (x, came (c .before .lacks-connection .ensures) (c .if1 .taken))
 
 -- what line 14 gives, which does not look at the version
-number : (k : tie.After-verdict-number) (d : Datagram) →
-    Has (k .before .before .before .before .before .before) d →
-    k .verdict-number .result ≡ verdictNumber (firstEndDifference (d .endVerdict) (neededInit d))
+number : (k : tie.After-end-difference) (d : Datagram) →
+    Has (k .before .before .before .before .before) d →
+    k .end-difference .result ≡ firstEndDifference (d .endVerdict) (neededInit d)
 unfolding neededInit neededEnd firstEndDifference sameButVersion
 number k d h =
-    let a = k .before .before .before .before .before .before .args in
+    let a = k .before .before .before .before .before .args in
     rw (h .0, h .1, h .2, h .3)
-    (k .verdict-number .ensures ∙
-    ap verdictNumber
-    (k .before .end-difference .ensures ∙ ap (firstEndDifference (a .v)) (k .before .before .needed-init .ensures)))
+    (k .end-difference .ensures ∙ ap (firstEndDifference (a .v)) (k .before .needed-init .ensures))
 
 past-8 : (e : tie.Else1) → Left 8 (e .before .before .before)
 unfolding numberBehind behind table firstGiven only _or_
@@ -57,12 +55,12 @@ unfolding numberBehind behind table firstGiven only _or_
 returns-2 c =
     λ d e x o p v f w.
     let n = number (c .before) d (x, o, p, v) in
-    sym (past-8 (c .before .before .before .before) d e (x, o, p, v) ∙ rw (is-not-zero n (c .if2 .taken)) (sym n))
+    sym (past-8 (c .before .before .before) d e (x, o, p, v) ∙ rw (is-not-zero n (c .if2 .taken)) (sym n))
 
-past-14 : (e : tie.Else2) → Left 14 (e .before .before .before .before .before .before .before)
+past-14 : (e : tie.Else2) → Left 14 (e .before .before .before .before .before .before)
 unfolding numberBehind behind table firstGiven only _or_
 past-14 e d c h =
-    past-8 (e .before .before .before .before) d c h ∙ rw (is-zero (number (e .before) d h) (e .if2 .left))
+    past-8 (e .before .before .before) d c h ∙ rw (is-zero (number (e .before) d h) (e .if2 .left))
 
 returns-3 : tie.Need-returns-3
 unfolding numberBehind behind table firstGiven only _or_
@@ -70,7 +68,7 @@ returns-3 c =
     λ d e x o p v f w. sym (past-14 (c .before .before) d e (x, o, p, v) ∙
     rw (came (c .before .is-full .ensures) (c .if3 .taken)))
 
-past-25 : (e : tie.Else3) → Left 25 (e .before .before .before .before .before .before .before .before .before)
+past-25 : (e : tie.Else3) → Left 25 (e .before .before .before .before .before .before .before .before)
 unfolding numberBehind behind table firstGiven only _or_
 past-25 e d c h = past-14 (e .before .before) d c h ∙ rw (came (e .before .is-full .ensures) (e .if3 .left))
 
@@ -80,13 +78,13 @@ returns-4 c =
     λ d e x o p v f w. sym (past-25 (c .before) d e (x, o, p, v) ∙ rw (fails (sym f) (c .if4 .taken)))
 
 version : (k : tie.After-has-version) (d : Datagram) →
-    let o = k .before .before .before .before .before .before .before .before .before .before .before in
+    let o = k .before .before .before .before .before .before .before .before .before .before in
     Has o d → padded (d .version) ≡ o .args .version →
     k .has-version .result ≡ hasVersion (d .endVerdict) (neededInit d)
 unfolding neededInit
 version k d h w =
-    let a = k .before .before .before .before .before .before .before .before .before .before .before .args in
-    let needed = k .before .before .before .before .before .before .before in
+    let a = k .before .before .before .before .before .before .before .before .before .before .args in
+    let needed = k .before .before .before .before .before .before in
     rw (h .0, h .1, h .2, h .3, w)
     (k .has-version .ensures ∙ ap (hasVersion (a .v)) (needed .needed-init .ensures))
 
@@ -110,5 +108,5 @@ pub open-try-row-spec : {M : Type 1} → statement M
 open-try-row-spec =
     tie.close
     (tie.spec
-    (λ c κs. search needs) returns (λ c κs. search needs) (λ c κs. search needs) (λ c κs. search needs) returns-2
+    (λ c κs. search needs) returns (λ c κs. search needs) (λ c κs. search needs) returns-2
     (λ c κs. search needs) returns-3 returns-4 (λ c κs. search needs) returns-5 returns-6)

@@ -18,12 +18,13 @@ abbrev whole : tie.Start → ℕ
 whole o = let a = o .args in firstDifference (a .v) (a .claim) (a .about) (a .sequence) (a .timeout) (a .digest)
 
 abbrev last : tie.Start → ℕ
-last o = pick (not (same (o .args .v .digest) (o .args .digest))) 6 0
+last o = pick (not (same (o .args .v .digest) (o .args .digest))) 145 0
 
 abbrev last-three : tie.Start → ℕ
 last-three o =
     let a = o .args in
-    pick (not (eqb (a .v .sequence) (a .sequence))) 4 (pick (not (sameTimeout (a .v .timeout) (a .timeout))) 5 (last o))
+    pick (not (eqb (a .v .sequence) (a .sequence))) 143
+    (pick (not (sameTimeout (a .v .timeout) (a .timeout))) 144 (last o))
 
 past-3 : (e : tie.Else3) →
     let o = e .before .before .before .before .before .before .before .before in whole o ≡ last-three o
