@@ -5,6 +5,7 @@ mod converter;
 use crate::coverage::Coverage;
 use crate::fit::fit;
 use crate::generate::{Call, Generator, Task};
+use crate::refusal::Line;
 use crate::subject::{reference_handle, reference_make_store, Left, Subject};
 use crate::table::applying;
 
@@ -66,10 +67,10 @@ fn compare_call(subject: &Subject, call: &Call, index: u64, report: &mut Report)
 }
 
 /// The refusals that apply, by the table; those of the maker have none and are taken from the answer.
-fn applying_to(call: &Call, expected: &Left) -> Vec<u8> {
+fn applying_to(call: &Call, expected: &Left) -> Vec<Line> {
     match &call.task {
         Task::Handle { store, output, datagram } => applying(store, output.len(), datagram),
-        _ => Some(expected.number).filter(|number| *number != 0).into_iter().collect(),
+        _ => Some(expected.number).filter(|number| *number != 0).into_iter().map(Line::from).collect(),
     }
 }
 
@@ -113,10 +114,10 @@ fn first_difference(expected: &[u8], given: &[u8]) -> Option<usize> {
     differs.or((expected.len() != given.len()).then_some(expected.len().min(given.len())))
 }
 
-/// Laws that are independent of how the reference decides: a call made for an answer gets it, the lowest refusal of the
+/// Laws that are independent of how the reference decides: a call made for an answer gets it, the first refusal of the
 /// table is given, a refusal changes nothing, an acceptance leaves a fit store and nothing behind what it emits.
-fn reference_fault(call: &Call, left: &Left, applying: &[u8]) -> Option<String> {
-    if left.number != applying.first().copied().unwrap_or(0) {
+fn reference_fault(call: &Call, left: &Left, applying: &[Line]) -> Option<String> {
+    if left.number != applying.first().map_or(0, |line| line.number()) {
         return Some(format!("{applying:?} apply, got {}", left.number));
     }
     if call.intended.is_some_and(|intended| intended != left.number) {

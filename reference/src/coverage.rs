@@ -24,18 +24,14 @@ const COLUMNS: usize = KINDS.len() + 3;
 const OTHER: usize = KINDS.len();
 const MAKER: usize = KINDS.len() + 1;
 const CONVERTER: usize = KINDS.len() + 2;
-const ANSWERS: usize = 28;
 
-/// A count for each answer and each kind of datagram.
+/// A count for each answer, by its place and number, and each kind of datagram.
 #[derive(Default)]
-pub struct Table([[u64; COLUMNS]; ANSWERS]);
+pub struct Table(BTreeMap<(u8, u8), [u64; COLUMNS]>);
 
 impl Table {
     fn add(&mut self, column: usize, number: u8) {
-        // A subject may give a number that is in no table; that is a difference, and is told as one.
-        if let Some(row) = self.0.get_mut(usize::from(number)) {
-            row[column] += 1;
-        }
+        self.0.entry((place(number), number)).or_default()[column] += 1;
     }
 
     pub fn count(&mut self, datagram: &[u8], number: u8) {
@@ -48,10 +44,10 @@ impl fmt::Display for Table {
         write!(out, "{:>6}", "No.")?;
         KINDS.iter().chain(&["other", "maker", "convert"]).try_for_each(|name| write!(out, "{name:>10}"))?;
         writeln!(out)?;
-        for (number, row) in self.0.iter().enumerate().filter(|(_, row)| row.iter().any(|count| *count > 0)) {
+        for ((_, number), row) in &self.0 {
             write!(out, "{number:>6}")?;
             row.iter().enumerate().try_for_each(|(column, count)| match count {
-                0 if in_table(column, number as u8) => write!(out, "{:>10}", "-"),
+                0 if in_table(column, *number) => write!(out, "{:>10}", "-"),
                 0 => write!(out, "{:>10}", "."),
                 count => write!(out, "{count:>10}"),
             })?;
@@ -85,7 +81,7 @@ impl Coverage {
 
     /// Counts a call with its answer and all refusals that applied to it: what it was aimed at counts only where
     /// it was hit.
-    pub fn count(&mut self, call: &Call, left: &Left, applying: &[u8]) {
+    pub fn count(&mut self, call: &Call, left: &Left, applying: &[Line]) {
         let number = left.number;
         match &call.task {
             Task::Handle { store, datagram, .. } => {
@@ -115,7 +111,9 @@ impl Coverage {
         }
         match call.origin {
             Origin::Fault(row, aim) if applying == [aim] => self.reach(Cell::Alone(row, aim)),
-            Origin::Pair(row, low, high) if both_hit(applying, low, high) => self.reach(Cell::Pair(row, low, high)),
+            Origin::Pair(row, first, second) if both_hit(applying, first, second) => {
+                self.reach(Cell::Pair(row, first, second));
+            }
             Origin::Malformed(kind, way) => self.reach(Cell::Way(kind, way)),
             _ => {}
         }
@@ -149,15 +147,19 @@ impl Coverage {
     }
 }
 
-/// Behind an unfit store, malformed bytes or a missing channel no line can be asked, so the higher one is as aimed.
-fn both_hit(applying: &[u8], low: u8, high: u8) -> bool {
-    let hidden = low == NO_CHANNEL || matches!(low, STORE_NOT_FIT | MALFORMED) && high > MALFORMED;
-    applying.contains(&low) && (hidden || applying.contains(&high))
+/// Behind an unfit store, malformed bytes or a missing channel no line can be asked, so the second one is as aimed.
+fn both_hit(applying: &[Line], first: Line, second: Line) -> bool {
+    let hidden = match first.number() {
+        NO_CHANNEL => true,
+        STORE_NOT_FIT | MALFORMED => second > Line::from(MALFORMED),
+        _ => false,
+    };
+    applying.contains(&first) && (hidden || applying.contains(&second))
 }
 
 /// The cells that a well-formed call on a fit store reaches by what the store holds.
-fn cells_of_store(store: &[u8], bytes: &[u8], applying: &[u8]) -> Vec<Cell> {
-    let Some(datagram) = read(bytes).filter(|_| !applying.contains(&STORE_NOT_FIT)) else {
+fn cells_of_store(store: &[u8], bytes: &[u8], applying: &[Line]) -> Vec<Cell> {
+    let Some(datagram) = read(bytes).filter(|_| !applying.contains(&Line::from(STORE_NOT_FIT))) else {
         return Vec::new();
     };
     let kind = get_u16(bytes, frame::KIND);
@@ -178,19 +180,19 @@ fn cells_of_store(store: &[u8], bytes: &[u8], applying: &[u8]) -> Vec<Cell> {
         cells.extend(met.into_iter().map(|index| Cell::Although(row, index)));
     }
     cells.extend(end.and_then(|end| cell_of_end(kind, &end, &datagram, applying)));
-    cells.extend(end.and_then(|end| closing::reached(&end, &datagram, applying)));
+    cells.extend(end.filter(|_| applying.is_empty()).and_then(|end| closing::reached(&end, &datagram)));
     cells
 }
 
 /// The cell of a time-out that is accepted, and of a refusal that applies alone on an end in another state than the
 /// one that the kind is for.
-fn cell_of_end(kind: u16, end: &Channel, datagram: &Datagram, applying: &[u8]) -> Option<Cell> {
+fn cell_of_end(kind: u16, end: &Channel, datagram: &Datagram, applying: &[Line]) -> Option<Cell> {
     let (row, state) = (Row { kind, ordered: end.is_ordered() }, end.state);
     match (applying, &datagram.body) {
         ([], Body::TimeOut { packet, verdict } | Body::TimeOutOnClose { packet, verdict, .. }) => {
             Some(Cell::TimedOut { row, state, below: verdict.sequence < packet.sequence })
         }
-        ([number], _) if cell::state_for(kind) != Some(state) => Some(Cell::InState(row, state, *number)),
+        ([line], _) if cell::state_for(kind) != Some(state) => Some(Cell::InState(row, state, *line)),
         _ => None,
     }
 }
@@ -208,9 +210,10 @@ fn column_of(datagram: &[u8]) -> usize {
 impl fmt::Display for Coverage {
     fn fmt(&self, out: &mut fmt::Formatter) -> fmt::Result {
         writeln!(out, "Answers by kind of datagram\n{}", self.answers)?;
-        writeln!(out, "Refusals that applied alone, and pairs that applied together")?;
+        writeln!(out, "Refusals that applied alone, once for each part of a verdict, and pairs that applied together")?;
         for row in cell::rows() {
-            let counts: Vec<String> = self.alone(row).map(|(number, count)| format!("{number}:{count}")).collect();
+            let counts: Vec<String> =
+                self.alone(row).map(|(line, count)| format!("{}:{count}", line.number())).collect();
             let of_row = |cell: &&Cell| matches!(cell, Cell::Pair(of, ..) if *of == row);
             let pairs = self.cells.keys().filter(of_row).count();
             writeln!(out, "{:>20}  {}; {pairs} pairs", row.to_string(), counts.join(" "))?;
@@ -235,9 +238,9 @@ impl fmt::Display for Coverage {
 }
 
 impl Coverage {
-    fn alone(&self, row: Row) -> impl Iterator<Item = (u8, u64)> + '_ {
+    fn alone(&self, row: Row) -> impl Iterator<Item = (Line, u64)> + '_ {
         self.cells.iter().filter_map(move |(cell, count)| match cell {
-            Cell::Alone(of, number) if *of == row => Some((*number, *count)),
+            Cell::Alone(of, line) if *of == row => Some((*line, *count)),
             _ => None,
         })
     }

@@ -45,16 +45,16 @@ impl Generator {
             self.left = CALLS_PER_STORE;
         }
         self.left -= 1;
-        match self.rng.below(106) {
+        match self.rng.below(114) {
             0..=22 => self.accepted(),
             23..=45 => self.with_faults(false),
-            46..=71 => self.with_faults(true),
-            72..=81 => self.damaged(),
-            82..=87 => self.malformed(),
-            88..=90 => self.garbage(),
-            91..=93 => self.flipped(),
-            94..=98 => self.maker(),
-            99 => self.length(),
+            46..=79 => self.with_faults(true),
+            80..=89 => self.damaged(),
+            90..=95 => self.malformed(),
+            96..=98 => self.garbage(),
+            99..=101 => self.flipped(),
+            102..=106 => self.maker(),
+            107 => self.length(),
             _ => self.converter(),
         }
     }
@@ -63,16 +63,20 @@ impl Generator {
         (0..12).find_map(|_| grow::any_accepted(&mut self.rng, &self.store))
     }
 
-    /// A draft to be spoiled: it closes nothing, so all kinds come alike on channels of both orders. A time-out of
-    /// either sort is as good on an end that is not OPEN.
+    /// A draft to be spoiled, on channels of both orders. Kinds with many lines, and those that few stores are ready
+    /// for, are tried often, so that all lines come about as often. A time-out of either sort is as good on an end that
+    /// is not OPEN.
     fn draft_to_spoil(&mut self) -> Option<Draft> {
-        let kind = match self.rng.below(16) {
-            0..=2 => self.rng.pick(&HANDSHAKE_KINDS),
-            3 => self.rng.pick(&[CLOSE_INIT, CLOSE_CONFIRM]),
-            4 | 5 => TIME_OUT_ON_CLOSE,
-            _ => self.rng.pick(&PACKET_KINDS),
+        let kind = match self.rng.below(40) {
+            0..=3 => self.rng.pick(&HANDSHAKE_KINDS),
+            4 | 5 => self.rng.pick(&[CLOSE_INIT, CLOSE_CONFIRM]),
+            6..=13 => TIME_OUT_ON_CLOSE,
+            14..=21 => ACKNOWLEDGE,
+            22..=26 => RECEIVE,
+            27..=32 => TIME_OUT,
+            _ => self.rng.pick(&[SEND, WRITE]),
         };
-        let ordered = self.rng.one_in(2);
+        let ordered = self.rng.one_in(if kind == RECEIVE { 4 } else { 2 });
         let mut store = self.store.clone();
         let mut draft = (0..30).find_map(|_| {
             shape::make_ready(&mut self.rng, &mut store, kind);
@@ -111,58 +115,42 @@ impl Generator {
             let Some(draft) = self.draft_to_spoil() else {
                 continue;
             };
-            let mut numbers = vec![self.fault(&draft)];
+            let aims = fault::aims(draft.row());
+            let mut lines = vec![self.rng.pick(&aims)];
             if two {
-                numbers.push(self.fault(&draft));
+                lines.push(self.rng.pick(&aims));
             }
-            if let Some(call) = self.spoiled(draft, numbers) {
+            if let Some(call) = self.spoiled(draft, lines) {
                 return call;
             }
         }
         self.garbage()
     }
 
-    /// To a time-out on close 14 applies for one of four parts, so it comes four times as often there.
-    fn fault(&mut self, draft: &Draft) -> u8 {
-        let mut numbers = fault::aims(draft.row());
-        if draft.kind == TIME_OUT_ON_CLOSE {
-            numbers.extend([OTHER_VERDICT; 3]);
-        }
-        self.rng.pick(&numbers)
-    }
-
-    fn spoiled(&mut self, mut draft: Draft, mut numbers: Vec<u8>) -> Option<Call> {
-        numbers.sort_unstable();
-        let (low, high) = (numbers[0], numbers[numbers.len() - 1]);
+    fn spoiled(&mut self, mut draft: Draft, mut lines: Vec<Line>) -> Option<Call> {
+        lines.sort_unstable();
+        let (first, last) = (lines[0], lines[lines.len() - 1]);
         let row = draft.row();
         let possible =
-            if numbers.len() == 2 { fault::pair_possible(low, high) } else { fault::alone_possible(row, low) };
-        if !possible {
+            if lines.len() == 2 { fault::pair_possible(first, last) } else { fault::alone_possible(row, first) };
+        let of_call = lines.partition_point(|line| *line < Line::from(BEFORE_LAST));
+        if !possible || !fault::spoil(&mut self.rng, &mut draft, &lines[of_call..]) {
             return None;
         }
-        let from_table = numbers.iter().rev().filter(|number| **number >= BEFORE_LAST && **number != OTHER_VERDICT);
-        for number in from_table {
-            if !fault::spoil(&mut self.rng, &mut draft, *number) {
-                return None;
-            }
-        }
-        draft.match_verdict();
-        if numbers.contains(&OTHER_VERDICT) {
-            fault::spoil(&mut self.rng, &mut draft, OTHER_VERDICT);
-        }
+        let aims_at = |number| lines.contains(&Line::from(number));
         let mut datagram = draft.encode();
-        if numbers.contains(&MALFORMED) {
+        if aims_at(MALFORMED) {
             malform::malform(&mut self.rng, &mut datagram);
         }
-        let output = if numbers.contains(&OUTPUT_SHORT) { self.short_output() } else { self.output() };
-        if numbers.contains(&STORE_NOT_FIT) {
+        let output = if aims_at(OUTPUT_SHORT) { self.short_output() } else { self.output() };
+        if aims_at(STORE_NOT_FIT) {
             damage::damage(&mut self.rng, &mut draft.store);
         }
-        let also_out_of_order = row.kind == ACKNOWLEDGE && high == COUNTER_AT_END;
-        let intended = if also_out_of_order { low.min(OUT_OF_ORDER) } else { low };
-        let origin = if numbers.len() == 2 { Origin::Pair(row, low, high) } else { Origin::Fault(row, low) };
+        let also_out_of_order = row.kind == ACKNOWLEDGE && last.number() == COUNTER_AT_END;
+        let intended = if also_out_of_order { first.min(Line::from(OUT_OF_ORDER)) } else { first };
+        let origin = if lines.len() == 2 { Origin::Pair(row, first, last) } else { Origin::Fault(row, first) };
         let task = Task::Handle { store: draft.store, output, datagram };
-        Some(Call { origin, task, intended: Some(intended) })
+        Some(Call { origin, task, intended: Some(intended.number()) })
     }
 
     fn damaged(&mut self) -> Call {

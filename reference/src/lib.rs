@@ -1,7 +1,7 @@
 //! The reference implementation of the packet handler's rules, independent of the proved code, for comparison.
 //!
-//! It is written from the rules alone, in the most direct way: read the values, ask each refusal in rising
-//! order, decide the whole effect, write it. The other modules make calls, hold two implementations against
+//! It is written from the rules alone, in the most direct way: read the values, ask each refusal in the order of
+//! the places, decide the whole effect, write it. The other modules make calls, hold two implementations against
 //! each other and check whole histories of two ledgers by counting.
 
 pub mod bytes;

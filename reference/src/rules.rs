@@ -1,5 +1,5 @@
 //! The handlers of packets; those of the opening handshake and of closing stand beside. Each asks its row of refusals
-//! in rising order and answers the effect of the acceptance.
+//! in the order of their places and answers the effect of the acceptance.
 
 mod closing;
 mod handshake;
@@ -118,7 +118,7 @@ impl Call<'_> {
         let passed =
             reached(self.context.height, packet.timeout_height) || reached(self.context.time, packet.timeout_timestamp);
         refuse_if(passed, TIMEOUT_PASSED)?;
-        refuse_if(!shows_commitment(&verdict, &packet), OTHER_VERDICT)?;
+        verdict.compare(&committed(&packet, &verdict))?;
         if end.is_ordered() {
             refuse_if(packet.sequence != end.next_sequence_recv, OUT_OF_ORDER)?;
             end.next_sequence_recv = raised(end.next_sequence_recv)?;
@@ -146,7 +146,7 @@ impl Call<'_> {
         refuse_if(self.context.connection != 1, CONNECTION_NOT_OPEN)?;
         refuse_if(!self.sent_here(&packet), WRONG_END)?;
         let index = self.commitment(&packet).ok_or(NO_COMMITMENT)?;
-        refuse_if(!shows_acknowledgement(&verdict, &packet, &acknowledgement), OTHER_VERDICT)?;
+        verdict.compare(&acknowledged(&packet, acknowledgement, &verdict))?;
         if end.is_ordered() {
             refuse_if(packet.sequence != end.next_sequence_ack, OUT_OF_ORDER)?;
             end.next_sequence_ack = raised(end.next_sequence_ack)?;
@@ -160,9 +160,18 @@ impl Call<'_> {
             || reached(verdict.proof_time, packet.timeout_timestamp);
         refuse_if(!passed, TIMEOUT_NOT_PASSED)?;
         let index = self.commitment(&packet).ok_or(NO_COMMITMENT)?;
-        refuse_if(!shows_not_received(&verdict, &packet, self.end.is_ordered()), OTHER_VERDICT)?;
+        verdict.compare(&self.not_received(&packet, &verdict))?;
         refuse_if(self.says_taken(&verdict, &packet), OUT_OF_ORDER)?;
         Ok(self.given_back(index, packet))
+    }
+
+    /// On an ordered channel any sequence will do here: whether it is above the packet's is a matter of order.
+    fn not_received(&self, packet: &Packet, given: &Verdict) -> Verdict {
+        let about = about_destination(packet, given);
+        if self.end.is_ordered() {
+            return Verdict { claim: NEXT_RECV_EQUALS, ..about };
+        }
+        Verdict { claim: RECEIPT_ABSENT, sequence: packet.sequence, ..about }
     }
 
     /// Above the sequence, the next receive that is claimed of an ordered channel says that the packet was taken.
@@ -215,37 +224,28 @@ fn raised(counter: u64) -> Result<u64, u8> {
     counter.checked_add(1).ok_or(COUNTER_AT_END)
 }
 
-pub fn shows_commitment(verdict: &Verdict, packet: &Packet) -> bool {
-    verdict.claim == COMMITMENT_PRESENT
-        && verdict.port == packet.source_port
-        && verdict.channel == packet.source_channel
-        && verdict.sequence == packet.sequence
-        && verdict.timeout_height == packet.timeout_height
-        && verdict.timeout_timestamp == packet.timeout_timestamp
-        && verdict.digest == packet.digest
+// The needed verdicts. They are of the block of the one that was given.
+
+fn committed(packet: &Packet, given: &Verdict) -> Verdict {
+    Verdict {
+        claim: COMMITMENT_PRESENT,
+        port: packet.source_port,
+        channel: packet.source_channel,
+        sequence: packet.sequence,
+        timeout_height: packet.timeout_height,
+        timeout_timestamp: packet.timeout_timestamp,
+        digest: packet.digest,
+        ..*given
+    }
 }
 
-/// The two other verdicts are about the destination and carry no timeouts.
-fn about_destination(verdict: &Verdict, packet: &Packet) -> bool {
-    verdict.port == packet.dest_port
-        && verdict.channel == packet.dest_channel
-        && verdict.timeout_height == 0
-        && verdict.timeout_timestamp == 0
+fn acknowledged(packet: &Packet, acknowledgement: Digest, given: &Verdict) -> Verdict {
+    let claim = ACKNOWLEDGEMENT_PRESENT;
+    Verdict { claim, sequence: packet.sequence, digest: acknowledgement, ..about_destination(packet, given) }
 }
 
-pub fn shows_acknowledgement(verdict: &Verdict, packet: &Packet, acknowledgement: &Digest) -> bool {
-    verdict.claim == ACKNOWLEDGEMENT_PRESENT
-        && about_destination(verdict, packet)
-        && verdict.sequence == packet.sequence
-        && verdict.digest == *acknowledgement
-}
-
-/// On an ordered channel any sequence will do here: whether it is above the packet's is a matter of order.
-pub fn shows_not_received(verdict: &Verdict, packet: &Packet, ordered: bool) -> bool {
-    let claimed = if ordered {
-        verdict.claim == NEXT_RECV_EQUALS
-    } else {
-        verdict.claim == RECEIPT_ABSENT && verdict.sequence == packet.sequence
-    };
-    claimed && about_destination(verdict, packet) && verdict.digest == NO_DIGEST
+/// The two others are about the destination and have no timeouts.
+fn about_destination(packet: &Packet, given: &Verdict) -> Verdict {
+    let (port, channel) = (packet.dest_port, packet.dest_channel);
+    Verdict { port, channel, timeout_height: 0, timeout_timestamp: 0, digest: NO_DIGEST, ..*given }
 }

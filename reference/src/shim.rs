@@ -81,6 +81,7 @@ pub mod closing;
 pub mod handshake;
 pub mod order;
 mod tools;
+pub mod verdict;
 
 use tools::{kind_of, refuse_where, remove_all};
 

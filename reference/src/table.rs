@@ -1,35 +1,48 @@
 //! The table of refusals line by line. `rules` stops at the first refusal; here each line is asked by itself, so
 //! that the comparison knows whether a call is refused for one reason alone or for several.
 
-pub mod closing;
+mod closing;
 mod handshake;
+mod verdict;
 
 use crate::bytes::*;
 use crate::datagram::*;
 use crate::fit::fit;
 use crate::places::OUTPUT;
 use crate::refusal::*;
-use crate::rules::{reached, shows_acknowledgement, shows_commitment, shows_not_received};
+use crate::rules::reached;
 use crate::store::*;
 use crate::verdict::Verdict;
 
-/// Every refusal that applies, in rising order. Nothing is asked of an unfit store or of malformed bytes, and of a
-/// channel that is not there no more than that.
-pub fn applying(store: &[u8], output_length: usize, bytes: &[u8]) -> Vec<u8> {
+/// Every line that applies, in the order of the places. Nothing is asked of an unfit store or of malformed bytes, and
+/// of a channel that is not there no more than that.
+pub fn applying(store: &[u8], output_length: usize, bytes: &[u8]) -> Vec<Line> {
     let is_fit = fit(store);
     let datagram = read(bytes);
-    let mut lines =
+    let mut numbers =
         vec![(STORE_NOT_FIT, !is_fit), (OUTPUT_SHORT, output_length < OUTPUT), (MALFORMED, datagram.is_none())];
+    let mut parts = Vec::new();
     if let Some(datagram) = datagram.filter(|_| is_fit) {
-        lines.push((BEFORE_LAST, goes_back(store, &datagram.context)));
-        lines.extend(match own_channel(&datagram.body).map(|number| find_channel(store, number)) {
-            None => handshake::of_new_end(store, &datagram),
-            Some(None) => vec![(NO_CHANNEL, true)],
-            Some(Some((_, end))) => of_end(store, &datagram, &end),
-        });
+        numbers.push((BEFORE_LAST, goes_back(store, &datagram.context)));
+        match own_channel(&datagram.body).map(|number| find_channel(store, number)) {
+            None => {
+                numbers.extend(handshake::of_new_end(store, &datagram));
+                parts = verdict::of_new_end(&datagram);
+            }
+            Some(None) => numbers.push((NO_CHANNEL, true)),
+            Some(Some((_, end))) => {
+                numbers.extend(of_end(store, &datagram, &end));
+                parts = verdict::of_end(&datagram, &end);
+            }
+        }
     }
-    lines.retain(|(_, applies)| *applies);
-    lines.into_iter().map(|(number, _)| number).collect()
+    let mut lines: Vec<Line> = that_apply(numbers).chain(that_apply(parts)).collect();
+    lines.sort_unstable();
+    lines
+}
+
+fn that_apply<T: Into<Line>>(lines: Vec<(T, bool)>) -> impl Iterator<Item = Line> {
+    lines.into_iter().filter(|(_, applies)| *applies).map(|(line, _)| line.into())
 }
 
 fn goes_back(store: &[u8], context: &Context) -> bool {
@@ -51,7 +64,8 @@ pub fn own_channel(body: &Body) -> Option<u32> {
     }
 }
 
-/// The lines behind 5: 6 for packets but not for a time-out of either sort, 7 for all, then those of the kind.
+/// The lines behind 5, but for those of verdicts: 6 for packets but not for a time-out of either sort, 7 for all, then
+/// those of the kind.
 fn of_end(store: &[u8], datagram: &Datagram, end: &Channel) -> Vec<(u8, bool)> {
     let Datagram { context, body } = datagram;
     let asks_open =
@@ -61,11 +75,9 @@ fn of_end(store: &[u8], datagram: &Datagram, end: &Channel) -> Vec<(u8, bool)> {
         Body::Send { timeout_height, timeout_timestamp, .. } => {
             of_send(store, context, end, *timeout_height, *timeout_timestamp)
         }
-        Body::Receive { packet, verdict } => of_receive(store, context, end, packet, verdict),
+        Body::Receive { packet, .. } => of_receive(store, context, end, packet),
         Body::Write { sequence, digest, .. } => of_write(store, end, *sequence, digest),
-        Body::Acknowledge { packet, acknowledgement, verdict } => {
-            of_acknowledge(store, context, end, packet, acknowledgement, verdict)
-        }
+        Body::Acknowledge { packet, .. } => of_acknowledge(store, context, end, packet),
         Body::TimeOut { packet, verdict } => of_time_out(store, end, packet, verdict),
         Body::CloseInit { .. } => closing::of_close(context, end, None),
         Body::CloseConfirm { verdict, .. } => closing::of_close(context, end, Some(verdict)),
@@ -86,7 +98,7 @@ fn of_send(store: &[u8], context: &Context, end: &Channel, height: u64, time: u6
     ]
 }
 
-fn of_receive(store: &[u8], context: &Context, end: &Channel, packet: &Packet, verdict: &Verdict) -> Vec<(u8, bool)> {
+fn of_receive(store: &[u8], context: &Context, end: &Channel, packet: &Packet) -> Vec<(u8, bool)> {
     let here = (packet.dest_port, packet.source_port, packet.source_channel);
     let late = reached(context.height, packet.timeout_height) || reached(context.time, packet.timeout_timestamp);
     let ordered = end.is_ordered();
@@ -94,7 +106,6 @@ fn of_receive(store: &[u8], context: &Context, end: &Channel, packet: &Packet, v
         (CONNECTION_NOT_OPEN, context.connection == 0),
         (WRONG_END, here != (end.port, end.counterparty_port, end.counterparty_channel)),
         (TIMEOUT_PASSED, late),
-        (OTHER_VERDICT, !shows_commitment(verdict, packet)),
         (OUT_OF_ORDER, ordered && packet.sequence != end.next_sequence_recv),
         (ALREADY_THERE, !ordered && received(store, end, packet.sequence)),
         (COUNTER_AT_END, ordered && end.next_sequence_recv == u64::MAX),
@@ -111,36 +122,31 @@ fn of_write(store: &[u8], end: &Channel, sequence: u64, digest: &Digest) -> Vec<
     ]
 }
 
-fn of_acknowledge(
-    store: &[u8],
-    context: &Context,
-    end: &Channel,
-    packet: &Packet,
-    acknowledgement: &Digest,
-    verdict: &Verdict,
-) -> Vec<(u8, bool)> {
+fn of_acknowledge(store: &[u8], context: &Context, end: &Channel, packet: &Packet) -> Vec<(u8, bool)> {
     let ordered = end.is_ordered();
     vec![
         (CONNECTION_NOT_OPEN, context.connection == 0),
         (WRONG_END, !sent_here(end, packet)),
         (NO_COMMITMENT, !is_committed(store, end, packet)),
-        (OTHER_VERDICT, !shows_acknowledgement(verdict, packet, acknowledgement)),
         (OUT_OF_ORDER, ordered && packet.sequence != end.next_sequence_ack),
         (COUNTER_AT_END, ordered && end.next_sequence_ack == u64::MAX),
     ]
 }
 
 fn of_time_out(store: &[u8], end: &Channel, packet: &Packet, verdict: &Verdict) -> Vec<(u8, bool)> {
-    let ordered = end.is_ordered();
     let passed =
         reached(verdict.proof_height, packet.timeout_height) || reached(verdict.proof_time, packet.timeout_timestamp);
     vec![
         (WRONG_END, !sent_here(end, packet)),
         (TIMEOUT_NOT_PASSED, !passed),
         (NO_COMMITMENT, !is_committed(store, end, packet)),
-        (OTHER_VERDICT, !shows_not_received(verdict, packet, ordered)),
-        (OUT_OF_ORDER, ordered && packet.sequence < verdict.sequence),
+        (OUT_OF_ORDER, says_taken(end, packet, verdict)),
     ]
+}
+
+/// The next receive that is claimed of an ordered channel is above the packet's sequence.
+fn says_taken(end: &Channel, packet: &Packet, verdict: &Verdict) -> bool {
+    end.is_ordered() && packet.sequence < verdict.sequence
 }
 
 fn sent_here(end: &Channel, packet: &Packet) -> bool {

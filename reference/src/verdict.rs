@@ -2,7 +2,9 @@
 //! unknown.
 
 use crate::bytes::*;
-use crate::places::{end_verdict, verdict, RECORD};
+use crate::places::{channel, end_verdict, verdict, RECORD};
+use crate::refusal::*;
+use crate::store::{Channel, Version};
 
 pub const COMMITMENT_PRESENT: u16 = 1;
 pub const ACKNOWLEDGEMENT_PRESENT: u16 = 2;
@@ -66,6 +68,20 @@ impl Verdict {
         put_u64(bytes, verdict::TIMEOUT_TIMESTAMP, self.timeout_timestamp);
         put(bytes, verdict::DIGEST, self.digest);
     }
+
+    /// Refuses for the first part that is not as needed. The block is none of them.
+    pub fn compare(&self, needed: &Verdict) -> Result<(), u8> {
+        refuse_if(self.claim != needed.claim, OTHER_CLAIM)?;
+        refuse_if(self.port != needed.port, OTHER_PORT)?;
+        refuse_if(self.channel != needed.channel, OTHER_CHANNEL)?;
+        refuse_if(self.sequence != needed.sequence, OTHER_SEQUENCE)?;
+        refuse_if(self.timeouts() != needed.timeouts(), OTHER_TIMEOUTS)?;
+        refuse_if(self.digest != needed.digest, OTHER_DIGEST)
+    }
+
+    fn timeouts(&self) -> (u64, u64) {
+        (self.timeout_height, self.timeout_timestamp)
+    }
 }
 
 impl EndVerdict {
@@ -85,5 +101,16 @@ impl EndVerdict {
         put_u64(bytes, end_verdict::PROOF_HEIGHT, self.proof_height);
         put_u64(bytes, end_verdict::PROOF_TIME, self.proof_time);
         put(bytes, end_verdict::RECORD, self.record);
+    }
+
+    /// Refuses for the first part that is not as needed, which is this end. All of the record is compared but the
+    /// version, which has a refusal of its own.
+    pub fn compare(&self, needed: &Channel) -> Result<(), u8> {
+        refuse_if(self.claim != END_SHOWN, OTHER_CLAIM)?;
+        refuse_if(self.record[..channel::VERSION] != needed.shown()[..channel::VERSION], OTHER_DIGEST)
+    }
+
+    pub fn has_version(&self, version: &Version) -> bool {
+        self.record[channel::VERSION..] == *version
     }
 }

@@ -1,5 +1,7 @@
 //! What is measured: mixed datagrams for one full store, records that shift all others, and stores out of order.
 
+use std::collections::BTreeMap;
+
 use crate::bytes::put_u32;
 use crate::datagram::*;
 use crate::generate::accept::{accepted, pick_record};
@@ -10,6 +12,7 @@ use crate::generate::malform::malform;
 use crate::generate::rng::Rng;
 use crate::generate::shape::{channels, fill};
 use crate::places::{opening, OUTPUT};
+use crate::refusal::Line;
 use crate::store::*;
 
 /// After so many calls the store is set back, so that it stays full of the same mixture.
@@ -24,7 +27,7 @@ pub struct Workload {
     pub store: Vec<u8>,
     pub datagrams: Vec<Vec<u8>>,
     /// How often each answer comes.
-    pub answers: [u64; 28],
+    pub answers: BTreeMap<u8, u64>,
     /// Free records before each call, all calls together.
     pub free: u64,
 }
@@ -33,14 +36,14 @@ pub struct Workload {
 pub fn workload(seed: u64, records: usize, count: usize) -> Workload {
     let mut rng = Rng::new(seed);
     let store = full(&mut rng, records);
-    let mut workload = Workload { store, datagrams: Vec::new(), answers: [0; 28], free: 0 };
+    let mut workload = Workload { store, datagrams: Vec::new(), answers: BTreeMap::new(), free: 0 };
     while workload.datagrams.len() < count {
         let mut segment = Segment { store: workload.store.clone(), kept: 0 };
         for _ in 0..SEGMENT.min(count - workload.datagrams.len()) {
             let datagram = segment.next(&mut rng);
             workload.free += free_count(&segment.store) as u64;
             let (number, _) = crate::handle(&mut segment.store, &mut [0; OUTPUT], &datagram);
-            workload.answers[usize::from(number)] += 1;
+            *workload.answers.entry(number).or_default() += 1;
             workload.datagrams.push(datagram);
         }
     }
@@ -114,11 +117,11 @@ impl Segment {
     fn refused(&mut self, rng: &mut Rng) -> Option<Vec<u8>> {
         let kind = rng.pick(&[SEND, RECEIVE, WRITE, ACKNOWLEDGE, TIME_OUT]);
         let mut draft = accepted(rng, &self.store, kind)?;
-        let number = rng.pick(fault::possible(kind, draft.end().is_ordered()));
-        let spoiled = fault::spoil(rng, &mut draft, number);
-        if number != crate::refusal::OTHER_VERDICT {
-            draft.match_verdict();
-        }
+        let (numbers, parts) = (fault::numbers(draft.row()), fault::parts(draft.row()));
+        // All parts of the verdict together come as often as any other refusal.
+        let at = rng.index(numbers.len() + usize::from(!parts.is_empty()));
+        let line = numbers.get(at).map_or_else(|| Line::from(rng.pick(&parts)), |number| Line::from(*number));
+        let spoiled = fault::spoil(rng, &mut draft, &[line]);
         (spoiled && draft.store == self.store).then(|| draft.encode())
     }
 

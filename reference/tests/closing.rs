@@ -31,7 +31,7 @@ fn close_confirm_answers_a_close() {
         assert_eq!((&store[8..16], &store[16..24]), (&100u64.to_le_bytes()[..], &1000u64.to_le_bytes()[..]));
         for state in [INIT, TRYOPEN, OPEN] {
             let early = start(124, 11, 5).n32(end.own).text(&end.shown(state, VERSION)).0;
-            assert_eq!(number(&mut fresh(), &early), 14, "{state}");
+            assert_eq!(number(&mut fresh(), &early), 145, "{state}");
         }
     }
 }
@@ -47,11 +47,11 @@ fn closing_frees_nothing() {
     }
 }
 
-/// Only an OPEN end closes, and where several apply the lowest number is given.
+/// Only an OPEN end closes, and where several apply the one at the first place is given.
 #[test]
-fn numbers_of_closes_rise() {
+fn refusals_of_closes_come_by_place() {
     let no_channel = (38, 11);
-    let (caller, unconnected, open) = ((30, 6), (CONNECTION, 0), (60 + 2, OPEN));
+    let (caller, unconnected, claim, open) = ((30, 6), (CONNECTION, 0), (CONFIRM_VERDICT, 1), (60 + 2, OPEN));
     let other_version = (60 + 40, b'w');
     for state in [INIT, TRYOPEN, CLOSED] {
         let mut store = ORDERED.sent(state);
@@ -68,10 +68,11 @@ fn numbers_of_closes_rise() {
         assert_eq!(answer(&init, &[caller, unconnected]), 7);
         assert_eq!(answer(&init, &[unconnected]), 8);
         assert_eq!(answer(&init, &[]), 26);
-        assert_eq!(answer(&confirm, &[no_channel, caller, unconnected, open, other_version]), 5);
-        assert_eq!(answer(&confirm, &[caller, unconnected, open, other_version]), 7);
-        assert_eq!(answer(&confirm, &[unconnected, open, other_version]), 8);
-        assert_eq!(answer(&confirm, &[open, other_version]), 14);
+        assert_eq!(answer(&confirm, &[no_channel, caller, unconnected, claim, open, other_version]), 5);
+        assert_eq!(answer(&confirm, &[caller, unconnected, claim, open, other_version]), 7);
+        assert_eq!(answer(&confirm, &[unconnected, claim, open, other_version]), 8);
+        assert_eq!(answer(&confirm, &[claim, open, other_version]), 140);
+        assert_eq!(answer(&confirm, &[open, other_version]), 145);
         assert_eq!(answer(&confirm, &[other_version]), 26);
     }
     assert_eq!(number(&mut fresh(), &with(ORDERED.close_confirm(), &[other_version])), 27);
@@ -83,9 +84,9 @@ fn numbers_of_closes_rise() {
 #[test]
 fn verdicts_about_another_end() {
     for end in [ORDERED, UNORDERED] {
-        assert_changes(&fresh(), &end.close_confirm(), CONFIRM_VERDICT, &[(2, 18, 0), (18, 58, 14), (58, 82, 27)]);
+        assert_changes(&fresh(), &end.close_confirm(), CONFIRM_VERDICT, &[(2, 18, 0), (18, 58, 145), (58, 82, 27)]);
         for claim in 1..=4 {
-            assert_eq!(number(&mut fresh(), &with(end.close_confirm(), &[(CONFIRM_VERDICT, claim)])), 14, "{claim}");
+            assert_eq!(number(&mut fresh(), &with(end.close_confirm(), &[(CONFIRM_VERDICT, claim)])), 140, "{claim}");
         }
     }
 }

@@ -99,7 +99,7 @@ fn both_ends_open() {
     assert_eq!(channel(&other, 1), record_of(OPEN, (6, 2), (5, 1), 1, VERSION).0);
 
     // The other end that answered has no verdict to open with, and the initiator no second choice.
-    assert_eq!(number(&mut other, &confirm(6, 1, &shows_open(2))), 14);
+    assert_eq!(number(&mut other, &confirm(6, 1, &shows_open(2))), 145);
     assert_eq!(number(&mut one, &acknowledge(5, 1, 1, &shows_tried(1))), 26);
     let send = start(90, 1, 5).n32(1).n64(60).n64(0).digest(0xd1).0;
     assert_eq!(number(&mut one, &send), 0);
@@ -139,7 +139,7 @@ fn no_room_for_another_end() {
     assert_eq!(number(&mut store, &init(VERSION)), 25);
     assert_eq!(number(&mut store, &init(&[b'v'; 25])), 25);
     assert_eq!(number(&mut store, &open_try(&shows_init(), b"v2")), 25);
-    assert_eq!(number(&mut store, &open_try(&shows_tried(1), VERSION)), 14);
+    assert_eq!(number(&mut store, &open_try(&shows_tried(1), VERSION)), 145);
 
     let with_next = |next: u64| {
         let mut store = empty();
@@ -185,17 +185,17 @@ fn verdicts_about_another_end() {
     for (store, datagram, at) in steps {
         let with = |place: usize, value: u8| number(&mut store.clone(), &spoiled(datagram.clone(), place, value));
         let changed = |place: usize| with(place, datagram[place] ^ 0x40);
-        (1..=4).for_each(|claim| assert_eq!(with(at, claim), 14));
+        (1..=4).for_each(|claim| assert_eq!(with(at, claim), 140));
         // The block is not compared with anything; the version stands behind the rest of the record.
-        for (from, to, expected) in [(2, 18, 0), (18, 58, 14), (58, 82, 27)] {
+        for (from, to, expected) in [(2, 18, 0), (18, 58, 145), (58, 82, 27)] {
             (at + from..at + to).for_each(|place| assert_eq!(changed(place), expected, "{place}"));
         }
     }
 }
 
-/// Where several apply, the lowest number is given.
+/// Where several apply, the one at the first place is given.
 #[test]
-fn numbers_rise() {
+fn refusals_come_by_place() {
     let connection = 32;
     let mut tried = after_tries();
     let other_state = verdict(CLOSED, (5, 1), (6, 1), b"w");
@@ -203,8 +203,11 @@ fn numbers_rise() {
         (spoiled(confirm(5, 3, &other_state), connection, 0), 5),
         (spoiled(confirm(5, 1, &other_state), connection, 0), 7),
         (spoiled(confirm(6, 1, &other_state), connection, 0), 8),
-        (confirm(6, 1, &other_state), 14),
+        (spoiled(confirm(6, 1, &other_state), 42, 4), 140),
+        (confirm(6, 1, &other_state), 145),
         (confirm(6, 1, &verdict(OPEN, (5, 1), (6, 1), b"w")), 27),
+        (spoiled(acknowledge(6, 1, 1, &verdict(TRYOPEN, (5, 1), (6, 1), b"w")), 46, 1), 140),
+        (acknowledge(6, 1, 1, &verdict(OPEN, (5, 1), (6, 1), b"w")), 145),
         (acknowledge(6, 1, 1, &verdict(TRYOPEN, (5, 1), (6, 1), b"w")), 26),
     ] {
         assert_eq!(number(&mut tried, &datagram), expected);

@@ -57,7 +57,7 @@ fn claims_that_a_packet_was_not_received() {
     assert_eq!(answer(&mut store, &ORDERED.on_close()), (0, ORDERED.timed_out(1)));
     // Unordered, the receipt of this very sequence is absent.
     let other = UNORDERED.on_close_with(1, &UNORDERED.shown(CLOSED, VERSION), &UNORDERED.absent(2));
-    assert_eq!(number(&mut UNORDERED.sent(OPEN), &other), 14);
+    assert_eq!(number(&mut UNORDERED.sent(OPEN), &other), 143);
 }
 
 /// Every byte of the two verdicts: of the end's the block, the record and its version, of the packet's the block, the
@@ -66,12 +66,12 @@ fn claims_that_a_packet_was_not_received() {
 fn verdicts_about_something_else() {
     for end in [ORDERED, UNORDERED] {
         let store = end.sent(OPEN);
-        assert_changes(&store, &end.on_close(), END_VERDICT, &[(2, 58, 14), (58, 82, 27)]);
-        let sequence = if end.order == 1 { 15 } else { 14 };
-        assert_changes(&store, &end.on_close(), VERDICT, &[(2, 24, 14), (24, 32, sequence), (32, 80, 14)]);
+        assert_changes(&store, &end.on_close(), END_VERDICT, &[(2, 18, 146), (18, 58, 145), (58, 82, 27)]);
+        assert_changes(&store, &end.on_close(), VERDICT, &[(2, 18, 146)]);
+        assert_changes(&store, &end.on_close(), VERDICT, &parts_of(if end.order == 1 { 15 } else { 143 }));
         for (place, needed) in [(END_VERDICT, 5), (VERDICT, 5 - end.order)] {
             for claim in (1..=5).filter(|claim| *claim != needed) {
-                assert_eq!(number(&mut store.clone(), &with(end.on_close(), &[(place, claim)])), 14, "{claim}");
+                assert_eq!(number(&mut store.clone(), &with(end.on_close(), &[(place, claim)])), 140, "{claim}");
             }
         }
     }
@@ -85,23 +85,29 @@ fn two_verdicts_of_one_block() {
         assert_eq!(number(&mut ORDERED.sent(OPEN), &both), 0);
         for at in [END_VERDICT, VERDICT] {
             let one = with(ORDERED.on_close(), &[(at + place, value)]);
-            assert_eq!(number(&mut ORDERED.sent(OPEN), &one), 14);
+            assert_eq!(number(&mut ORDERED.sent(OPEN), &one), 146);
         }
     }
 }
 
-/// With all of these together the lowest number is given; one after the other is put right.
+/// With all of these together the one at the first place is given; one after the other is put right. All parts of the
+/// end verdict come before those of the packet's, and last the blocks.
 #[test]
-fn numbers_rise() {
+fn refusals_on_close_come_by_place() {
     let right = ORDERED.on_close();
     let faults = [
         (38 + 26, 11, 5),
         (30, 6, 7),
         (38 + 30, 9, 9),
         (38 + 36, 0, 13),
-        (END_VERDICT + 18 + 2, OPEN, 14),
-        (VERDICT + 48, 1, 14),
-        (VERDICT + 2, 50, 14),
+        (END_VERDICT, 4, 140),
+        (END_VERDICT + 18 + 2, OPEN, 145),
+        (VERDICT, 5, 140),
+        (VERDICT + 18, 5, 141),
+        (VERDICT + 20, 8, 142),
+        (VERDICT + 32, 1, 144),
+        (VERDICT + 48, 1, 145),
+        (VERDICT + 2, 50, 146),
         (VERDICT + 24, 2, 15),
         (END_VERDICT + 58, b'w', 27),
     ];

@@ -118,7 +118,7 @@ fn measure(records: usize, rounds: usize) {
     let chunk = (SEGMENT * 8 / records).max(1);
     let segments: Vec<Segment> = workload.datagrams.chunks(SEGMENT).map(|it| (&workload.store[..], it)).collect();
     let times = compared([library, reference::handle], &segments, chunk, rounds);
-    let (accepted, free) = (workload.answers[0], workload.free as f64 / CALLS as f64);
+    let (accepted, free) = (workload.answers[&0], workload.free as f64 / CALLS as f64);
     println!("\nP = {records}: {CALLS} calls, {accepted} accepted, {free:.1} records free on average");
     println!("{rounds} rounds each, timed by {chunk}");
     show(times);

@@ -8,7 +8,7 @@ use reference::compare::compare;
 use reference::history::{self, Truth};
 use reference::route::ROUTE;
 
-/// The full run. From some 150,000 calls on every cell of the coverage is met; fewer calls fail for that.
+/// The full run. From some 200,000 calls on every cell of the coverage is met; fewer calls fail for that.
 const DEFAULT_CALLS: u64 = 1_000_000;
 /// One history of each sort for so many calls.
 const CALLS_PER_HISTORY: u64 = 500;

@@ -12,7 +12,6 @@ use crate::generate::although::{self, Although};
 use crate::generate::{damage, fault, malform, Row};
 use crate::refusal::*;
 use crate::store::{CLOSED, INIT, OPEN, TRYOPEN};
-use crate::table::closing::Part;
 
 /// Names of the kinds, from kind 1.
 pub const KINDS: [&str; 12] = [
@@ -37,10 +36,10 @@ const EMITTED: [u16; 7] = [0, 0x0101, 0x0102, 0x0103, 0x0104, 0x0105, 0x0107];
 pub enum Cell {
     /// A datagram of this kind was answered so.
     Answer(u16, u8),
-    /// This refusal applied and no other.
-    Alone(Row, u8),
-    /// These two refusals applied, the lower one first.
-    Pair(Row, u8, u8),
+    /// This line applied and no other.
+    Alone(Row, Line),
+    /// These two lines applied, and the first was given.
+    Pair(Row, Line, Line),
     /// A call of this row was accepted.
     Accepted(Row),
     /// A call of this row was accepted although the store held the thing of this index.
@@ -49,10 +48,8 @@ pub enum Cell {
     TimedOut { row: Row, state: u8, below: bool },
     /// A time-out on close was accepted so.
     OnClose(Circumstance),
-    /// To a time-out on close 14 applied for this part of its verdicts alone, and no other number but this one, or 0.
-    Part(Row, Part, u8),
-    /// On an end in this state, which is not the one that the kind is for, this refusal applied and no other.
-    InState(Row, u8, u8),
+    /// On an end in this state, which is not the one that the kind is for, this line applied and no other.
+    InState(Row, u8, Line),
     /// A datagram had or showed a version of this sort, and was accepted or refused for it alone.
     Version(u16, Text),
     /// A step that makes an end met a store with this much room, and was accepted or refused for it alone.
@@ -78,14 +75,13 @@ pub enum Cell {
 }
 
 /// The sorts of cells, as a run tells them.
-pub const SORTS: [&str; 20] = [
+pub const SORTS: [&str; 19] = [
     "answers by kind",
     "refusals alone",
     "pairs",
     "accepted by order",
     "time-outs accepted",
     "accepted on close",
-    "parts of 14",
     "alone by state",
     "versions",
     "room for an end",
@@ -111,20 +107,19 @@ impl Cell {
             Cell::Accepted(_) => 3,
             Cell::TimedOut { .. } => 4,
             Cell::OnClose(_) => 5,
-            Cell::Part(..) => 6,
-            Cell::InState(..) => 7,
-            Cell::Version(..) => 8,
-            Cell::Room(..) => 9,
-            Cell::Emitted(_) => 10,
-            Cell::Damage(..) => 11,
-            Cell::Way(..) => 12,
-            Cell::Maker(_) => 13,
-            Cell::Next(_) => 14,
-            Cell::Length => 15,
-            Cell::Although(..) => 16,
-            Cell::Place(_) => 17,
-            Cell::Converter(..) => 18,
-            Cell::Converted(_) => 19,
+            Cell::InState(..) => 6,
+            Cell::Version(..) => 7,
+            Cell::Room(..) => 8,
+            Cell::Emitted(_) => 9,
+            Cell::Damage(..) => 10,
+            Cell::Way(..) => 11,
+            Cell::Maker(_) => 12,
+            Cell::Next(_) => 13,
+            Cell::Length => 14,
+            Cell::Although(..) => 15,
+            Cell::Place(_) => 16,
+            Cell::Converter(..) => 17,
+            Cell::Converted(_) => 18,
         }
     }
 }
@@ -143,8 +138,8 @@ impl fmt::Display for Cell {
     fn fmt(&self, out: &mut fmt::Formatter) -> fmt::Result {
         match self {
             Cell::Answer(kind, number) => write!(out, "{}: answer {number}", name(*kind)),
-            Cell::Alone(row, number) => write!(out, "{row}: {number} alone"),
-            Cell::Pair(row, low, high) => write!(out, "{row}: {low} with {high}"),
+            Cell::Alone(row, line) => write!(out, "{row}: {line} alone"),
+            Cell::Pair(row, first, second) => write!(out, "{row}: {first} with {second}"),
             Cell::Accepted(row) => write!(out, "{row}: accepted"),
             Cell::Although(row, index) => {
                 let Although { name, refusal, .. } = &although::ALL[*index];
@@ -155,9 +150,7 @@ impl fmt::Display for Cell {
                 write!(out, "{row}: accepted, end {}, claim {claimed} the sequence", state_name(*state))
             }
             Cell::OnClose(circumstance) => write!(out, "{circumstance}"),
-            Cell::Part(row, part, 0) => write!(out, "{row}: 14 by {part} alone"),
-            Cell::Part(row, part, beside) => write!(out, "{row}: 14 by {part} with {beside}"),
-            Cell::InState(row, state, number) => write!(out, "{row}: {number} alone, end {}", state_name(*state)),
+            Cell::InState(row, state, line) => write!(out, "{row}: {line} alone, end {}", state_name(*state)),
             Cell::Version(kind, text) => write!(out, "{}: version {text}", name(*kind)),
             Cell::Room(kind, room) => write!(out, "{}: {room}", name(*kind)),
             Cell::Emitted(0) => write!(out, "emitted: nothing"),
@@ -192,12 +185,12 @@ pub fn rows() -> impl Iterator<Item = Row> {
     kinds().flat_map(|kind| [true, false].map(|ordered| Row { kind, ordered }))
 }
 
-/// The answers that a call of this kind can get.
+/// The answers that a call of this kind can get, in the order of their places.
 pub fn answers(kind: u16) -> Vec<u8> {
-    let own = [true, false].map(|ordered| fault::aims(Row { kind, ordered })).concat();
-    let mut numbers: Vec<u8> = [0].into_iter().chain(own).collect();
-    numbers.retain(|number| fault::alone_possible(Row { kind, ordered: true }, *number));
-    numbers.sort_unstable();
+    let mut lines = [true, false].map(|ordered| fault::aims(Row { kind, ordered })).concat();
+    lines.retain(|line| fault::alone_possible(Row { kind, ordered: true }, *line));
+    let mut numbers: Vec<u8> = [0].into_iter().chain(lines.into_iter().map(Line::number)).collect();
+    numbers.sort_unstable_by_key(|number| (place(*number), *number));
     numbers.dedup();
     numbers
 }
@@ -206,15 +199,16 @@ pub fn answers(kind: u16) -> Vec<u8> {
 pub fn impossible() -> Vec<(Cell, &'static str)> {
     let mut cells = Vec::new();
     for row in rows() {
-        let numbers = fault::aims(row);
-        let alone = numbers.iter().filter(|number| !fault::alone_possible(row, **number));
-        cells.extend(alone.map(|number| (Cell::Alone(row, *number), "a commitment is below next send")));
-        for low in &numbers {
-            let higher = numbers.iter().filter(|high| low < *high && !fault::pair_possible(*low, **high));
-            cells.extend(higher.map(|high| {
+        let lines = fault::aims(row);
+        let alone = lines.iter().filter(|line| !fault::alone_possible(row, **line));
+        cells.extend(alone.map(|line| (Cell::Alone(row, *line), "a commitment is below next send")));
+        for first in &lines {
+            let behind = lines.iter().filter(|second| first < *second && !fault::pair_possible(*first, **second));
+            cells.extend(behind.map(|second| {
                 let sent = "a send without timeouts has none to pass";
-                let reason = if *low == NO_TIMEOUT { sent } else { "only a received packet is acknowledged" };
-                (Cell::Pair(row, *low, *high), reason)
+                let is_sent = first.number() == NO_TIMEOUT;
+                let reason = if is_sent { sent } else { "only a received packet is acknowledged" };
+                (Cell::Pair(row, *first, *second), reason)
             }));
         }
     }
@@ -222,12 +216,12 @@ pub fn impossible() -> Vec<(Cell, &'static str)> {
 }
 
 fn of_row(row: Row) -> Vec<Cell> {
-    let numbers = fault::aims(row);
-    let alone = numbers.iter().filter(|number| fault::alone_possible(row, **number));
-    let mut cells: Vec<Cell> = alone.map(|number| Cell::Alone(row, *number)).collect();
-    for low in &numbers {
-        let higher = numbers.iter().filter(|high| fault::pair_possible(*low, **high));
-        cells.extend(higher.map(|high| Cell::Pair(row, *low, *high)));
+    let lines = fault::aims(row);
+    let alone = lines.iter().filter(|line| fault::alone_possible(row, **line));
+    let mut cells: Vec<Cell> = alone.map(|line| Cell::Alone(row, *line)).collect();
+    for first in &lines {
+        let behind = lines.iter().filter(|second| fault::pair_possible(*first, **second));
+        cells.extend(behind.map(|second| Cell::Pair(row, *first, *second)));
     }
     cells
 }
@@ -245,14 +239,14 @@ pub fn state_for(kind: u16) -> Option<u8> {
 /// The refusals that can apply alone in this row on an end in another state than the one that it is for. There 6 or 26
 /// applies to all kinds but the two time-outs; behind 1, 3 and 5 there is no end to look at.
 fn alone_by_state(row: Row) -> Vec<Cell> {
-    let mut numbers = fault::aims(row);
-    numbers.retain(|number| match row.kind {
-        TIME_OUT | TIME_OUT_ON_CLOSE => !matches!(*number, STORE_NOT_FIT | MALFORMED | NO_CHANNEL),
-        _ => matches!(*number, NOT_OPEN | NOT_PRIOR_STATE),
+    let mut lines = fault::aims(row);
+    lines.retain(|line| match row.kind {
+        TIME_OUT | TIME_OUT_ON_CLOSE => !matches!(line.number(), STORE_NOT_FIT | MALFORMED | NO_CHANNEL),
+        _ => matches!(line.number(), NOT_OPEN | NOT_PRIOR_STATE),
     });
     let usual = state_for(row.kind);
     let others = [INIT, TRYOPEN, OPEN, CLOSED].into_iter().filter(|state| usual.is_some_and(|usual| usual != *state));
-    others.flat_map(|state| numbers.iter().map(move |number| Cell::InState(row, state, *number))).collect()
+    others.flat_map(|state| lines.iter().map(move |line| Cell::InState(row, state, *line))).collect()
 }
 
 /// The time-outs of this kind that can be accepted.

@@ -58,7 +58,7 @@ pub fn possible() -> Vec<Cell> {
 }
 
 /// The cells that a call on a fit store reaches, with all refusals that applied to it.
-pub fn reached(store: &[u8], body: &Body, applying: &[u8]) -> Vec<Cell> {
+pub fn reached(store: &[u8], body: &Body, applying: &[Line]) -> Vec<Cell> {
     let (kind, version) = match body {
         Body::OpenInit { version, .. } => (OPEN_INIT, *version),
         Body::OpenTry { version, .. } => (OPEN_TRY, *version),
@@ -68,16 +68,21 @@ pub fn reached(store: &[u8], body: &Body, applying: &[u8]) -> Vec<Cell> {
         Body::TimeOutOnClose { end_verdict, .. } => (TIME_OUT_ON_CLOSE, shown(end_verdict)),
         _ => return Vec::new(),
     };
+    let number = match applying {
+        [] => 0,
+        [line] => line.number(),
+        _ => return Vec::new(),
+    };
     let mut cells = Vec::new();
-    match applying {
-        [] => cells.push(Cell::Version(kind, text(version))),
-        [WRONG_VERSION] => {
+    match number {
+        0 => cells.push(Cell::Version(kind, text(version))),
+        WRONG_VERSION => {
             let wrong = Some(text(version)).filter(|text| has_version(kind) && REFUSED_TEXTS.contains(text));
             cells.push(Cell::Version(kind, wrong.unwrap_or(Text::Other)));
         }
         _ => {}
     }
-    let rooms = if has_version(kind) && matches!(applying, [] | [NO_FREE_CHANNEL]) { rooms(store) } else { Vec::new() };
+    let rooms = if has_version(kind) && matches!(number, 0 | NO_FREE_CHANNEL) { rooms(store) } else { Vec::new() };
     cells.extend(rooms.into_iter().map(|room| Cell::Room(kind, room)));
     cells
 }

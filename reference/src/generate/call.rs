@@ -1,5 +1,7 @@
 //! One call, how it came about and what it was made for.
 
+use crate::refusal::Line;
+
 /// What is called, with the bytes that it is lent.
 #[derive(Clone, Debug)]
 pub enum Task {
@@ -33,9 +35,9 @@ pub struct Row {
 pub enum Origin {
     Accepted,
     /// One refusal is aimed at.
-    Fault(Row, u8),
-    /// Two refusals are aimed at, the lower one first.
-    Pair(Row, u8, u8),
+    Fault(Row, Line),
+    /// Two refusals are aimed at, the one that is given first.
+    Pair(Row, Line, Line),
     /// The store is damaged, in the way of this index.
     Damaged(usize),
     /// The datagram, of this kind, is malformed in the way of this index.

@@ -1,7 +1,7 @@
-//! Spoils a call that would be accepted, so that one refusal of the table applies and no lower one begins to.
+//! Spoils a call that would be accepted, so that one line of the table applies and none before it begins to.
 
-mod closing;
 mod handshake;
+mod verdict;
 
 use super::accept::{come_short, pick_record};
 use super::call::Row;
@@ -13,49 +13,65 @@ use crate::datagram::*;
 use crate::places::header;
 use crate::refusal::*;
 use crate::store::*;
-use crate::verdict::END_SHOWN;
+pub use verdict::parts;
 
-/// The refusals from 4 that can be brought about for this kind of call on a channel of this order.
-pub fn possible(kind: u16, ordered: bool) -> &'static [u8] {
-    match (kind, ordered) {
+/// The refusals from 4 that can be brought about in this row, but for those of the parts of verdicts.
+pub fn numbers(row: Row) -> &'static [u8] {
+    match (row.kind, row.ordered) {
         (SEND, _) => &[4, 5, 6, 7, 10, 11, 19, 20],
-        (RECEIVE, true) => &[4, 5, 6, 7, 8, 9, 11, 14, 15, 19],
-        (RECEIVE, false) => &[4, 5, 6, 7, 8, 9, 11, 14, 16, 20],
+        (RECEIVE, true) => &[4, 5, 6, 7, 8, 9, 11, 15, 19],
+        (RECEIVE, false) => &[4, 5, 6, 7, 8, 9, 11, 16, 20],
         (WRITE, _) => &[4, 5, 6, 7, 16, 17, 18, 20],
-        (ACKNOWLEDGE, true) => &[4, 5, 6, 7, 8, 9, 13, 14, 15, 19],
-        (ACKNOWLEDGE, false) => &[4, 5, 6, 7, 8, 9, 13, 14],
+        (ACKNOWLEDGE, true) => &[4, 5, 6, 7, 8, 9, 13, 15, 19],
+        (ACKNOWLEDGE, false) => &[4, 5, 6, 7, 8, 9, 13],
         (OPEN_INIT, _) => &[4, 25, 27],
-        (OPEN_TRY, _) => &[4, 8, 14, 25, 27],
-        (OPEN_ACKNOWLEDGE | OPEN_CONFIRM | CLOSE_CONFIRM, _) => &[4, 5, 7, 8, 14, 26, 27],
+        (OPEN_TRY, _) => &[4, 8, 25, 27],
+        (OPEN_ACKNOWLEDGE | OPEN_CONFIRM | CLOSE_CONFIRM, _) => &[4, 5, 7, 8, 26, 27],
         (CLOSE_INIT, _) => &[4, 5, 7, 8, 26],
-        (TIME_OUT_ON_CLOSE, true) => &[4, 5, 7, 9, 13, 14, 15, 27],
-        (TIME_OUT_ON_CLOSE, false) => &[4, 5, 7, 9, 13, 14, 27],
-        (_, true) => &[4, 5, 7, 9, 12, 13, 14, 15],
-        (_, false) => &[4, 5, 7, 9, 12, 13, 14],
+        (TIME_OUT_ON_CLOSE, true) => &[4, 5, 7, 9, 13, 15, 27],
+        (TIME_OUT_ON_CLOSE, false) => &[4, 5, 7, 9, 13, 27],
+        (_, true) => &[4, 5, 7, 9, 12, 13, 15],
+        (_, false) => &[4, 5, 7, 9, 12, 13],
     }
 }
 
-/// All refusals that can be aimed at in this row: the first three, which any call can get, and those of its kind.
-pub fn aims(row: Row) -> Vec<u8> {
+/// All lines that can be aimed at in this row, in their order: the first three, which any call can get, and those of
+/// its kind.
+pub fn aims(row: Row) -> Vec<Line> {
     let first = [STORE_NOT_FIT, OUTPUT_SHORT, MALFORMED];
-    first.iter().chain(possible(row.kind, row.ordered)).copied().collect()
+    let numbers = first.iter().chain(numbers(row)).map(|number| Line::from(*number));
+    let mut lines: Vec<Line> = numbers.chain(parts(row).into_iter().map(Line::from)).collect();
+    lines.sort_unstable();
+    lines
 }
 
 /// Whether the refusal can apply without another one. No counter alone keeps an acknowledge out: see
 /// `counter_at_end`.
-pub fn alone_possible(row: Row, number: u8) -> bool {
-    row.kind != ACKNOWLEDGE || number != COUNTER_AT_END
+pub fn alone_possible(row: Row, line: Line) -> bool {
+    row.kind != ACKNOWLEDGE || line.number() != COUNTER_AT_END
 }
 
-/// Whether two refusals can apply together, the lower one first. A send without timeouts has none to pass, and in a
-/// fit store only a received packet is acknowledged.
-pub fn pair_possible(low: u8, high: u8) -> bool {
-    low < high && !matches!((low, high), (NO_TIMEOUT, TIMEOUT_PASSED) | (ALREADY_THERE, NOT_RECEIVED))
+/// Whether two lines can apply together, the first one first. A send without timeouts has none to pass, and in a fit
+/// store only a received packet is acknowledged.
+pub fn pair_possible(first: Line, second: Line) -> bool {
+    let numbers = (first.number(), second.number());
+    first < second && !matches!(numbers, (NO_TIMEOUT, TIMEOUT_PASSED) | (ALREADY_THERE, NOT_RECEIVED))
 }
 
-/// Brings one refusal about; several are to be brought about from the highest number down. The verdict has to be
-/// matched again before 14 and after all others. False when the dice or the store do not allow it.
-pub fn spoil(rng: &mut Rng, draft: &mut Draft, number: u8) -> bool {
+/// Brings these lines about, which are in order and from 4 on. The verdicts are matched when all else is as it will be,
+/// and then spoiled. False when the dice or the store do not allow it.
+pub fn spoil(rng: &mut Rng, draft: &mut Draft, lines: &[Line]) -> bool {
+    let mut numbers = lines.iter().rev().filter(|line| line.part().is_none());
+    if !numbers.all(|line| spoil_number(rng, draft, line.number())) {
+        return false;
+    }
+    draft.match_verdict();
+    lines.iter().filter_map(|line| line.part()).for_each(|part| verdict::spoil(rng, draft, part));
+    true
+}
+
+/// Brings one refusal about; several are to be brought about from the last one to the first.
+fn spoil_number(rng: &mut Rng, draft: &mut Draft, number: u8) -> bool {
     match number {
         BEFORE_LAST => move_last(rng, draft),
         NO_CHANNEL => {
@@ -71,9 +87,6 @@ pub fn spoil(rng: &mut Rng, draft: &mut Draft, number: u8) -> bool {
         TIMEOUT_PASSED => return pass(rng, draft),
         TIMEOUT_NOT_PASSED => come_short(rng, &draft.packet, &mut draft.verdict),
         NO_COMMITMENT => other_commitment(rng, draft),
-        OTHER_VERDICT if is_step(draft.kind) => handshake::other_end(rng, draft),
-        OTHER_VERDICT if draft.kind == TIME_OUT_ON_CLOSE => closing::other_of_two(rng, draft),
-        OTHER_VERDICT => other_verdict(rng, draft),
         OUT_OF_ORDER => return out_of_order(rng, draft),
         ALREADY_THERE => return already_there(rng, draft),
         NOT_RECEIVED => return not_received(rng, draft),
@@ -155,20 +168,6 @@ fn other_sender(rng: &mut Rng, store: &[u8], record: &Record) -> Option<u32> {
             && find_record(store, COMMITMENT, end.channel, record.sequence).is_none()
     });
     Some(rng.pick_any(&ends)?.1.channel)
-}
-
-fn other_verdict(rng: &mut Rng, draft: &mut Draft) {
-    let any_sequence = matches!(draft.kind, TIME_OUT | TIME_OUT_ON_CLOSE) && draft.end().is_ordered();
-    let verdict = &mut draft.verdict;
-    match rng.below(7) {
-        0 => verdict.port = rng.other_u16(verdict.port),
-        1 => verdict.channel = rng.other_u32(verdict.channel),
-        2 => verdict.timeout_height = rng.other_than(verdict.timeout_height),
-        3 => verdict.timeout_timestamp = rng.other_than(verdict.timeout_timestamp),
-        4 => verdict.digest = rng.other_digest(verdict.digest),
-        5 if !any_sequence => verdict.sequence = rng.other_than(verdict.sequence),
-        _ => verdict.claim = 1 + (verdict.claim + rng.below(4) as u16) % END_SHOWN,
-    }
 }
 
 fn out_of_order(rng: &mut Rng, draft: &mut Draft) -> bool {

@@ -1,9 +1,10 @@
 //! Traces, the inputs of the replay program: good ones, ones that the maker refuses, and torn ones.
 
+use super::draft::Draft;
 use super::making::{openings, records};
 use super::malform::{garbage, malform};
 use super::rng::Rng;
-use super::{grow, making};
+use super::{fault, grow, making};
 use crate::bytes::*;
 use crate::places::{frame, MAX_RECORDS, OUTPUT};
 use crate::store::store_length;
@@ -66,7 +67,8 @@ fn record(rng: &mut Rng, store: &mut [u8]) -> Vec<u8> {
     let draft = if store.is_empty() { None } else { (0..8).find_map(|_| grow::next_accepted(rng, store)) };
     let mut bytes = match draft {
         None => garbage(rng),
-        Some(draft) => {
+        Some(mut draft) => {
+            spoil_verdict(rng, &mut draft);
             let mut bytes = draft.encode();
             if rng.one_in(5) {
                 malform(rng, &mut bytes);
@@ -82,6 +84,15 @@ fn record(rng: &mut Rng, store: &mut [u8]) -> Vec<u8> {
     put_u32(&mut bytes, frame::LENGTH, length as u32);
     crate::handle(store, &mut [0; OUTPUT], &bytes);
     bytes
+}
+
+/// Of those that carry a verdict, some have a part of it that is not as needed.
+fn spoil_verdict(rng: &mut Rng, draft: &mut Draft) {
+    let parts = fault::parts(draft.row());
+    if !parts.is_empty() && rng.one_in(5) {
+        let part = rng.pick(&parts);
+        fault::spoil(rng, draft, &[part.into()]);
+    }
 }
 
 /// The front of a record that no input can go on with, and perhaps what would follow it.

@@ -1,7 +1,7 @@
 //! The two steps that close an end, and the time-out on close.
 
-use super::handshake::{has_version, other_end, shows_end};
-use super::{shows_not_received, Call};
+use super::handshake::other_end;
+use super::Call;
 use crate::datagram::Packet;
 use crate::effect::Effect;
 use crate::refusal::*;
@@ -24,12 +24,12 @@ impl Call<'_> {
     pub fn time_out_on_close(&self, packet: Packet, closed: EndVerdict, verdict: Verdict) -> Result<Effect, u8> {
         refuse_if(!self.sent_here(&packet), WRONG_END)?;
         let index = self.commitment(&packet).ok_or(NO_COMMITMENT)?;
-        refuse_if(!shows_end(&closed, &self.closed_other()), OTHER_VERDICT)?;
-        refuse_if(!shows_not_received(&verdict, &packet, self.end.is_ordered()), OTHER_VERDICT)?;
+        closed.compare(&self.closed_other())?;
+        verdict.compare(&self.not_received(&packet, &verdict))?;
         let one_block = closed.proof_height == verdict.proof_height && closed.proof_time == verdict.proof_time;
-        refuse_if(!one_block, OTHER_VERDICT)?;
+        refuse_if(!one_block, OTHER_BLOCK)?;
         refuse_if(self.says_taken(&verdict, &packet), OUT_OF_ORDER)?;
-        refuse_if(!has_version(&closed, &self.end.version), WRONG_VERSION)?;
+        refuse_if(!closed.has_version(&self.end.version), WRONG_VERSION)?;
         Ok(self.given_back(index, packet))
     }
 

@@ -3,7 +3,6 @@
 use super::Call;
 use crate::datagram::Context;
 use crate::effect::{Effect, Emitted};
-use crate::places::channel;
 use crate::refusal::*;
 use crate::store::*;
 use crate::verdict::*;
@@ -34,9 +33,9 @@ pub fn open_try(
     refuse_if(context.connection != 1, CONNECTION_NOT_OPEN)?;
     let (port, number) = counterparty;
     let initiator = Channel { state: INIT, ..fresh(port, number, (context.port, 0), order, NO_VERSION) };
-    refuse_if(!shows_end(&verdict, &initiator), OTHER_VERDICT)?;
+    verdict.compare(&initiator)?;
     let (index, number) = next_place(store)?;
-    let version = padded(version).filter(|version| has_version(&verdict, version)).ok_or(WRONG_VERSION)?;
+    let version = padded(version).filter(|version| verdict.has_version(version)).ok_or(WRONG_VERSION)?;
     let end = Channel { state: TRYOPEN, ..fresh(context.port, number, counterparty, order, version) };
     Ok(made(store, context, index, end))
 }
@@ -57,9 +56,9 @@ impl Call<'_> {
     /// From its prior state the end becomes this one, when the verdict shows the other end.
     pub fn step(&self, prior: u8, end: Channel, other: Channel, verdict: EndVerdict) -> Result<Effect, u8> {
         refuse_if(self.context.connection != 1, CONNECTION_NOT_OPEN)?;
-        refuse_if(!shows_end(&verdict, &other), OTHER_VERDICT)?;
+        verdict.compare(&other)?;
         refuse_if(self.end.state != prior, NOT_PRIOR_STATE)?;
-        refuse_if(!has_version(&verdict, &self.end.version), WRONG_VERSION)?;
+        refuse_if(!verdict.has_version(&self.end.version), WRONG_VERSION)?;
         Ok(self.moved(end))
     }
 }
@@ -105,13 +104,4 @@ fn made(store: &[u8], context: Context, index: usize, end: Channel) -> Effect {
     let Context { height, time, .. } = context;
     let emitted = Some(Emitted::EndMade { port: end.port, channel: end.channel });
     Effect { height, time, end: (index, end), next_channel: Some(next_channel(store) + 1), record: None, emitted }
-}
-
-/// All of the record is compared but the version, which has a refusal of its own.
-pub fn shows_end(verdict: &EndVerdict, end: &Channel) -> bool {
-    verdict.claim == END_SHOWN && verdict.record[..channel::VERSION] == end.shown()[..channel::VERSION]
-}
-
-pub fn has_version(verdict: &EndVerdict, version: &Version) -> bool {
-    verdict.record[channel::VERSION..] == *version
 }

@@ -3,23 +3,24 @@
 use std::slice::{from_raw_parts, from_raw_parts_mut};
 
 use super::handshake::{compares_nothing, takes_version, verdict_place};
-use super::tools::{change_where, emits_end, end_of, refuse_where, remove_all};
+use super::tools::{before_parts, change_where, emits_end, end_of, refuse_where, remove_all, tell};
 use crate::bytes::*;
 use crate::datagram::*;
-use crate::places::{channel, context, end_verdict, frame, time_out_on_close, verdict};
+use crate::places::{channel, context, frame, time_out_on_close, verdict};
+use crate::refusal::*;
 use crate::rules::reached;
 use crate::store::*;
 use crate::subject::Handle;
 use crate::verdict::Verdict;
 
-pub const WRONG: [(&str, Handle); 23] = [
+pub const WRONG: [(&str, Handle); 22] = [
     ("closes for any port", closes_for_any),
     ("closes over a connection that is not open", closes_unconnected),
     ("closes an end that is not OPEN", closes_unopened),
     ("compares nothing at a close confirm", CONFIRMS_ANY_CLOSE),
     ("closes ends with different versions", closes_other_version),
     ("gives 6 for 26 at a close", six_at_close),
-    ("gives 26 before 14 at a close", state_first_at_close),
+    ("gives 26 before 140 and 145 at a close", state_first_at_close),
     ("frees the commitments of an end that closes", FREES_AT_CLOSE),
     ("emits something where an end closes", EMITS_AT_CLOSE),
     ("receives on a CLOSED end", RECEIVES_ON_CLOSED),
@@ -34,8 +35,7 @@ pub const WRONG: [(&str, Handle); 23] = [
     ("asks for the timeout on close", asks_timeout),
     ("asks for the connection on close", asks_connection),
     ("asks for an OPEN end on close", asks_open_on_close),
-    ("gives 27 before 14 on close", version_first),
-    ("compares the blocks behind all else on close", blocks_last),
+    ("gives 27 before all parts on close", version_first),
 ];
 
 pub const CONFIRMS_ANY_CLOSE: Handle = confirms_any_close;
@@ -86,11 +86,7 @@ behind_c!(six_at_close, |store, output, datagram| {
 });
 
 behind_c!(state_first_at_close, |store, output, datagram| {
-    let answer = crate::handle(store, output, datagram);
-    match end_of(store, datagram, &[CLOSE_CONFIRM], answer, 14) {
-        Some((_, end)) if !end.is_open() => (26, 0),
-        _ => answer,
-    }
+    tell(store, output, datagram, &[CLOSE_CONFIRM], |line| before_parts(line, NOT_PRIOR_STATE))
 });
 
 behind_c!(frees_at_close, |store, output, datagram| {
@@ -118,7 +114,7 @@ behind_c!(receives_on_closed, |store, output, datagram| {
 behind_c!(other_not_closed, |store, output, datagram| compares_nothing(store, output, datagram, TIME_OUT_ON_CLOSE));
 
 behind_c!(other_packet, |store, output, datagram| {
-    change_where(store, output, datagram, (&[TIME_OUT_ON_CLOSE], 14), |bytes, end| {
+    change_where(store, output, datagram, (&[TIME_OUT_ON_CLOSE], OTHER_CLAIM), |bytes, end| {
         if let Some(Body::TimeOutOnClose { packet, verdict, .. }) = read(bytes).map(|read| read.body) {
             let ordered = end.is_ordered();
             let needed = crate::generate::draft::needed_verdict(TIME_OUT, ordered, &packet, [0; 32], verdict.sequence);
@@ -136,15 +132,13 @@ behind_c!(two_times, |store, output, datagram| same_block(store, output, datagra
 
 /// Takes the height, the time or both of the second block for those of the first.
 fn same_block(store: &mut [u8], output: &mut [u8], datagram: &[u8], height: bool, time: bool) -> (u8, u32) {
-    change_where(store, output, datagram, (&[TIME_OUT_ON_CLOSE], 14), |bytes, _| one_block(bytes, height, time))
-}
-
-fn one_block(bytes: &mut [u8], height: bool, time: bool) {
-    let parts = [(height, verdict::PROOF_HEIGHT), (time, verdict::PROOF_TIME)];
-    for (_, place) in parts.into_iter().filter(|(same, _)| *same) {
-        let value = get_u64(bytes, verdict_place(TIME_OUT_ON_CLOSE) + place);
-        put_u64(bytes, PACKET_VERDICT + place, value);
-    }
+    change_where(store, output, datagram, (&[TIME_OUT_ON_CLOSE], OTHER_BLOCK), |bytes, _| {
+        let parts = [(height, verdict::PROOF_HEIGHT), (time, verdict::PROOF_TIME)];
+        for (_, place) in parts.into_iter().filter(|(same, _)| *same) {
+            let value = get_u64(bytes, verdict_place(TIME_OUT_ON_CLOSE) + place);
+            put_u64(bytes, PACKET_VERDICT + place, value);
+        }
+    })
 }
 
 behind_c!(gives_back_on_close, |store, output, datagram| {
@@ -186,27 +180,5 @@ behind_c!(asks_open_on_close, |store, output, datagram| {
 });
 
 behind_c!(version_first, |store, output, datagram| {
-    let answer = crate::handle(store, output, datagram);
-    let Some((_, end)) = end_of(store, datagram, &[TIME_OUT_ON_CLOSE], answer, 14) else {
-        return answer;
-    };
-    let shown: Version = get(datagram, verdict_place(TIME_OUT_ON_CLOSE) + end_verdict::RECORD + channel::VERSION);
-    if shown == end.version {
-        answer
-    } else {
-        (27, 0)
-    }
-});
-
-behind_c!(blocks_last, |store, output, datagram| {
-    let answer = crate::handle(store, output, datagram);
-    if end_of(store, datagram, &[TIME_OUT_ON_CLOSE], answer, 14).is_none() {
-        return answer;
-    }
-    let mut same = datagram.to_vec();
-    one_block(&mut same, true, true);
-    match crate::handle(&mut store.to_vec(), &mut output.to_vec(), &same) {
-        (0, _) => answer,
-        later => later,
-    }
+    tell(store, output, datagram, &[TIME_OUT_ON_CLOSE], |line| before_parts(line, WRONG_VERSION))
 });

@@ -2,7 +2,7 @@
 
 use std::slice::{from_raw_parts, from_raw_parts_mut};
 
-use super::tools::{change_where, emits_end, end_of, kind_of};
+use super::tools::{before_parts, change_where, emits_end, end_of, kind_of, tell};
 use crate::bytes::*;
 use crate::datagram::*;
 use crate::generate::shape::channels;
@@ -10,6 +10,7 @@ use crate::generate::step::Step;
 use crate::places::{
     channel, confirm, context, end_verdict, frame, header, open_acknowledge, open_try, time_out_on_close,
 };
+use crate::refusal::*;
 use crate::store::*;
 use crate::subject::Handle;
 use crate::table::own_channel;
@@ -27,7 +28,7 @@ pub const WRONG: [(&str, Handle); 13] = [
     ("takes a version with a zero byte at its end", zero_at_end),
     ("fills the free record of highest index", highest_index),
     ("gives out numbers again", numbers_again),
-    ("gives 26 before 14", state_first),
+    ("gives 26 before 140 and 145", state_first),
 ];
 
 /// The steps that open an end.
@@ -51,8 +52,8 @@ behind_c!(confirms_any, |store, output, datagram| compares_nothing(store, output
 /// Takes any end verdict for the needed one in datagrams of this kind; the version is compared.
 pub fn compares_nothing(store: &mut [u8], output: &mut [u8], datagram: &[u8], kind: u16) -> (u8, u32) {
     let answer = crate::handle(store, output, datagram);
-    let Some(Datagram { context, body }) = read(datagram).filter(|_| answer.0 == 14 && kind_of(datagram) == kind)
-    else {
+    let compared = place(answer.0) == place(OTHER_CLAIM) && kind_of(datagram) == kind;
+    let Some(Datagram { context, body }) = read(datagram).filter(|_| compared) else {
         return answer;
     };
     let end = own_channel(&body).and_then(|number| find_channel(store, number)).map(|(_, end)| end);
@@ -172,14 +173,5 @@ behind_c!(numbers_again, |store, output, datagram| {
 });
 
 behind_c!(state_first, |store, output, datagram| {
-    let answer = crate::handle(store, output, datagram);
-    let Some((_, end)) = end_of(store, datagram, &OPENING, answer, 14) else {
-        return answer;
-    };
-    let prior = if kind_of(datagram) == OPEN_ACKNOWLEDGE { INIT } else { TRYOPEN };
-    if end.state == prior {
-        answer
-    } else {
-        (26, 0)
-    }
+    tell(store, output, datagram, &OPENING, |line| before_parts(line, NOT_PRIOR_STATE))
 });

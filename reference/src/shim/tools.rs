@@ -3,20 +3,45 @@
 use crate::bytes::*;
 use crate::datagram::*;
 use crate::places::frame;
+use crate::refusal::*;
 use crate::store::*;
-use crate::table::own_channel;
+use crate::table::{applying, own_channel};
 
 pub fn kind_of(datagram: &[u8]) -> u16 {
     get_u16(datagram, frame::KIND)
 }
 
-/// The end that a datagram of one of these kinds is about, where it got this answer, for which the store is fit.
+/// The end that a datagram of one of these kinds is about, where it got this answer or one at its place, for which the
+/// store is fit.
 pub fn end_of(store: &[u8], datagram: &[u8], kinds: &[u16], answer: (u8, u32), number: u8) -> Option<(usize, Channel)> {
-    let read = read(datagram).filter(|_| answer.0 == number && kinds.contains(&kind_of(datagram)))?;
-    find_channel(store, own_channel(&read.body)?)
+    let is_so = place(answer.0) == place(number) && kinds.contains(&kind_of(datagram));
+    find_channel(store, own_channel(&read(datagram).filter(|_| is_so)?.body)?)
 }
 
-/// Handles a changed datagram where one of these kinds gets this refusal.
+/// Tells another of the refusals that apply where one of these kinds is refused behind 3: each line has a key and a
+/// number, and the number of the least key is given.
+pub fn tell<K: Ord>(
+    store: &mut [u8],
+    output: &mut [u8],
+    datagram: &[u8],
+    kinds: &[u16],
+    of_line: impl Fn(Line) -> (K, u8),
+) -> (u8, u32) {
+    let answer = crate::handle(store, output, datagram);
+    if answer.0 <= MALFORMED || !kinds.contains(&kind_of(datagram)) {
+        return answer;
+    }
+    let lines = applying(store, output.len(), datagram).into_iter().map(of_line);
+    lines.min_by(|(one, _), (other, _)| one.cmp(other)).map_or(answer, |(_, number)| (number, 0))
+}
+
+/// For `tell`: this number before all parts of verdicts.
+pub fn before_parts(line: Line, number: u8) -> ((bool, Line), u8) {
+    let is_behind = line.number() != number && line >= Part::EndClaim.into();
+    ((is_behind, line), line.number())
+}
+
+/// Handles a changed datagram where one of these kinds gets this refusal or one at its place.
 pub fn change_where(
     store: &mut [u8],
     output: &mut [u8],
@@ -33,7 +58,7 @@ pub fn change_where(
     crate::handle(store, output, &changed)
 }
 
-/// Refuses a datagram of this kind that gets 0 or a higher refusal, where the test says so.
+/// Refuses a datagram of this kind that gets 0 or a refusal at a later place, where the test says so.
 pub fn refuse_where(
     store: &mut [u8],
     output: &mut [u8],
@@ -42,7 +67,7 @@ pub fn refuse_where(
     test: impl Fn(&Body, &Context, &Channel) -> bool,
 ) -> (u8, u32) {
     let answer = crate::handle(&mut store.to_vec(), &mut output.to_vec(), datagram);
-    if answer.0 == 0 || answer.0 > refusal {
+    if answer.0 == 0 || place(answer.0) > place(refusal) {
         let end = end_of(store, datagram, &[kind], answer, answer.0).map(|(_, end)| end);
         let call = read(datagram).zip(end);
         if call.is_some_and(|(Datagram { context, body }, end)| test(&body, &context, &end)) {

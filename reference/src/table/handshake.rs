@@ -1,31 +1,21 @@
-//! The lines of the opening handshake. The record in a verdict is compared field by field.
+//! The lines of the opening handshake.
 
 use crate::bytes::*;
 use crate::datagram::*;
-use crate::places::{channel, CHANNELS, CHANNEL_KIND};
+use crate::places::{channel, CHANNELS};
 use crate::refusal::*;
 use crate::store::*;
-use crate::verdict::*;
-
-/// A port and a channel.
-type Named = (u16, u32);
 
 /// The lines of a datagram that makes an end.
 pub fn of_new_end(store: &[u8], datagram: &Datagram) -> Vec<(u8, bool)> {
     let full = (0..CHANNELS).all(|index| channel_at(store, index).is_some());
     let used_up = next_channel(store) > u64::from(u32::MAX);
-    let mut lines = match datagram.body {
-        Body::OpenTry { counterparty_port, counterparty_channel, order, verdict, .. } => {
-            let (own, named) = ((counterparty_port, counterparty_channel), (datagram.context.port, 0));
-            vec![
-                (CONNECTION_NOT_OPEN, datagram.context.connection == 0),
-                (OTHER_VERDICT, !is_shown(&verdict, INIT, order, own, named)),
-            ]
-        }
-        _ => Vec::new(),
-    };
-    lines.extend([(NO_FREE_CHANNEL, full || used_up), (WRONG_VERSION, is_version_wrong(&datagram.body))]);
-    lines
+    let asks_connection = matches!(datagram.body, Body::OpenTry { .. });
+    vec![
+        (CONNECTION_NOT_OPEN, asks_connection && datagram.context.connection == 0),
+        (NO_FREE_CHANNEL, full || used_up),
+        (WRONG_VERSION, is_version_wrong(&datagram.body)),
+    ]
 }
 
 fn is_version_wrong(body: &Body) -> bool {
@@ -42,27 +32,14 @@ fn is_version_wrong(body: &Body) -> bool {
 
 /// The lines from 8 on of a step that opens an end.
 pub fn of_step(context: &Context, body: &Body, end: &Channel) -> Vec<(u8, bool)> {
-    let (prior, other, counterparty_channel, verdict) = match body {
-        Body::OpenAcknowledge { counterparty_channel, verdict, .. } => (INIT, TRYOPEN, *counterparty_channel, verdict),
-        Body::OpenConfirm { verdict, .. } => (TRYOPEN, OPEN, end.counterparty_channel, verdict),
+    let (prior, verdict) = match body {
+        Body::OpenAcknowledge { verdict, .. } => (INIT, verdict),
+        Body::OpenConfirm { verdict, .. } => (TRYOPEN, verdict),
         _ => return Vec::new(),
     };
-    let (own, named) = ((end.counterparty_port, counterparty_channel), (end.port, end.channel));
     vec![
         (CONNECTION_NOT_OPEN, context.connection == 0),
-        (OTHER_VERDICT, !is_shown(verdict, other, end.order, own, named)),
         (NOT_PRIOR_STATE, end.state != prior),
         (WRONG_VERSION, Channel::read(&verdict.record).version != end.version),
     ]
-}
-
-/// Whether the verdict shows an end with these values, whatever its version is.
-pub fn is_shown(verdict: &EndVerdict, state: u8, order: u8, own: Named, named: Named) -> bool {
-    let end = Channel::read(&verdict.record);
-    verdict.claim == END_SHOWN
-        && get_u16(&verdict.record, channel::KIND) == CHANNEL_KIND
-        && (end.state, end.order) == (state, order)
-        && (end.port, end.channel) == own
-        && (end.counterparty_port, end.counterparty_channel) == named
-        && (end.next_sequence_send, end.next_sequence_recv, end.next_sequence_ack) == (0, 0, 0)
 }

@@ -75,6 +75,24 @@ impl End {
         start(268, 12, 5).text(&self.packet(sequence)).text(shown).text(absent).0
     }
 
+    pub fn time_out(self) -> Vec<u8> {
+        with(start(186, 5, 5).text(&self.packet(1)).text(&self.absent(1)).0, &[(108, 60)])
+    }
+
+    /// Of packet 1, which the counterparty has sent.
+    pub fn receive(self) -> Vec<u8> {
+        let packet =
+            Bytes::default().n64(1).n64(101).n64(2000).n16(6).n32(self.other).n16(5).n32(self.own).digest(0xd2);
+        let verdict = Bytes::default().n16(1).n64(51).n64(777).n16(6).n32(self.other).n64(1).n64(101).n64(2000);
+        start(186, 2, 5).text(&packet.0).text(&verdict.digest(0xd2).0).0
+    }
+
+    /// Of packet 1, which this end has sent.
+    pub fn acknowledge(self) -> Vec<u8> {
+        let verdict = Bytes::default().n16(2).n64(51).n64(777).n16(6).n32(self.other).n64(1).n64(0).n64(0).digest(0xac);
+        start(218, 4, 5).text(&self.packet(1)).digest(0xac).text(&verdict.0).0
+    }
+
     pub fn timed_out(self, sequence: u64) -> Vec<u8> {
         Bytes::default().n32(74).n16(0x0105).text(&self.packet(sequence)).0
     }
@@ -111,6 +129,11 @@ pub fn assert_changes(store: &[u8], datagram: &[u8], at: usize, places: &[(usize
             assert_eq!(number(&mut store.to_vec(), &changed), *expected, "{place}");
         }
     }
+}
+
+/// The parts of a packet's verdict between two places, with their numbers; that of the sequence is given.
+pub fn parts_of(sequence: u8) -> [(usize, usize, u8); 5] {
+    [(18, 20, 141), (20, 24, 142), (24, 32, sequence), (32, 48, 144), (48, 80, 145)]
 }
 
 /// A datagram that is accepted, with another length, and with each fault of frame and context.

@@ -1,6 +1,6 @@
 //! The refusals that the steps of the opening handshake and of closing have for themselves.
 
-use crate::bytes::*;
+use super::verdict::other_state;
 use crate::datagram::*;
 use crate::generate::draft::Draft;
 use crate::generate::rng::Rng;
@@ -8,24 +8,6 @@ use crate::generate::shape::{fill_channels, use_up_numbers};
 use crate::generate::step::padded;
 use crate::places::channel;
 use crate::store::*;
-use crate::verdict::*;
-
-/// Another claim, or one bit of the record changed anywhere but in the version.
-pub fn other_end(rng: &mut Rng, draft: &mut Draft) {
-    let verdict = &mut draft.step.verdict;
-    match rng.below(6) {
-        0 => verdict.claim = rng.pick(&[COMMITMENT_PRESENT, ACKNOWLEDGEMENT_PRESENT, RECEIPT_ABSENT, NEXT_RECV_EQUALS]),
-        1 => verdict.record[channel::STATE] = other_state(rng, verdict.record[channel::STATE]),
-        2 => verdict.record[channel::ORDER] ^= ORDERED ^ UNORDERED,
-        // The counters of the end as they are.
-        3 => put_u64(&mut verdict.record, rng.pick(&[channel::NEXT_SEND, channel::NEXT_RECV, channel::NEXT_ACK]), 1),
-        _ => verdict.record[rng.index(channel::VERSION)] ^= 1 << rng.below(8),
-    }
-}
-
-fn other_state(rng: &mut Rng, state: u8) -> u8 {
-    1 + (state + rng.below(3) as u8) % 4
-}
 
 /// No record is free, or no number is left, or both.
 pub fn no_free_channel(rng: &mut Rng, draft: &mut Draft) {

@@ -1,0 +1,85 @@
+//! The verdicts about packets, part by part. The bytes are written field by field, and not by the code under test.
+
+mod bytes;
+mod ends;
+
+use bytes::*;
+use ends::*;
+
+/// Where the verdicts of a receive, of a time-out and of an acknowledge begin.
+const BEHIND_PACKET: usize = 106;
+const BEHIND_ACKNOWLEDGEMENT: usize = 138;
+
+/// A store, a datagram that it accepts, where the verdict begins and its claim, and the number for another sequence.
+type Case = (Vec<u8>, Vec<u8>, usize, u8, u8);
+
+fn cases(end: End) -> [Case; 3] {
+    let ordered = end.order == 1;
+    let (absent, sequence) = if ordered { (4, 15) } else { (3, 143) };
+    [
+        (fresh(), end.receive(), BEHIND_PACKET, 1, 143),
+        (end.sent(OPEN), end.acknowledge(), BEHIND_ACKNOWLEDGEMENT, 2, 143),
+        (end.sent(OPEN), end.time_out(), BEHIND_PACKET, absent, sequence),
+    ]
+}
+
+/// Every byte behind the block, and each other claim. The block is compared with nothing.
+#[test]
+fn one_part_differs() {
+    for (store, datagram, at, needed, sequence) in [ORDERED, UNORDERED].map(cases).concat() {
+        assert_eq!(number(&mut store.clone(), &datagram), 0);
+        assert_changes(&store, &datagram, at, &parts_of(sequence));
+        assert_changes(&store, &datagram, at, &[(2, 18, 0)]);
+        for claim in (1..=5).filter(|claim| *claim != needed) {
+            assert_eq!(number(&mut store.clone(), &with(datagram.clone(), &[(at, claim)])), 140, "{claim}");
+        }
+        for claim in [0, 6, 7, 0xff] {
+            assert_eq!(number(&mut store.clone(), &with(datagram.clone(), &[(at, claim)])), 3, "{claim}");
+        }
+    }
+}
+
+/// All parts differ, and one after the other is put right: the first that differs is told.
+#[test]
+fn parts_come_in_order() {
+    for (store, datagram, at, needed, sequence) in [ORDERED, UNORDERED].map(cases).concat() {
+        let mut faults = vec![(0, 1 + needed % 5, 140), (18, 0x46, 141), (20, 0x46, 142)];
+        if sequence == 143 {
+            faults.push((24, 2, 143));
+        }
+        faults.extend([(32, 1, 144), (47, 1, 144), (79, 1, 145)]);
+        for first in 0..faults.len() {
+            let changes: Vec<(usize, u8)> =
+                faults[first..].iter().map(|(place, value, _)| (at + place, *value)).collect();
+            assert_eq!(number(&mut store.clone(), &with(datagram.clone(), &changes)), faults[first].2, "{first}");
+        }
+    }
+}
+
+/// The parts stand behind 13 and before 15, whatever their numbers are.
+#[test]
+fn parts_stand_between_13_and_15() {
+    // Out of order are packet 2 in place of 1, packet 1 where 2 is to be acknowledged, and a next receive above 1.
+    let second = with(ORDERED.receive(), &[(38, 2), (BEHIND_PACKET + 24, 2)]);
+    let mut acknowledged = ORDERED.sent(OPEN);
+    acknowledged[64 + 32] = 2;
+    let above = with(ORDERED.time_out(), &[(BEHIND_PACKET + 24, 2)]);
+    let both = [
+        (fresh(), ORDERED.acknowledge(), BEHIND_ACKNOWLEDGEMENT, 13, 143),
+        (fresh(), UNORDERED.acknowledge(), BEHIND_ACKNOWLEDGEMENT, 13, 143),
+        (fresh(), ORDERED.time_out(), BEHIND_PACKET, 13, 15),
+        (fresh(), UNORDERED.time_out(), BEHIND_PACKET, 13, 143),
+        (fresh(), second, BEHIND_PACKET, 15, 143),
+        (acknowledged, ORDERED.acknowledge(), BEHIND_ACKNOWLEDGEMENT, 15, 143),
+        (ORDERED.sent(OPEN), above, BEHIND_PACKET, 15, 15),
+    ];
+    for (mut store, datagram, at, beside, sequence) in both {
+        assert_eq!(number(&mut store, &datagram), beside);
+        for (place, _, part) in [(0, 2, 140)].into_iter().chain(parts_of(sequence)) {
+            // A known claim gives another known one.
+            let other = 1 + datagram[at + place] % 5;
+            let expected = if beside == 13 { 13 } else { part };
+            assert_eq!(number(&mut store, &with(datagram.clone(), &[(at + place, other)])), expected, "{place}");
+        }
+    }
+}
