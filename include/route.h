@@ -98,8 +98,11 @@ enum route_state {
     ROUTE_STATE_CLOSED = 4   /* by a close, or by a time-out on an ordered channel; it takes time-outs only */
 };
 
-/* Answers. Where several refusals apply, the lowest number is given; none is given otherwise. Behind each stand the
- * kinds of datagrams that can get it; no kind means all. */
+/* Answers. Where several refusals apply, the first by place is given; none is given otherwise. The places are those of
+ * this list: each refusal stands at its number, but 140 to 146 stand between 13 and 15. They tell the first part in
+ * which a verdict is not the one needed. Of the two verdicts of kind 12 all parts of the end verdict come first, then
+ * all parts of the packet's, then 146. Behind each answer stand the kinds of datagrams that can get it; no kind means
+ * all. */
 enum route_answer {
     ROUTE_ACCEPTED = 0,
     ROUTE_STORE_NOT_FIT = 1,         /* the store's bytes are not those of a fit store; see route_convert_store */
@@ -115,8 +118,14 @@ enum route_answer {
     ROUTE_TIMEOUT_PASSED = 11,       /* 1, 2: the timeout has passed */
     ROUTE_TIMEOUT_NOT_PASSED = 12,   /* 5: the timeout has not passed */
     ROUTE_NO_COMMITMENT = 13,        /* 4, 5, 12: no commitment with this sequence, timeouts and digest */
-    ROUTE_OTHER_VERDICT = 14,        /* 2, 4, 5, 7, 8, 9, 11, 12: the verdict is not the one needed;
-                                        12: one of the two is not, or they are of different blocks */
+    ROUTE_VERDICT_CLAIM = 140,       /* 2, 4, 5, 7, 8, 9, 11, 12: the verdict has another claim */
+    ROUTE_VERDICT_PORT = 141,        /* 2, 4, 5, 12: the verdict has another port */
+    ROUTE_VERDICT_CHANNEL = 142,     /* 2, 4, 5, 12: the verdict has another channel */
+    ROUTE_VERDICT_SEQUENCE = 143,    /* 2, 4; 5 and 12 on an unordered channel: the verdict has another sequence */
+    ROUTE_VERDICT_TIMEOUTS = 144,    /* 2, 4, 5, 12: the verdict has another timeout height or timeout time */
+    ROUTE_VERDICT_DIGEST = 145,      /* 2, 4, 5, 12: the verdict has another digest;
+                                        7, 8, 9, 11, 12: the end verdict has another record, its version left out */
+    ROUTE_VERDICT_BLOCKS = 146,      /* 12: the two verdicts are of different blocks, by height or time */
     ROUTE_OUT_OF_ORDER = 15,         /* on an ordered channel, 2, 4: another packet's turn; 5, 12: it was received */
     ROUTE_ALREADY_THERE = 16,        /* 2 on an unordered channel: the receipt; 3: the acknowledgement */
     ROUTE_NOT_RECEIVED = 17,         /* 3: the packet was not received */
@@ -133,7 +142,7 @@ enum route_answer {
                                         7, 8, 9, 11, 12: it is not the one in the verdict */
 };
 
-/* Answers one datagram and carries it out. Answers 0 to 20 and 25 to 27.
+/* Answers one datagram and carries it out. Answers 0 to 13, 15 to 20, 25 to 27 and 140 to 146.
  *
  * store, store_len         the ledger's store, as the maker, the converter or the last accepted call left it
  * output, output_len       takes the emitted record; at least ROUTE_OUTPUT_LENGTH bytes, whatever the kind

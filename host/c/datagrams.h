@@ -50,6 +50,25 @@ static void put_packet(uint8_t *at, uint64_t sequence)
     at[36] = 1;
 }
 
+/* A packet of the other end, with a verdict that it was sent. */
+static void make_receive(uint8_t *datagram, uint64_t sequence)
+{
+    start(datagram, ROUTE_RECEIVE_LENGTH, ROUTE_RECEIVE);
+    uint8_t *packet = datagram + 38, *verdict = datagram + 106;
+    put(packet, sequence, 8);
+    put(packet + 8, 120, 8); /* timeout height */
+    put(packet + 24, 6, 2);
+    put(packet + 26, 9, 4);
+    put(packet + 30, 5, 2);
+    put(packet + 32, 7, 4);
+    packet[36] = 1; /* digest */
+    put(verdict, 1, 2); /* claim 1: the commitment is there */
+    put(verdict + 2, 50, 8);
+    memcpy(verdict + 18, packet + 24, 6);  /* its source */
+    memcpy(verdict + 24, packet, 24);      /* its sequence and timeouts */
+    memcpy(verdict + 48, packet + 36, 32); /* its digest */
+}
+
 /* What a verdict says: the other end waits for the first packet. */
 static void put_not_received(uint8_t *at, uint64_t proof_height)
 {

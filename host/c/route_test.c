@@ -1,59 +1,12 @@
-/* The library through its header, from C: a fresh store, sends, a time-out, the steps that open and close a channel, a
- * time-out on close, packet records put in order, refusals, lengths that are wrong. */
+/* The library through its header, from C: a fresh store, sends, a receive, a time-out, the steps that open and close a
+ * channel, a time-out on close, packet records put in order, refusals, lengths that are wrong. */
 
+#include "calls.h"
 #include "datagrams.h"
 #include "route.h"
 
 #include <stdio.h>
 #include <string.h>
-
-enum { RECORDS = 2, STORE = ROUTE_STORE_LENGTH(RECORDS), OUTPUT = ROUTE_OUTPUT_LENGTH + 14, FILL = 0xaa };
-
-static int failed;
-
-static void expect(int holds, int line, const char *what)
-{
-    if (!holds) {
-        failed++;
-        printf("route_test.c:%d: %s\n", line, what);
-    }
-}
-
-#define EXPECT(what) expect((what), __LINE__, #what)
-
-static int all_are(const uint8_t *bytes, size_t count, uint8_t value)
-{
-    for (size_t i = 0; i < count; i++) {
-        if (bytes[i] != value) {
-            return 0;
-        }
-    }
-    return 1;
-}
-
-static uint8_t store[STORE];
-static uint8_t output[OUTPUT];
-static uint32_t size;
-
-/* One call with an output that is filled anew. A refusal must leave store and output as they were. */
-static uint8_t call(const uint8_t *datagram, size_t length)
-{
-    uint8_t before[STORE];
-    memcpy(before, store, STORE);
-    memset(output, FILL, OUTPUT);
-    size = 12345;
-    uint8_t number = route_handle(store, STORE, output, OUTPUT, datagram, length, &size);
-    if (number != ROUTE_ACCEPTED) {
-        EXPECT(size == 0 && memcmp(before, store, STORE) == 0 && all_are(output, OUTPUT, FILL));
-    }
-    return number;
-}
-
-static void fresh(void)
-{
-    memset(store, FILL, STORE);
-    EXPECT(route_make_store(store, STORE, OPENING, sizeof OPENING) == ROUTE_ACCEPTED);
-}
 
 static void test_make(void)
 {
@@ -124,6 +77,30 @@ static void test_refusals(void)
     EXPECT(call(send, sizeof send) == ROUTE_ACCEPTED);
 }
 
+/* A verdict that differs in ever more parts, from the last to the first: the first one is told. */
+static void test_verdict(void)
+{
+    static const struct {
+        size_t at;
+        uint8_t answer;
+    } parts[] = {{154, ROUTE_VERDICT_DIGEST}, {146, ROUTE_VERDICT_TIMEOUTS}, {138, ROUTE_VERDICT_TIMEOUTS},
+                 {130, ROUTE_VERDICT_SEQUENCE}, {126, ROUTE_VERDICT_CHANNEL}, {124, ROUTE_VERDICT_PORT},
+                 {106, ROUTE_VERDICT_CLAIM}};
+    uint8_t receive[ROUTE_RECEIVE_LENGTH];
+    fresh();
+    make_receive(receive, 1);
+    for (size_t i = 0; i < sizeof parts / sizeof parts[0]; i++) {
+        receive[parts[i].at] ^= 2;
+        EXPECT(call(receive, sizeof receive) == parts[i].answer);
+    }
+    make_receive(receive, 2); /* the first packet is waited for */
+    EXPECT(call(receive, sizeof receive) == ROUTE_OUT_OF_ORDER);
+    receive[154] ^= 2;
+    EXPECT(call(receive, sizeof receive) == ROUTE_VERDICT_DIGEST);
+    make_receive(receive, 1);
+    EXPECT(call(receive, sizeof receive) == ROUTE_ACCEPTED && size == ROUTE_DELIVERED_LENGTH);
+}
+
 /* An ordered channel is closed by a time-out. It then takes no send, but the time-out of a packet behind it. */
 static void test_time_out(void)
 {
@@ -167,7 +144,7 @@ static void test_open_init(void)
     put(acknowledge + 38, 1, 4);
     put(acknowledge + 42, 9, 4);
     put_end_verdict(acknowledge + 46, ROUTE_STATE_OPEN, 1, "v1");
-    EXPECT(call(acknowledge, sizeof acknowledge) == ROUTE_OTHER_VERDICT);
+    EXPECT(call(acknowledge, sizeof acknowledge) == ROUTE_VERDICT_DIGEST);
     put_end_verdict(acknowledge + 46, ROUTE_STATE_TRYOPEN, 1, "v1");
     EXPECT(call(acknowledge, sizeof acknowledge) == ROUTE_ACCEPTED && size == 0 && all_are(output, OUTPUT, FILL));
     EXPECT(store[28] == 2 && store[66] == ROUTE_STATE_OPEN && store[76] == 9);
@@ -210,7 +187,7 @@ static void test_close(void)
     EXPECT(call(send, sizeof send) == ROUTE_NOT_OPEN);
     fresh();
     make_close_confirm(confirm, ROUTE_STATE_OPEN, "");
-    EXPECT(call(confirm, sizeof confirm) == ROUTE_OTHER_VERDICT);
+    EXPECT(call(confirm, sizeof confirm) == ROUTE_VERDICT_DIGEST);
     make_close_confirm(confirm, ROUTE_STATE_CLOSED, "v1");
     EXPECT(call(confirm, sizeof confirm) == ROUTE_WRONG_VERSION);
     make_close_confirm(confirm, ROUTE_STATE_CLOSED, "");
@@ -227,10 +204,13 @@ static void test_time_out_on_close(void)
     make_send(send, 60);
     EXPECT(call(send, sizeof send) == ROUTE_ACCEPTED);
     EXPECT(call(send, sizeof send) == ROUTE_ACCEPTED);
-    make_time_out_on_close(time_out, 2, ROUTE_STATE_OPEN, 50);
-    EXPECT(call(time_out, sizeof time_out) == ROUTE_OTHER_VERDICT);
-    make_time_out_on_close(time_out, 2, ROUTE_STATE_CLOSED, 51); /* the end verdict is of height 50 */
-    EXPECT(call(time_out, sizeof time_out) == ROUTE_OTHER_VERDICT);
+    make_time_out_on_close(time_out, 2, ROUTE_STATE_OPEN, 51); /* the end verdict is of height 50 */
+    time_out[188] = 3;                                         /* the claim for an unordered channel */
+    EXPECT(call(time_out, sizeof time_out) == ROUTE_VERDICT_DIGEST);
+    time_out[126] = ROUTE_STATE_CLOSED;
+    EXPECT(call(time_out, sizeof time_out) == ROUTE_VERDICT_CLAIM);
+    time_out[188] = 4;
+    EXPECT(call(time_out, sizeof time_out) == ROUTE_VERDICT_BLOCKS);
     make_time_out_on_close(time_out, 2, ROUTE_STATE_CLOSED, 50);
     put(time_out + 212, 3, 8); /* the other end waits for the third one */
     EXPECT(call(time_out, sizeof time_out) == ROUTE_OUT_OF_ORDER);
@@ -286,6 +266,7 @@ int main(void)
     test_make();
     test_send();
     test_refusals();
+    test_verdict();
     test_time_out();
     test_open_init();
     test_open_try();

@@ -6,7 +6,7 @@
 
 use route::{
     Block, Context, Datagram, Digest, Emitted, End, EndVerdict, Order, OtherHeight, OwnHeight, Packet, Refusal, Store,
-    Timeout, Verdict, Version,
+    Timeout, Verdict, VerdictPart, Version,
 };
 
 /// One ledger: its store, the port that uses it here, and the block that it works on.
@@ -191,7 +191,7 @@ fn unordered(north: &mut Ledger, south: &mut Ledger) -> Result<u32, Refusal> {
     open_acknowledge(north, south, init, second)?;
     println!("  The end that was not chosen does not open.");
     let not_chosen = open_confirm(south, north, first, init);
-    assert_eq!(not_chosen, Err(Refusal::OtherVerdict));
+    assert_eq!(not_chosen, Err(Refusal::Verdict(VerdictPart::Digest)));
     open_confirm(south, north, second, init)?;
     Ok(init.channel)
 }

@@ -49,7 +49,7 @@ pub use datagram::Datagram;
 pub use emitted::Emitted;
 pub use height::{Block, OtherHeight, OwnHeight, Timeout};
 pub use packet::{Digest, End, Order, Packet};
-pub use refusal::{NotARefusal, Refusal};
+pub use refusal::{NotARefusal, Refusal, VerdictPart};
 pub use store::{Opening, Store};
 pub use verdict::{Claim, EndVerdict, Verdict};
 pub use version::Version;

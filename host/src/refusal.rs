@@ -3,77 +3,125 @@
 use std::error::Error;
 use std::fmt;
 
+/// The part of a verdict that is not the one needed. A verdict is compared part by part, in the order of this list, and
+/// the first one that differs is told. An [`EndVerdict`](crate::EndVerdict) has two parts that are told here, its claim
+/// and its record; its version is compared behind all others ([`Refusal::WrongVersion`]).
+///
+/// A time-out on close has two verdicts. All parts of the end verdict are compared first, then those of the packet's
+/// verdict, and last their blocks.
+#[derive(Clone, Copy, Debug, PartialEq, Eq, PartialOrd, Ord, Hash)]
+#[repr(u8)]
+#[non_exhaustive]
+pub enum VerdictPart {
+    /// The claim: at every datagram with a verdict.
+    Claim = 140,
+    /// The port: at a receive, an acknowledge and both time-outs.
+    Port = 141,
+    /// The channel: at the same ones.
+    Channel = 142,
+    /// The sequence: at a receive and an acknowledge, and at both time-outs on an unordered channel. On an ordered one
+    /// they need the other end's next receive, which may be any number; above the packet's sequence it is
+    /// [`Refusal::OutOfOrder`].
+    Sequence = 143,
+    /// The timeout height or the timeout time: at a receive, an acknowledge and both time-outs.
+    Timeouts = 144,
+    /// The digest, at the same ones; or anything in the record of an end verdict but its version, at all steps of
+    /// opening but the first, a close confirm and a time-out on close.
+    Digest = 145,
+    /// The two verdicts of a time-out on close are of different blocks: the heights differ, or the times.
+    Blocks = 146,
+}
+
+impl VerdictPart {
+    fn meaning(self) -> &'static str {
+        match self {
+            VerdictPart::Claim => "claim of the verdict is not the one needed",
+            VerdictPart::Port => "port of the verdict is not the one needed",
+            VerdictPart::Channel => "channel of the verdict is not the one needed",
+            VerdictPart::Sequence => "sequence of the verdict is not the one needed",
+            VerdictPart::Timeouts => "timeouts of the verdict are not the ones needed",
+            VerdictPart::Digest => "digest or record of the verdict is not the one needed",
+            VerdictPart::Blocks => "the two verdicts are of different blocks",
+        }
+    }
+}
+
 /// A refusal. Its number is the library's answer; a refused call has changed nothing.
 ///
+/// Where several apply, the first by place is given. The places are those of this list, and refusals compare by them:
+/// each stands at its number, but [`Refusal::Verdict`], 140 to 146, between 13 and 15. Which part of a verdict comes
+/// first is told at [`VerdictPart`].
+///
 /// ```
-/// use route::Refusal;
+/// use route::{Refusal, VerdictPart};
 /// assert_eq!(Refusal::NoFreeRecord.number(), 20);
 /// assert_eq!(Refusal::try_from(20), Ok(Refusal::NoFreeRecord));
 /// assert_eq!(Refusal::NoFreeRecord.to_string(), "no free packet record (20)");
+/// assert_eq!(Refusal::try_from(143), Ok(Refusal::Verdict(VerdictPart::Sequence)));
+/// assert!(Refusal::Verdict(VerdictPart::Sequence) < Refusal::OutOfOrder);
 /// ```
 #[derive(Clone, Copy, Debug, PartialEq, Eq, PartialOrd, Ord, Hash)]
-#[repr(u8)]
 #[non_exhaustive]
 pub enum Refusal {
     /// The bytes are not those of a fit store. Where only the order of the packet records is wrong,
     /// [`Store::convert`](crate::Store::convert) takes them.
-    StoreNotFit = 1,
+    StoreNotFit,
     /// The output is shorter than 106 bytes.
-    OutputShort = 2,
+    OutputShort,
     /// The datagram is malformed.
-    Malformed = 3,
+    Malformed,
     /// Height or time is below the store's last, or the same height has another time.
-    GoesBack = 4,
+    GoesBack,
     /// The channel is not in the store.
-    NoChannel = 5,
+    NoChannel,
     /// The channel is not open: not yet, or not any more. Neither time-out asks for it.
-    NotOpen = 6,
+    NotOpen,
     /// The caller's port does not own the channel.
-    NotOwner = 7,
+    NotOwner,
     /// The connection is not open.
-    NoConnection = 8,
+    NoConnection,
     /// The packet's ports and other channel do not fit this end.
-    WrongEnd = 9,
+    WrongEnd,
     /// A send has neither timeout.
-    NoTimeout = 10,
+    NoTimeout,
     /// The timeout has passed.
-    TimeoutPassed = 11,
+    TimeoutPassed,
     /// The timeout has not passed.
-    TimeoutNotPassed = 12,
+    TimeoutNotPassed,
     /// There is no commitment with this sequence, timeouts and digest.
-    NoCommitment = 13,
-    /// The verdict is not the one needed; or, at a time-out on close, the two verdicts are of different blocks.
-    OtherVerdict = 14,
+    NoCommitment,
+    /// A verdict is not the one needed, and this is the first part in which it differs.
+    Verdict(VerdictPart),
     /// It is another packet's turn on this ordered channel; or, at either time-out, the packet was received.
-    OutOfOrder = 15,
+    OutOfOrder,
     /// The receipt, or the acknowledgement, is already there.
-    AlreadyThere = 16,
+    AlreadyThere,
     /// The packet was not received.
-    NotReceived = 17,
+    NotReceived,
     /// The digest is all zero, which stands for an empty acknowledgement.
-    EmptyAcknowledgement = 18,
+    EmptyAcknowledgement,
     /// The counter to be raised is at its largest value.
-    CounterAtEnd = 19,
+    CounterAtEnd,
     /// All packet records are in use.
-    NoFreeRecord = 20,
+    NoFreeRecord,
     /// No store has this length, or so many packet records.
-    LengthUnfit = 21,
+    LengthUnfit,
     /// The list of openings is malformed.
-    OpeningsMalformed = 22,
+    OpeningsMalformed,
     /// There are more than 16 openings.
-    TooManyOpenings = 23,
+    TooManyOpenings,
     /// A channel number stands in two openings.
-    ChannelTwice = 24,
+    ChannelTwice,
     /// All channel records are in use, or all channel numbers are given out. Nothing frees one.
-    NoFreeChannel = 25,
+    NoFreeChannel,
     /// The end is not in the state before this step of opening or closing a channel.
-    WrongState = 26,
+    WrongState,
     /// The version has more than 24 bytes or a zero byte, or it is not the one of the other end.
-    WrongVersion = 27,
+    WrongVersion,
 }
 
 impl Refusal {
-    /// All refusals, in the order of their numbers from 1.
+    /// All refusals, in the order of their places.
     pub const ALL: &[Refusal] = &[
         Refusal::StoreNotFit,
         Refusal::OutputShort,
@@ -88,7 +136,13 @@ impl Refusal {
         Refusal::TimeoutPassed,
         Refusal::TimeoutNotPassed,
         Refusal::NoCommitment,
-        Refusal::OtherVerdict,
+        Refusal::Verdict(VerdictPart::Claim),
+        Refusal::Verdict(VerdictPart::Port),
+        Refusal::Verdict(VerdictPart::Channel),
+        Refusal::Verdict(VerdictPart::Sequence),
+        Refusal::Verdict(VerdictPart::Timeouts),
+        Refusal::Verdict(VerdictPart::Digest),
+        Refusal::Verdict(VerdictPart::Blocks),
         Refusal::OutOfOrder,
         Refusal::AlreadyThere,
         Refusal::NotReceived,
@@ -104,47 +158,49 @@ impl Refusal {
         Refusal::WrongVersion,
     ];
 
-    /// Its number, 1 to 27.
+    /// Its number: 1 to 13, 15 to 27, or 140 to 146.
     pub fn number(self) -> u8 {
-        self as u8
+        self.told().0
     }
 
-    fn meaning(self) -> &'static str {
+    /// Its number and its meaning.
+    fn told(self) -> (u8, &'static str) {
         match self {
-            Refusal::StoreNotFit => "store not fit",
-            Refusal::OutputShort => "output too short",
-            Refusal::Malformed => "datagram malformed",
-            Refusal::GoesBack => "height or time goes back",
-            Refusal::NoChannel => "channel not in the store",
-            Refusal::NotOpen => "channel not open",
-            Refusal::NotOwner => "caller's port does not own the channel",
-            Refusal::NoConnection => "connection not open",
-            Refusal::WrongEnd => "packet does not fit this channel end",
-            Refusal::NoTimeout => "both timeouts zero",
-            Refusal::TimeoutPassed => "timeout passed",
-            Refusal::TimeoutNotPassed => "timeout not passed",
-            Refusal::NoCommitment => "no such commitment",
-            Refusal::OtherVerdict => "verdict is not the one needed",
-            Refusal::OutOfOrder => "out of order",
-            Refusal::AlreadyThere => "already there",
-            Refusal::NotReceived => "packet not received",
-            Refusal::EmptyAcknowledgement => "acknowledgement empty",
-            Refusal::CounterAtEnd => "counter at its largest value",
-            Refusal::NoFreeRecord => "no free packet record",
-            Refusal::LengthUnfit => "no store has this length",
-            Refusal::OpeningsMalformed => "list of openings malformed",
-            Refusal::TooManyOpenings => "more than 16 openings",
-            Refusal::ChannelTwice => "a channel number twice",
-            Refusal::NoFreeChannel => "no free channel record or number",
-            Refusal::WrongState => "channel end not in the state before this step",
-            Refusal::WrongVersion => "version unfit, or unlike the other end's",
+            Refusal::StoreNotFit => (1, "store not fit"),
+            Refusal::OutputShort => (2, "output too short"),
+            Refusal::Malformed => (3, "datagram malformed"),
+            Refusal::GoesBack => (4, "height or time goes back"),
+            Refusal::NoChannel => (5, "channel not in the store"),
+            Refusal::NotOpen => (6, "channel not open"),
+            Refusal::NotOwner => (7, "caller's port does not own the channel"),
+            Refusal::NoConnection => (8, "connection not open"),
+            Refusal::WrongEnd => (9, "packet does not fit this channel end"),
+            Refusal::NoTimeout => (10, "both timeouts zero"),
+            Refusal::TimeoutPassed => (11, "timeout passed"),
+            Refusal::TimeoutNotPassed => (12, "timeout not passed"),
+            Refusal::NoCommitment => (13, "no such commitment"),
+            Refusal::Verdict(part) => (part as u8, part.meaning()),
+            Refusal::OutOfOrder => (15, "out of order"),
+            Refusal::AlreadyThere => (16, "already there"),
+            Refusal::NotReceived => (17, "packet not received"),
+            Refusal::EmptyAcknowledgement => (18, "acknowledgement empty"),
+            Refusal::CounterAtEnd => (19, "counter at its largest value"),
+            Refusal::NoFreeRecord => (20, "no free packet record"),
+            Refusal::LengthUnfit => (21, "no store has this length"),
+            Refusal::OpeningsMalformed => (22, "list of openings malformed"),
+            Refusal::TooManyOpenings => (23, "more than 16 openings"),
+            Refusal::ChannelTwice => (24, "a channel number twice"),
+            Refusal::NoFreeChannel => (25, "no free channel record or number"),
+            Refusal::WrongState => (26, "channel end not in the state before this step"),
+            Refusal::WrongVersion => (27, "version unfit, or unlike the other end's"),
         }
     }
 }
 
 impl fmt::Display for Refusal {
     fn fmt(&self, out: &mut fmt::Formatter) -> fmt::Result {
-        write!(out, "{} ({})", self.meaning(), self.number())
+        let (number, meaning) = self.told();
+        write!(out, "{meaning} ({number})")
     }
 }
 
@@ -172,8 +228,7 @@ impl TryFrom<u8> for Refusal {
     type Error = NotARefusal;
 
     fn try_from(number: u8) -> Result<Refusal, NotARefusal> {
-        let index = usize::from(number).checked_sub(1);
-        index.and_then(|index| Refusal::ALL.get(index).copied()).ok_or(NotARefusal(number))
+        Refusal::ALL.iter().copied().find(|refusal| refusal.number() == number).ok_or(NotARefusal(number))
     }
 }
 
@@ -184,18 +239,28 @@ mod tests {
     #[test]
     fn numbers_go_both_ways() {
         for number in 0..=u8::MAX {
+            let is_given = matches!(number, 1..=13 | 15..=27 | 140..=146);
             match Refusal::try_from(number) {
-                Ok(refusal) => assert_eq!((refusal.number(), u8::from(refusal)), (number, number)),
-                Err(error) => assert!(error == NotARefusal(number) && !(1..=27).contains(&number)),
+                Ok(refusal) => assert_eq!((refusal.number(), u8::from(refusal), is_given), (number, number, true)),
+                Err(error) => assert_eq!((error, is_given), (NotARefusal(number), false)),
             }
         }
     }
 
     #[test]
+    fn all_stand_by_place() {
+        assert!(Refusal::ALL.windows(2).all(|pair| pair[0] < pair[1]));
+        let numbers: Vec<u8> = Refusal::ALL.iter().map(|refusal| refusal.number()).collect();
+        assert_eq!(numbers, (1..=13).chain(140..=146).chain(15..=27).collect::<Vec<u8>>());
+    }
+
+    #[test]
     fn each_has_its_own_meaning() {
         for (index, refusal) in Refusal::ALL.iter().enumerate() {
-            assert!(Refusal::ALL[..index].iter().all(|other| other.meaning() != refusal.meaning()));
+            assert!(Refusal::ALL[..index].iter().all(|other| other.told().1 != refusal.told().1));
         }
-        assert_eq!(NotARefusal(28).to_string(), "28 is not the number of a refusal");
+        let digest = Refusal::Verdict(VerdictPart::Digest);
+        assert_eq!(digest.to_string(), "digest or record of the verdict is not the one needed (145)");
+        assert_eq!(NotARefusal(14).to_string(), "14 is not the number of a refusal");
     }
 }

@@ -53,7 +53,7 @@ pub struct Store {
 
 /// Answers of the library are 0 or a refusal; it is proved of it.
 fn refusal(number: u8) -> Refusal {
-    Refusal::try_from(number).expect("the library answers 0 to 27")
+    Refusal::try_from(number).expect("the library answers 0 or the number of a refusal")
 }
 
 impl Store {
@@ -161,7 +161,7 @@ impl Store {
     ///
     /// # Errors
     ///
-    /// The refusal of lowest number that applies. The store is then as it was.
+    /// The first [`Refusal`] by place that applies. The store is then as it was.
     pub fn handle(&mut self, datagram: impl AsRef<[u8]>) -> Result<Option<Emitted>, Refusal> {
         let mut output = [0; Store::OUTPUT_LENGTH];
         let size = self.handle_into(datagram, &mut output)?;
@@ -174,7 +174,7 @@ impl Store {
     ///
     /// # Errors
     ///
-    /// The refusal of lowest number that applies: [`Refusal::OutputShort`] if the output has fewer than
+    /// The first refusal by place that applies: [`Refusal::OutputShort`] if the output has fewer than
     /// [`OUTPUT_LENGTH`](Store::OUTPUT_LENGTH) bytes. Store and output are then as they were.
     pub fn handle_into(&mut self, datagram: impl AsRef<[u8]>, output: &mut [u8]) -> Result<usize, Refusal> {
         match ffi::handle(&mut self.bytes, output, datagram.as_ref()) {

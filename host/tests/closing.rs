@@ -6,12 +6,6 @@ use common::ledgers::*;
 use common::*;
 use route::*;
 
-/// The end across, as it is once it is closed.
-fn closed_across(opening: Opening) -> Channel {
-    let (_, south) = ledgers();
-    Channel { state: State::Closed, ..south.channel(opening.counterparty.channel).expect("it is there") }
-}
-
 #[test]
 fn lengths_and_places() {
     let (end, packet) = (shown(closed_across(ORDERED)), sent());
@@ -94,35 +88,10 @@ fn malformed() {
     }
 }
 
-/// The verdicts about a packet that differ from the one that is needed, in each part that is compared.
-fn wrong_packet_verdicts(needed: Verdict, order: Order) -> Vec<Verdict> {
-    let End { port, channel } = needed.end;
-    let mut wrong = vec![
-        Verdict { claim: Claim::AcknowledgementPresent, ..needed },
-        Verdict { claim: Claim::EndShown, ..needed },
-        Verdict { end: End { port: port + 1, channel }, ..needed },
-        Verdict { end: End { port, channel: channel + 1 }, ..needed },
-        Verdict { timeout: Timeout::at_time(1), ..needed },
-        Verdict { digest: DIGEST, ..needed },
-        Verdict { claim: if order == Order::Ordered { Claim::ReceiptAbsent } else { Claim::NextReceive }, ..needed },
-    ];
-    if order == Order::Unordered {
-        wrong.push(Verdict { sequence: needed.sequence + 1, ..needed });
-    }
-    wrong
-}
-
-/// A packet that was sent on the channel, and the verdicts with which it is given back.
-fn given_back(opening: Opening) -> (Store, Packet, EndVerdict, Verdict) {
-    let (mut north, _) = ledgers();
-    let packet = sent_on(&mut north, &CONTEXT, opening);
-    (north, packet, shown(closed_across(opening)), not_received(opening.order, &packet, 1))
-}
-
 #[test]
 fn time_out_on_close_of_another_packet() {
     for opening in OPENINGS {
-        let (mut north, packet, end, verdict) = given_back(opening);
+        let (mut north, packet, end, verdict) = sent_with_verdicts(opening);
         let before = north.clone();
         let mut call = |context: &Context, packet: Packet| {
             north.handle(Datagram::time_out_on_close(context, &packet, &end, &verdict))
@@ -142,31 +111,8 @@ fn time_out_on_close_of_another_packet() {
 }
 
 #[test]
-fn time_out_on_close_by_other_verdicts() {
-    for opening in OPENINGS {
-        let (mut north, packet, end, verdict) = given_back(opening);
-        let before = north.clone();
-        let mut call = |end: EndVerdict, verdict: Verdict| {
-            north.handle(Datagram::time_out_on_close(&CONTEXT, &packet, &end, &verdict))
-        };
-        for (other, refusal) in wrong_verdicts(end) {
-            assert_eq!(call(other, verdict), Err(refusal), "{other:?}");
-        }
-        for other in wrong_packet_verdicts(verdict, opening.order) {
-            assert_eq!(call(end, other), Err(Refusal::OtherVerdict), "{other:?}");
-        }
-        // Each verdict is the one needed, and they are of two blocks.
-        for block in [block(51), Block { time: 1, ..block(50) }] {
-            assert_eq!(call(end, Verdict { block, ..verdict }), Err(Refusal::OtherVerdict), "{block:?}");
-            assert_eq!(call(EndVerdict { block, ..end }, verdict), Err(Refusal::OtherVerdict), "{block:?}");
-        }
-        assert_eq!(north, before);
-    }
-}
-
-#[test]
 fn time_out_on_close_of_a_received_packet() {
-    let (mut north, packet, end, _) = given_back(ORDERED);
+    let (mut north, packet, end, _) = sent_with_verdicts(ORDERED);
     let received = not_received(Order::Ordered, &packet, 2);
     let unlike = EndVerdict { end: Channel { version: Version::new("v2").unwrap(), ..end.end }, ..end };
     for end in [end, unlike] {
@@ -182,7 +128,7 @@ fn time_out_on_close() {
     for (opening, left) in [(ORDERED, State::Closed), (UNORDERED, State::Open)] {
         let (mut north, mut south) = ledgers();
         let packet = sent_on(&mut north, &CONTEXT, opening);
-        assert_eq!(north.handle(on_close(&unconnected, &packet, &south)), Err(Refusal::OtherVerdict));
+        assert_eq!(north.handle(on_close(&unconnected, &packet, &south)), refused(VerdictPart::Digest));
         south.handle(Datagram::close_init(&SOUTH, opening.counterparty.channel)).unwrap();
         let datagram = on_close(&unconnected, &packet, &south);
         assert_eq!(north.handle(&datagram), emits(Emitted::TimedOut(packet)));

@@ -136,7 +136,7 @@ fn open_try_refused() {
     }
     assert_eq!(call(&Context { connected: false, ..SOUTH }, &needed, b"v1"), Err(Refusal::NoConnection));
     // The end that it answers is for port 6.
-    assert_eq!(call(&Context { port: 7, ..SOUTH }, &needed, b"v1"), Err(Refusal::OtherVerdict));
+    assert_eq!(call(&Context { port: 7, ..SOUTH }, &needed, b"v1"), refused(VerdictPart::Digest));
     for version in [b"v2".as_slice(), b"v1\0", b"", &[b'v'; 25]] {
         assert_eq!(call(&SOUTH, &needed, version), Err(Refusal::WrongVersion), "{version:?}");
     }
@@ -182,7 +182,7 @@ fn one_of_two_tries_opens() {
     assert_eq!(north.handle(open_acknowledge(south.channel(3).unwrap())), Ok(None));
     assert_eq!(north.handle(open_acknowledge(south.channel(2).unwrap())), Err(Refusal::WrongState));
     let opened = north.channel(1).unwrap();
-    assert_eq!(south.handle(Datagram::open_confirm(&SOUTH, 2, &shown(opened))), Err(Refusal::OtherVerdict));
+    assert_eq!(south.handle(Datagram::open_confirm(&SOUTH, 2, &shown(opened))), refused(VerdictPart::Digest));
     assert_eq!(south.handle(open_confirm(opened)), Ok(None));
     assert_eq!(south.channel(2).unwrap().state, State::TryOpen);
 }
@@ -194,8 +194,13 @@ fn numbers_and_records_run_out() {
         assert_eq!(store.handle(init()), new_end(5, number));
     }
     assert_eq!(store.handle(init()), Err(Refusal::NoFreeChannel));
-    let answer = open_try(made(State::Init, end(5, 1), end(6, 0)));
-    assert_eq!(store.handle(answer), Err(Refusal::NoFreeChannel));
+    let answered = made(State::Init, end(5, 1), end(6, 0));
+    assert_eq!(store.handle(open_try(answered)), Err(Refusal::NoFreeChannel));
+    // Claim and record come before it, the version behind.
+    for (verdict, refusal) in wrong_verdicts(shown(answered)) {
+        let answer = Datagram::open_try(&SOUTH, answered.own, answered.order, &verdict, "v1");
+        assert_eq!(store.handle(answer), Err(refusal.min(Refusal::NoFreeChannel)), "{verdict:?}");
+    }
 
     let above = |channel| Store::make(1, &[Opening { own: end(5, channel), ..ORDERED }]).unwrap();
     let mut store = above(u32::MAX - 1);

@@ -74,7 +74,7 @@ fn acknowledgement() {
     let verdict = Verdict::acknowledgement_present(&sent(), [9; 32], block(55));
     let acknowledge = Datagram::acknowledge(&CONTEXT, &sent(), [9; 32], &verdict);
     let other = Datagram::acknowledge(&CONTEXT, &sent(), [8; 32], &verdict);
-    assert_eq!(store.handle(other), Err(Refusal::OtherVerdict));
+    assert_eq!(store.handle(other), refused(VerdictPart::Digest));
     let acknowledged = Emitted::Acknowledged { packet: sent(), acknowledgement: [9; 32] };
     assert_eq!(store.handle(&acknowledge), emits(acknowledged));
     assert_eq!(store.handle(&acknowledge), Err(Refusal::NoCommitment));

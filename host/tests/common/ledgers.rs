@@ -43,3 +43,16 @@ pub fn on_close(context: &Context, packet: &Packet, other: &Store) -> Datagram {
 pub fn state(store: &Store, channel: u32) -> State {
     store.channel(channel).expect("it is there").state
 }
+
+/// The end across, as it is once it is closed.
+pub fn closed_across(opening: Opening) -> Channel {
+    let (_, south) = ledgers();
+    Channel { state: State::Closed, ..south.channel(opening.counterparty.channel).expect("it is there") }
+}
+
+/// A packet that was sent on the channel, and the verdicts with which a time-out on close gives it back.
+pub fn sent_with_verdicts(opening: Opening) -> (Store, Packet, EndVerdict, Verdict) {
+    let (mut north, _) = ledgers();
+    let packet = sent_on(&mut north, &CONTEXT, opening);
+    (north, packet, shown(closed_across(opening)), not_received(opening.order, &packet, 1))
+}

@@ -27,6 +27,11 @@ pub fn emits(emitted: Emitted) -> Result<Option<Emitted>, Refusal> {
     Ok(Some(emitted))
 }
 
+/// The answer to a call with a verdict whose first part that differs is this one.
+pub fn refused(part: VerdictPart) -> Result<Option<Emitted>, Refusal> {
+    Err(Refusal::Verdict(part))
+}
+
 pub fn send(height: u64) -> Datagram {
     Datagram::send(&CONTEXT, 7, Timeout::at_height(OtherHeight(height)), DIGEST)
 }
@@ -80,9 +85,10 @@ pub fn others(end: Channel) -> Vec<Channel> {
 
 /// The verdicts that differ from one that is needed, each with its refusal.
 pub fn wrong_verdicts(needed: EndVerdict) -> Vec<(EndVerdict, Refusal)> {
-    let other = |verdict| (verdict, Refusal::OtherVerdict);
-    let mut wrong: Vec<_> = others(needed.end).iter().map(|end| other(EndVerdict { end: *end, ..needed })).collect();
-    wrong.push(other(EndVerdict { claim: Claim::NextReceive, ..needed }));
+    let record = |end: &Channel| (EndVerdict { end: *end, ..needed }, Refusal::Verdict(VerdictPart::Digest));
+    let mut wrong: Vec<_> = others(needed.end).iter().map(record).collect();
+    let claim = EndVerdict { claim: Claim::NextReceive, ..needed };
+    wrong.push((claim, Refusal::Verdict(VerdictPart::Claim)));
     let version = Version::new("v2").unwrap();
     wrong.push((EndVerdict { end: Channel { version, ..needed.end }, ..needed }, Refusal::WrongVersion));
     wrong
@@ -105,4 +111,8 @@ pub fn step_refused(
     }
     assert_eq!(call(&context, own, &needed), Ok(None));
     assert_eq!(call(&context, own, &needed), Err(Refusal::WrongState));
+    // Claim and record come before the state, the version behind it.
+    for (verdict, refusal) in wrong_verdicts(needed) {
+        assert_eq!(call(&context, own, &verdict), Err(refusal.min(Refusal::WrongState)), "{verdict:?}");
+    }
 }
