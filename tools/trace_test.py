@@ -139,6 +139,35 @@ class Bytes(unittest.TestCase):
         self.assertEqual(second[30:33].hex(), "050000")
 
 
+class Beside(unittest.TestCase):
+    def beside(self, transcript, text):
+        with tempfile.NamedTemporaryFile("w", suffix=".txt") as file:
+            file.write(transcript)
+            file.flush()
+            done = run(text, "--beside", file.name)
+        self.assertEqual(done.returncode, 0)
+        return done.stdout.decode().splitlines()
+
+    def test_each_answer_has_its_words(self):
+        given = [*range(28), *range(140, 147)]
+        given.remove(14)
+        lines = self.beside("".join(f"1 {number}\n" for number in range(256)), OPEN + "send 7 # a comment\n")
+        words = {number: line[10:44] for number, line in enumerate(lines) if number in given}
+        self.assertEqual((len(lines), len(set(words.values()))), (256, len(given)))
+        for number, line in enumerate(lines):
+            self.assertEqual(line[:10].split(), ["1", str(number)])
+            self.assertEqual(line[44:], "send 7")
+            # A space is between the words and the line of the text.
+            self.assertEqual((line[10:44].strip() != "", line[43]), (number in given, " "))
+        self.assertIn("sequence", words[143])
+        self.assertIn("out of order", words[15])
+
+    def test_other_lines(self):
+        lines = self.beside("open 0\n1 140\n2 0\nend 15\n", OPEN + "send 7\n")
+        self.assertEqual(lines[0], "open 0    accepted")
+        self.assertEqual(lines[2:], ["2 0       accepted", "end 15"])
+
+
 class BadLines(unittest.TestCase):
     def refused(self, text, line, words):
         with tempfile.TemporaryDirectory() as folder:

@@ -8,14 +8,18 @@ STATES = {"init": 1, "tryopen": 2, "open": 3, "closed": 4}
 # The state of the other end that an end verdict has to show.
 STATES_SHOWN = {"try": "init", "open-acknowledge": "tryopen", "open-confirm": "open"}
 STATES_SHOWN |= {"close-confirm": "closed", "timeout-on-close": "closed"}
-MEANINGS = (
-    "accepted|store not fit|output short|malformed|height or time goes back|channel not in the store|channel not open|"
-    "not the channel's port|connection not open|packet does not fit this end|both timeouts zero|timeout passed|"
-    "timeout not passed|no such commitment|verdict is not the one needed|out of order|already there|"
-    "packet not received|acknowledgement empty|counter at its end|no free record|length unfit|openings malformed|"
-    "more than 16 openings|a channel twice|no free channel record or number|end not in the state before|"
-    "version unfit, or another one"
-).split("|")
+# The words for the answers from a number on, in the order of their places.
+ANSWERS = {
+    0: "accepted|store not fit|output short|malformed|height or time goes back|channel not in the store|"
+    "channel not open|not the channel's port|connection not open|packet does not fit this end|both timeouts zero|"
+    "timeout passed|timeout not passed|no such commitment",
+    140: "wrong claim in verdict|wrong port in verdict|wrong channel in verdict|wrong sequence in verdict|"
+    "wrong timeouts in verdict|wrong digest or record in verdict|verdicts of different blocks",
+    15: "out of order|already there|packet not received|acknowledgement empty|counter at its end|no free record|"
+    "length unfit|openings malformed|more than 16 openings|a channel twice|no free channel record or number|"
+    "end not in the state before|version unfit, or another one",
+}
+MEANINGS = {number: words for first, run in ANSWERS.items() for number, words in enumerate(run.split("|"), first)}
 
 
 class BadLine(Exception):
