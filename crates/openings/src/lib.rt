@@ -30,7 +30,7 @@ fn opening_fits(openings: &[u8], at: usize) -> bool
     let order = u8_at(openings, at + 18);
     (u32_at(openings, at) as usize == OPENING)
         & (u16_at(openings, at + 4) == KIND)
-        & ((Channel::ORDERED <= order) & (order <= Channel::UNORDERED))
+        & ((Channel::ORDERED <= order) & (order <= Channel::ALLOW_TIMEOUT))
         & (u8_at(openings, at + 19) == 0)
 }
 

@@ -11,6 +11,7 @@ use Rattle.slots.specs.Names.{channelLimit, recordLimit, noTimeout, same
 use Rattle.slots.specs.Names.{slotSize, recordsFrom, sizeFor, roomIn, bytesOf, channelIn, recordIn, slotIn}
 use Rattle.slots.specs.Names.{tableIn, storeIn, isReceived, fitsEnd, recordFits, entriesFit, storeFits, sizeFits}
 use Rattle.slots.specs.Names.{isLaidOut, isFit, commitmentKind, receiptKind, acknowledgementKind}
+use Rattle.slots.specs.Names.{timeoutReceiptKind}
 use Rattle.slots.proofs.TableLaws.{Each, all-each}
 use Rattle.slots.proofs.LayoutLaws.{ChannelFields, RecordFields, StoreFields, read-back, size-of}
 
@@ -74,7 +75,7 @@ channel-in p l b =
     }
 
 abbrev Known : Record → Type 0
-Known r = (commitmentKind ≤ r .kind) × (r .kind ≤ acknowledgementKind)
+Known r = (commitmentKind ≤ r .kind) × (r .kind ≤ timeoutReceiptKind)
 
 -- all of a record but its kind, which a fit store tells
 abbrev Kinded : Record → Type 0
@@ -99,10 +100,11 @@ end-kind s r none h = clash {b = false} h refl
 end-kind s r (some c) h =
     cases (eqb (r .kind) commitmentKind) (λ p. omega (arith, eqb-true (r .kind) commitmentKind p))
     (λ p. cases (eqb (r .kind) receiptKind) (λ q. omega (arith, eqb-true (r .kind) receiptKind q))
-    (λ q.
+    (λ q. cases (eqb (r .kind) timeoutReceiptKind) (λ x. omega (arith, eqb-true (r .kind) timeoutReceiptKind x))
+    (λ x.
     let t = sameTimeout (r .timeout) noTimeout in
     let e : (eqb (r .kind) acknowledgementKind and t and isReceived (s .records) c (r .sequence)) ≡ true = cc in
-    omega (arith, eqb-true (r .kind) acknowledgementKind (and-both (and-both e .0) .0))))
+    omega (arith, eqb-true (r .kind) acknowledgementKind (and-both (and-both e .0) .0)))))
 
 record-kind : (s : Store) (r : Record) → recordFits s r ≡ true → Known r
 unfolding recordFits

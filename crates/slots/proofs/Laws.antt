@@ -19,4 +19,4 @@ pub use Rattle.slots.proofs.LayoutLaws.{StoreFields, read-port-channel,
 pub use Rattle.slots.proofs.LayoutLaws.{read-back}
 pub use Rattle.slots.proofs.FitLaws.{Sized, fits-size, fit-store, fit-fields, fit-of}
 pub use Rattle.slots.proofs.FitRecordLaws.{fit-ordered, fit-in-order, fit-single, fit-records}
-pub use Rattle.slots.proofs.FitRecordLaws.{committed-end}
+pub use Rattle.slots.proofs.FitRecordLaws.{record-channel, committed-end, lapsed-end}

@@ -11,8 +11,8 @@ use Rattle.slots.specs.declared.Channel.{Channel}
 use Rattle.slots.specs.declared.Record.{Record}
 use Rattle.slots.specs.Names.{channelLimit, recordLimit, versionSize, ownHeight, Store, headerSize, slotSize}
 use Rattle.slots.specs.Names.{recordsFrom, sizeFor, roomIn, channelBytes, recordBytes, slotBytes, tableBytes}
-use Rattle.slots.specs.Names.{headerBytes, bytesOf, channelIn, recordIn, slotIn, tableIn, storeIn}
-use Rattle.slots.specs.Names.{commitmentKind, acknowledgementKind}
+use Rattle.slots.specs.Names.{headerBytes, bytesOf, channelIn, recordIn, slotIn, tableIn, storeIn, commitmentKind}
+use Rattle.slots.specs.Names.{timeoutReceiptKind}
 use Rattle.slots.proofs.TableLaws.{Each, each-map}
 
 -- BOUNDS: each number fits its field
@@ -40,7 +40,7 @@ pub record ChannelFields (c : Channel) : Type 0 where
 
 pub record RecordFields (r : Record) : Type 0 where
   pub low : commitmentKind ≤ r .kind
-  pub high : r .kind ≤ acknowledgementKind
+  pub high : r .kind ≤ timeoutReceiptKind
   pub channel : r .channel < 256 ^ 4
   pub sequence : r .sequence < 256 ^ 8
   pub timeout : TimeoutFields (r .timeout)

@@ -27,8 +27,12 @@ orderOrdered = 1
 abbrev pub orderUnordered : ℕ
 orderUnordered = 2
 
+-- ordered, with timeouts allowed
+abbrev pub orderAllowTimeout : ℕ
+orderAllowTimeout = 3
+
 abbrev pub isOrder : ℕ → Bool
-isOrder n = isIn orderOrdered orderUnordered n
+isOrder n = isIn orderOrdered orderAllowTimeout n
 
 -- KINDS of packet records
 abbrev pub commitmentKind : ℕ
@@ -39,6 +43,9 @@ receiptKind = 2
 
 abbrev pub acknowledgementKind : ℕ
 acknowledgementKind = 3
+
+abbrev pub timeoutReceiptKind : ℕ
+timeoutReceiptKind = 4
 
 -- KINDS of a store and of a channel record
 abbrev pub storeKind : ℕ

@@ -10,19 +10,19 @@ use Rattle.wire.specs.Bytes.{same, areZero}
 use Rattle.slots.specs.declared.Channel.{Channel}
 use Rattle.slots.specs.declared.Record.{Record}
 use Rattle.slots.specs.Limits.{recordLimit}
-use Rattle.slots.specs.Codes.{stateInit, isState, isOrder, commitmentKind, receiptKind}
-use Rattle.slots.specs.Codes.{acknowledgementKind}
+use Rattle.slots.specs.Codes.{stateInit, isState, isOrder, commitmentKind, receiptKind, acknowledgementKind}
+use Rattle.slots.specs.Codes.{timeoutReceiptKind}
 use Rattle.slots.specs.Version.{isPadded}
 use Rattle.slots.specs.Height.{noTimeout, sameTimeout}
 use Rattle.slots.specs.Table.{all, distinct, inOrder, sameNumber, channelAt, sameKey, precedes}
 use Rattle.slots.specs.Layout.{Store, slotSize, recordsFrom, sizeFor, bytesOf, storeIn}
-use Rattle.slots.specs.Ordering.{isOrdered, isReceived}
+use Rattle.slots.specs.Ordering.{isReceived, mayHaveReceipt, mayHaveTimeoutReceipt}
 
 -- an INIT end does not know its counterparty's channel
 unfoldable pub namesNone : Channel → Bool
 namesNone c = not (eqb (c .state) stateInit) or eqb (c .counterparty .channel) 0
 
--- INIT, TRYOPEN, OPEN or CLOSED, ordered or unordered, counters at least 1, a version with zeros behind it
+-- INIT, TRYOPEN, OPEN or CLOSED, a known order, counters at least 1, a version with zeros behind it
 unfoldable pub channelFits : Channel → Bool
 channelFits c =
     isState (c .state) and isOrder (c .order) and
@@ -40,15 +40,20 @@ isBelow n c = ltb (c .own .channel) n
 unfoldable pub numbersFit : (next : ℕ) → List (Option Channel) → Bool
 numbersFit n cs = leb 1 n and all (isBelow n) cs
 
--- a commitment is below next send; a receipt is on an unordered channel, with zero timeouts and digest;
--- an acknowledgement is of a received packet, with zero timeouts
+-- a receipt and a timeout receipt say nothing but that they are there: zero timeouts and digest
+unfoldable pub saysNothing : Record → Bool
+saysNothing r = sameTimeout (r .timeout) noTimeout and areZero (r .digest)
+
+-- a commitment is below next send; a receipt and a timeout receipt stand where the ordering lets them; an
+-- acknowledgement is of a received packet, so never beside a timeout receipt, with zero timeouts
 unfoldable pub fitsEnd : Store → Record → Option Channel → Bool
 fitsEnd s r none = false
 fitsEnd s r (some c) =
     pick (eqb (r .kind) commitmentKind) (ltb (r .sequence) (c .next .send))
-    (pick (eqb (r .kind) receiptKind) (not (isOrdered c) and sameTimeout (r .timeout) noTimeout and areZero (r .digest))
+    (pick (eqb (r .kind) receiptKind) (mayHaveReceipt c and saysNothing r)
+    (pick (eqb (r .kind) timeoutReceiptKind) (mayHaveTimeoutReceipt c (r .sequence) and saysNothing r)
     (eqb (r .kind) acknowledgementKind and sameTimeout (r .timeout) noTimeout and
-    isReceived (s .records) c (r .sequence)))
+    isReceived (s .records) c (r .sequence))))
 
 -- a sequence of at least 1, and a channel of the store
 unfoldable pub recordFits : Store → Record → Bool

@@ -9,7 +9,7 @@ use Rattle.slots.specs.declared.PortChannel.{PortChannel}
 use Rattle.slots.specs.declared.Channel.{Channel}
 use Rattle.slots.specs.declared.Record.{Record}
 pub use Rattle.slots.specs.declared.Key.{Key}
-use Rattle.slots.specs.Codes.{commitmentKind, receiptKind, acknowledgementKind}
+use Rattle.slots.specs.Codes.{commitmentKind, receiptKind, acknowledgementKind, timeoutReceiptKind}
 
 -- the first entry that passes a test
 unfoldable pub find : {A : Type 0} → (A → Bool) → List (Option A) → Option A
@@ -112,6 +112,9 @@ receiptKey c n = record { kind = receiptKind; channel = c; sequence = n }
 
 abbrev pub acknowledgementKey : (channel sequence : ℕ) → Key
 acknowledgementKey c n = record { kind = acknowledgementKind; channel = c; sequence = n }
+
+abbrev pub timeoutReceiptKey : (channel sequence : ℕ) → Key
+timeoutReceiptKey c n = record { kind = timeoutReceiptKind; channel = c; sequence = n }
 
 abbrev pub keyOf : Record → Key
 keyOf r = record { kind = r .kind; channel = r .channel; sequence = r .sequence }

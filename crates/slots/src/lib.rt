@@ -79,6 +79,8 @@ impl Channel {
     pub const ORDERED: u8 = 1;
 
     pub const UNORDERED: u8 = 2;
+
+    pub const ALLOW_TIMEOUT: u8 = 3;
 }
 
 // A packet record.
@@ -97,6 +99,8 @@ impl Record {
     pub const RECEIPT: u16 = 2;
 
     pub const ACKNOWLEDGEMENT: u16 = 3;
+
+    pub const TIMEOUT_RECEIPT: u16 = 4;
 }
 
 // What a packet record is found by.
