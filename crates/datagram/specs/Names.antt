@@ -9,7 +9,7 @@ pub use Rattle.datagram.specs.Kind.{Part, channelPart, sequencePart, tim
 pub use Rattle.datagram.specs.Kind.{portPart, counterpartyPart, orderPart, endVerdictPart, versionPart}
 pub use Rattle.datagram.specs.Kind.{verdictPart, partSize, bodyOf, partNumber, isPart, placeOf, sizeOf}
 pub use Rattle.datagram.specs.Claim.{Claim, commitmentPresent, acknowledgementPresent, receiptAbsent}
-pub use Rattle.datagram.specs.Claim.{nextReceiveIs, endIs, claims, claimNumber, claimOf}
+pub use Rattle.datagram.specs.Claim.{nextReceiveIs, endIs, timeoutReceiptPresent, claims, claimNumber, claimOf}
 unfoldable pub use Rattle.datagram.specs.Datagram.{kindIn, contextIn, packetIn, verdictIn, endVerdictIn}
 unfoldable pub use Rattle.datagram.specs.Datagram.{packetFrom, verdictFrom, timeoutFrom, sequenceFrom, digestFrom}
 unfoldable pub use Rattle.datagram.specs.Datagram.{endVerdictFrom, counterpartyFrom, orderFrom, versionFrom}
@@ -19,4 +19,4 @@ pub use Rattle.datagram.specs.Datagram.{ownChannel, Datagram, datagramOf
 pub use Rattle.datagram.specs.Datagram.{blockHeight, blockTime, verdictsOf}
 unfoldable pub use Rattle.datagram.specs.Emitted.{framed, packetBytes}
 pub use Rattle.datagram.specs.Emitted.{sentKind, deliveredKind, writtenKind, acknowledgedKind, timedOutKind}
-pub use Rattle.datagram.specs.Emitted.{madeKind, emittedPacket}
+pub use Rattle.datagram.specs.Emitted.{lapsedKind, madeKind, emittedPacket}

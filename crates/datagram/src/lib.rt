@@ -27,8 +27,8 @@ pub struct Packet {
 }
 
 // What the host's light client found of the other ledger, at a block's height and time there.
-// Claim: 1 commitment present, 2 acknowledgement present, 3 receipt absent, 4 next receive equals the sequence; 5 is an
-// end verdict's.
+// Claim: 1 commitment present, 2 acknowledgement present, 3 receipt absent, 4 next receive equals the sequence, 6
+// timeout receipt present; 5 is an end verdict's.
 pub struct Verdict {
     pub claim: u16,
     pub height: OtherHeight,

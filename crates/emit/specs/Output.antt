@@ -16,7 +16,8 @@ atFront e o = e ++ drop (length e) o
 abbrev pub portChannelBytes : PortChannel → List ℕ
 portChannelBytes e = little 2 (e .port) ++ little 4 (e .channel)
 
--- THE RECORDS: a packet (0x0101, 0x0102 and 0x0105), a written acknowledgement, an acknowledged packet, and a new end
+-- THE RECORDS: a packet (0x0101, 0x0102, 0x0105 and 0x0106), a written acknowledgement, an acknowledged packet, and a
+-- new end
 abbrev pub packetRecord : (kind : ℕ) → Packet → List ℕ
 packetRecord k p = framed k (packetBytes p)
 

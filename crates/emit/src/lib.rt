@@ -42,6 +42,8 @@ const ACKNOWLEDGED: u16 = 0x0104;
 
 pub const TIMED_OUT: u16 = 0x0105;
 
+pub const LAPSED: u16 = 0x0106;
+
 const MADE: u16 = 0x0107;
 
 // What is emitted: a packet alone under one of its kinds, a written acknowledgement, an acknowledged packet, a new end,

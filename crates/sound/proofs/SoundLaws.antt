@@ -24,8 +24,8 @@ getD-there [] i x y h = absurd (omega arith)
 getD-there (b ∷ bs) zero x y h = refl
 getD-there (b ∷ bs) (suc i) x y h = getD-there bs i x y (omega arith)
 
--- the claims are those from 1 to 5
-above : (n : ℕ) → 6 ≤ n → isSome (claimOf n) ≡ isIn 1 5 n
+-- the claims are those from 1 to 6
+above : (n : ℕ) → 7 ≤ n → isSome (claimOf n) ≡ isIn 1 6 n
 unfolding withNumber _and_
 above n h =
     rw (
@@ -34,11 +34,12 @@ above n h =
       ne-eqb n 3 (λ e. omega arith),
       ne-eqb n 4 (λ e. omega arith),
       ne-eqb n 5 (λ e. omega arith),
+      ne-eqb n 6 (λ e. omega arith),
       le-leb 1 n (omega arith),
-      lt-leb n 5 (omega arith),
+      lt-leb n 6 (omega arith),
     )
 
-pub claim-known : (n : ℕ) → isSome (claimOf n) ≡ isIn 1 5 n
+pub claim-known : (n : ℕ) → isSome (claimOf n) ≡ isIn 1 6 n
 unfolding withNumber _and_
 claim-known zero = refl
 claim-known (suc zero) = refl
@@ -46,7 +47,9 @@ claim-known (suc (suc zero)) = refl
 claim-known (suc (suc (suc zero))) = refl
 claim-known (suc (suc (suc (suc zero)))) = refl
 claim-known (suc (suc (suc (suc (suc zero))))) = refl
-claim-known (suc (suc (suc (suc (suc (suc n)))))) = above (suc (suc (suc (suc (suc (suc n)))))) (omega arith)
+claim-known (suc (suc (suc (suc (suc (suc zero)))))) = refl
+claim-known (suc (suc (suc (suc (suc (suc (suc n))))))) =
+    above (suc (suc (suc (suc (suc (suc (suc n))))))) (omega arith)
 
 -- THE TESTS in the order of the code: whether the kind is known comes last, with the body
 arranged : (framed known size context parts : Bool) → framed ≡ true →

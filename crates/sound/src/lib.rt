@@ -76,11 +76,11 @@ fn is_context_sound(d: &[u8]) -> bool
     are_zero(d, FRAME + 27, 5) & (d[FRAME + 26] <= 1) & (0 < u64_at(d, FRAME))
 }
 
-// The claims, in either form of verdict, are those from 1 to 5.
+// The claims, in either form of verdict, are those from 1 to 6.
 fn is_claim(claim: u16) -> bool
     ensures { λ r. ⌜ r ≡ isSome (claimOf claim) ⌝ }
 {
-    (1 <= claim) & (claim <= 5)
+    (1 <= claim) & (claim <= 6)
 }
 
 // A packet's sequence is not 0.
@@ -117,7 +117,7 @@ fn is_order_sound(d: &[u8], kind: u16) -> bool
     ensures { λ r. ⌜ r ≡ isOrder (orderFrom (kindOf kind) (now (d .entry))) ⌝ }
 {
     let order = order_in(d, kind);
-    (Channel::ORDERED <= order) & (order <= Channel::UNORDERED)
+    (Channel::ORDERED <= order) & (order <= Channel::ALLOW_TIMEOUT)
 }
 
 // Unknown kinds have no body that is sound.
