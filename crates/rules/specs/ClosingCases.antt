@@ -195,12 +195,12 @@ pub record ClosingCases : Type 0 where
       replicate 4 (replicate 2 9) ++ replicate 2 (replicate 2 13)
   -- the end verdict's parts; its claim and its record's state and order, by each value
   pub otherRecord : numbersOf (λ i. endsBy (byteAt i 3)) recordPlaces ≡ replicate 18 (replicate 4 145)
-  pub eachEndClaim : numbersOf (λ b. endsBy (byteAt 0 b)) (0 ∷ 1 ∷ 2 ∷ 3 ∷ 4 ∷ 5 ∷ 6 ∷ []) ≡
-      replicate 4 3 ∷ replicate 4 (replicate 4 140) ++ (replicate 4 0 ∷ replicate 4 3 ∷ [])
+  pub eachEndClaim : numbersOf (λ b. endsBy (byteAt 0 b)) (0 ∷ 1 ∷ 2 ∷ 3 ∷ 4 ∷ 5 ∷ 6 ∷ 7 ∷ []) ≡
+      replicate 4 3 ∷ replicate 4 (replicate 4 140) ++ (replicate 4 0 ∷ replicate 4 140 ∷ replicate 4 3 ∷ [])
   pub eachState : numbersOf (λ b. endsBy (byteAt 20 b)) (1 ∷ 2 ∷ 3 ∷ 4 ∷ []) ≡
       replicate 3 (replicate 4 145) ++ (replicate 4 0 ∷ [])
-  pub eachOrder : numbersOf (λ b. endsBy (byteAt 21 b)) (1 ∷ 2 ∷ []) ≡
-      (0 ∷ 145 ∷ 0 ∷ 145 ∷ []) ∷ (145 ∷ 0 ∷ 145 ∷ 0 ∷ []) ∷ []
+  pub eachOrder : numbersOf (λ b. endsBy (byteAt 21 b)) (1 ∷ 2 ∷ 3 ∷ []) ≡
+      (0 ∷ 145 ∷ 0 ∷ 145 ∷ []) ∷ (145 ∷ 0 ∷ 145 ∷ 0 ∷ []) ∷ replicate 4 145 ∷ []
   -- the packet's verdict's sequence: on an ordered channel a number above the packet's is out of order, and any other
   -- may be claimed. Its other parts are in VerdictCases.antt
   pub eachNumber : numbersOf (λ b. verdictsBy (byteAt 24 b)) (0 ∷ 1 ∷ 2 ∷ 3 ∷ []) ≡

@@ -119,8 +119,8 @@ longer d = little 4 (length d + 1) ++ drop 4 d ++ (1 ∷ [])
 abbrev pub malformedSteps : List (List ℕ)
 malformedSteps =
     map (λ d. d ++ (1 ∷ [])) (steps usual) ++ map shorter (makers ([] ∷ []) ++ movesOn 1 2 usual unchanged) ++
-    map longer (movesOn 1 2 usual unchanged) ++ map (λ o. anOpenInit usual 6 o version) (0 ∷ 3 ∷ []) ++
-    map (λ o. openTryBy usual 6 9 o (set (shownInit version) 21 o) version) (0 ∷ 3 ∷ []) ++
+    map longer (movesOn 1 2 usual unchanged) ++ map (λ o. anOpenInit usual 6 o version) (0 ∷ 4 ∷ []) ++
+    map (λ o. openTryBy usual 6 9 o (set (shownInit version) 21 o) version) (0 ∷ 4 ∷ []) ++
     steps (take 31 usual ++ (1 ∷ [])) ++ steps (aContext 100 1000 5 2) ++ steps (aContext 0 1000 5 1)
 
 -- UNFIT by one byte: next channel number 0 where no channel is, or not above a channel; a zero byte behind it not zero;
@@ -181,11 +181,12 @@ pub record HandshakeCases : Type 0 where
   pub otherBlock : map (λ i. withByte i 4) blockPlaces ≡ replicate 4 (replicate 3 0)
   pub otherRecord : map (λ i. withByte i 4) recordPlaces ≡ replicate 18 (replicate 3 145)
   pub otherVersions : map (λ i. withByte i 4) versionPlaces ≡ replicate 2 (replicate 3 27)
-  pub eachClaim : map (withByte 0) (0 ∷ 1 ∷ 2 ∷ 3 ∷ 4 ∷ 5 ∷ 6 ∷ []) ≡
-      replicate 3 3 ∷ replicate 4 (replicate 3 140) ++ (replicate 3 0 ∷ replicate 3 3 ∷ [])
+  pub eachClaim : map (withByte 0) (0 ∷ 1 ∷ 2 ∷ 3 ∷ 4 ∷ 5 ∷ 6 ∷ 7 ∷ []) ≡
+      replicate 3 3 ∷ replicate 4 (replicate 3 140) ++ (replicate 3 0 ∷ replicate 3 140 ∷ replicate 3 3 ∷ [])
   pub eachState : map (withByte 20) (1 ∷ 2 ∷ 3 ∷ 4 ∷ []) ≡
       (0 ∷ 145 ∷ 145 ∷ []) ∷ (145 ∷ 0 ∷ 145 ∷ []) ∷ (145 ∷ 145 ∷ 0 ∷ []) ∷ replicate 3 145 ∷ []
-  pub eachOrder : map (withByte 21) (1 ∷ 2 ∷ []) ≡ (145 ∷ 0 ∷ 145 ∷ []) ∷ (0 ∷ 145 ∷ 0 ∷ []) ∷ []
+  pub eachOrder : map (withByte 21) (1 ∷ 2 ∷ 3 ∷ []) ≡
+      (145 ∷ 0 ∷ 145 ∷ []) ∷ (0 ∷ 145 ∷ 0 ∷ []) ∷ replicate 3 145 ∷ []
   -- a full table, also where 145 and where 27 applies; numbers used up
   pub full : numbersFrom filled
       (steps usual ++ provedSteps usual otherEnd ++ makers (aVersion 25 ∷ [])) ≡
