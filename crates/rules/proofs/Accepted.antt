@@ -10,12 +10,12 @@ use Rattle.slots.specs.Names.{isReceived}
 use Rattle.datagram.specs.Names.{only, Kind, send, receive, write, acknowledge, timeOut, openInit, openTry}
 use Rattle.datagram.specs.Names.{openAcknowledge, openConfirm, closeInit, closeConfirm, timeOutOnClose, Datagram}
 use Rattle.datagram.specs.Names.{onPacket, onEnd}
-use Rattle.rules.specs.Names.{firstEndDifference, hasVersion, moved, receivesInOrder, isReceiptThere}
-use Rattle.rules.specs.Names.{timesOutInOrder, isSendAtTop, isReceiveAtTop, isAcknowledgeAtTop, needsReceipt}
-use Rattle.rules.specs.Names.{isFull, neededEnd, neededInit, answering, neededTryOpen, neededPeer, firstGiven}
-use Rattle.rules.specs.Names.{fitsDestination, fitsSource, isLateAtReceiver, isProvedLate, isCommitted}
-use Rattle.rules.specs.Names.{commitmentDifference, absenceDifference, table, Line, makesEnd}
-use Rattle.rules.specs.Names.{endFor, isInState, isAcknowledgementThere}
+use Rattle.rules.specs.Names.{firstEndDifference, hasVersion, moved, receivesInOrder, refusesLate, isReceiptThere}
+use Rattle.rules.specs.Names.{acknowledgesInOrder, timesOutInOrder, isSendAtTop, isReceiveAtTop}
+use Rattle.rules.specs.Names.{isAcknowledgeAtTop, isTimeoutAtTop, needsRecord, isFull, neededEnd, neededInit}
+use Rattle.rules.specs.Names.{answering, neededTryOpen, neededPeer, firstGiven, fitsDestination, fitsSource}
+use Rattle.rules.specs.Names.{comesLate, isProvedLate, isCommitted, commitmentDifference, absenceDifference}
+use Rattle.rules.specs.Names.{claimsTaken, table, Line, makesEnd, endFor, isInState, isAcknowledgementThere}
 use Rattle.rules.proofs.RefusalLaws.{givenAt, silent, each-silent, not-given, test-holds}
 use Rattle.rules.proofs.VerdictLaws.{Alike, Partners, one-block, shows}
 
@@ -27,12 +27,12 @@ pub record SendOk (s : Store) (c : Channel) : Type 0 where
 pub record ReceiveOk (s : Store) (d : Datagram) (c : Channel) : Type 0 where
   pub state : c .state ≡ stateOpen
   pub fits : fitsDestination c (d .packet) ≡ true
-  pub early : isLateAtReceiver (d .context) (d .packet .timeout) ≡ false
+  pub early : refusesLate c (comesLate d) ≡ false
   pub about : commitmentDifference (d .packet) (d .verdict) ≡ 0
   pub inOrder : receivesInOrder c (d .packet .sequence) ≡ true
   pub new : isReceiptThere (s .records) c (d .packet .sequence) ≡ false
   pub below : isReceiveAtTop c ≡ false
-  pub room : (needsReceipt c and not (hasFree (s .records))) ≡ false
+  pub room : (needsRecord c (comesLate d) and not (hasFree (s .records))) ≡ false
 
 pub record WriteOk (s : Store) (d : Datagram) (c : Channel) : Type 0 where
   pub new : isAcknowledgementThere (s .records) c (d .sequence) ≡ false
@@ -40,7 +40,9 @@ pub record WriteOk (s : Store) (d : Datagram) (c : Channel) : Type 0 where
   pub room : hasFree (s .records) ≡ true
 
 pub record AcknowledgeOk (s : Store) (d : Datagram) (c : Channel) : Type 0 where
+  pub state : c .state ≡ stateOpen
   pub committed : isCommitted (s .records) (d .packet) ≡ true
+  pub inOrder : acknowledgesInOrder c (d .packet .sequence) ≡ true
   pub below : isAcknowledgeAtTop c ≡ false
 
 -- why a packet is timed out: its timeout has passed, or its destination is CLOSED in the verdict's block
@@ -53,8 +55,11 @@ pub record TimeoutOk (s : Store) (d : Datagram) (c : Channel) : Type 0 where
   pub why : Why d c
   pub fits : fitsSource c (d .packet) ≡ true
   pub committed : isCommitted (s .records) (d .packet) ≡ true
-  pub about : absenceDifference c (d .packet) (d .verdict) ≡ 0
-  pub inOrder : timesOutInOrder c (d .packet .sequence) (d .verdict .sequence) ≡ true
+  pub onClose : Bool
+  pub about : absenceDifference onClose c (d .packet) (d .verdict) ≡ 0
+  pub untaken : claimsTaken (d .verdict) (d .packet .sequence) ≡ false
+  pub inOrder : timesOutInOrder c (d .packet .sequence) ≡ true
+  pub below : isTimeoutAtTop c ≡ false
 
 -- a new end: there is room for it and a number, and its version fits
 pub record MakeOk (s : Store) (d : Datagram) : Type 0 where
@@ -143,38 +148,45 @@ module _ (bs : List ℕ) (room : ℕ) (b : List ℕ) (s : Store) (d : Datagram) 
   unfolding givenAt table only _or_
   acknowledge-ok h =
       record {
+        state = in-state stateOpen 5 (quiet 6 acknowledge h);
         committed = test-holds _ 12 (quiet 13 acknowledge h);
+        inOrder = test-holds _ 14 (quiet 15 acknowledge h);
         below = not-given _ 18 (quiet 19 acknowledge h);
       }
 
   -- what both time-outs ask for
-  timed-out : Why d c → pick {A = ℕ} (not (fitsSource c (d .packet))) 9 0 ≡ 0 →
+  timed-out : (z : Bool) → Why d c → pick {A = ℕ} (not (fitsSource c (d .packet))) 9 0 ≡ 0 →
       pick {A = ℕ} (not (isCommitted (s .records) (d .packet))) 13 0 ≡ 0 →
-      absenceDifference c (d .packet) (d .verdict) ≡ 0 →
-      pick {A = ℕ} (not (timesOutInOrder c (d .packet .sequence) (d .verdict .sequence))) 15 0 ≡ 0 →
-      TimeoutOk s d c
-  timed-out w f k a o =
+      absenceDifference z c (d .packet) (d .verdict) ≡ 0 →
+      pick {A = ℕ} (claimsTaken (d .verdict) (d .packet .sequence)) 15 0 ≡ 0 →
+      pick {A = ℕ} (not (timesOutInOrder c (d .packet .sequence))) 15 0 ≡ 0 →
+      pick {A = ℕ} (isTimeoutAtTop c) 19 0 ≡ 0 → TimeoutOk s d c
+  timed-out z w f k a t o b =
       record {
         why = w;
         fits = test-holds _ 8 f;
         committed = test-holds _ 12 k;
+        onClose = z;
         about = a;
+        untaken = not-given _ 14 t;
         inOrder = test-holds _ 14 o;
+        below = not-given _ 18 b;
       }
 
   pub timeout-ok : firstGiven (some timeOut) lines ≡ 0 → TimeoutOk s d c
   unfolding givenAt table only _or_
   timeout-ok h =
-      timed-out (byTime (test-holds _ 11 (quiet 12 timeOut h))) (quiet 9 timeOut h) (quiet 13 timeOut h)
-      (quiet 14 timeOut h) (quiet 15 timeOut h)
+      timed-out false (byTime (test-holds _ 11 (quiet 12 timeOut h))) (quiet 9 timeOut h) (quiet 13 timeOut h)
+      (quiet 14 timeOut h) (quiet 15 timeOut h) (quiet-at 1 15 timeOut h) (quiet 19 timeOut h)
 
   pub timeout-on-close-ok : d .kind ≡ some timeOutOnClose → firstGiven (some timeOutOnClose) lines ≡ 0 → TimeoutOk s d c
   unfolding givenAt table only _or_
   timeout-on-close-ok e h =
       let shut = shows-needed (neededPeer stateClosed c) (quiet 14 timeOutOnClose h) (quiet 27 timeOutOnClose h) in
       let block = one-block (onEnd (d .endVerdict)) (onPacket (d .verdict)) (quiet-at 2 14 timeOutOnClose h) in
-      timed-out (byClose e shut block) (quiet 9 timeOutOnClose h) (quiet 13 timeOutOnClose h)
-      (quiet-at 1 14 timeOutOnClose h) (quiet 15 timeOutOnClose h)
+      timed-out true (byClose e shut block) (quiet 9 timeOutOnClose h) (quiet 13 timeOutOnClose h)
+      (quiet-at 1 14 timeOutOnClose h) (quiet 15 timeOutOnClose h) (quiet-at 1 15 timeOutOnClose h)
+      (quiet 19 timeOutOnClose h)
 
   pub init-ok : firstGiven (some openInit) lines ≡ 0 → MakeOk s d
   unfolding givenAt table only _or_

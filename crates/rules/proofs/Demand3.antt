@@ -1,16 +1,16 @@
 -- Demand 3, for every pair of made stores and every list of calls. Assumes nothing.
 use Rattle.wire.proofs.Prelude.{_≡_, refl, sym, ap, _∙_, List, [], _++_, Option, ℕ, eqb, length, eqb-true}
-use Rattle.wire.specs.Names.{_or_, little, Bytes}
+use Rattle.wire.specs.Names.{_and_, _or_, little, Bytes}
 use Rattle.wire.proofs.Laws.{cases}
 use Rattle.slots.specs.declared.Channel.{Channel}
 use Rattle.slots.specs.Names.{storeIn}
 use Rattle.datagram.specs.Names.{only, Kind, Datagram, framed, madeKind}
 use Rattle.rules.specs.declared.Told.{Told}
-use Rattle.rules.specs.Names.{newEnd, makesEnd, orNone, refusals, sentPacket, makes, moves, effectOf}
-use Rattle.rules.specs.Names.{effectFor, answerTo, effectIn, called, Call, datagramGot, Met, endOf, Recorded}
-use Rattle.rules.specs.Names.{Answered, Demand3Holds}
+use Rattle.rules.specs.Names.{newEnd, makesEnd, orNone, refusals, sentPacket, makes, moves, effectOf, effectFor}
+use Rattle.rules.specs.Names.{answerTo, effectIn, called, Call, datagramGot, Met, endOf, Recorded, Answered}
+use Rattle.rules.specs.Names.{Demand3Holds, lapses, receivedKind, comesLate}
 use Rattle.rules.proofs.RefusalLaws.{first-given-zero}
-use Rattle.rules.proofs.KindLaws.{of-kinds, movesEnd, packets-record, recordOf}
+use Rattle.rules.proofs.KindLaws.{of-kinds, movesEnd, recordBy, packets-record}
 use Rattle.rules.proofs.Acted.{accepted-store, accepted-size, accepted-record, accepted-rest, refused-call}
 use Rattle.rules.proofs.Acted.{acted, acted-sent, acted-carried}
 use Rattle.rules.proofs.History.{World, got-bytes}
@@ -20,7 +20,10 @@ use Rattle.rules.proofs.Ends.{ends-stay, numbers-rise}
 use Rattle.rules.proofs.Tries.{tries-answer}
 use Rattle.rules.proofs.Closes.{closes-answer}
 use Rattle.rules.proofs.Pairing.{stay-paired, opens-once}
+use Rattle.rules.proofs.OrderingLaws.{received-kind}
 use Rattle.rules.proofs.Delivery.{delivered-once, in-order}
+use Rattle.rules.proofs.Missing.{rising, missing}
+use Rattle.rules.proofs.Finishing.{finished-in-order, finished-counted}
 use Rattle.rules.proofs.Truth.{as-sent}
 use Rattle.rules.proofs.Timeouts.{not-both}
 
@@ -30,15 +33,18 @@ unfolding called
 number bs o b = cases (eqb (answerTo bs o b) 0) (λ e. let q = eqb-true (answerTo bs o b) 0 e in cc) (λ e. cc)
 
 recorded : (c : Call) (m : Met c) → Bytes (c .store) → Bytes (c .datagram) → c .told .number ≡ 0 → Recorded c
-unfolding effectIn effectFor effectOf makes moves newEnd only _or_
+unfolding effectIn effectFor effectOf makes moves newEnd only _or_ _and_
 recorded c m p q t =
     let a = acted c m p q t in
     let d : Datagram = datagramGot c in
     let n : ℕ = storeIn (c .store) .next in
     let e = accepted-record c m t in
     record {
-      kind = λ k h o. a .kind ∙ ap recordOf h ∙ packets-record k o;
-      timedOut = λ k. a .kind ∙ ap recordOf k;
+      kind = λ k h o. a .kind ∙ ap (recordBy (lapses (a .step .channel) (comesLate d))) h ∙ packets-record _ k o;
+      received = λ k. a .kind ∙ ap (recordBy (lapses (a .step .channel) (comesLate d))) k ∙
+          sym (received-kind (a .step .channel) (comesLate d)) ∙ ap (λ (e : Channel). receivedKind e (comesLate d))
+          (sym (ap orNone (a .step .found (ap makesEnd k))));
+      timedOut = λ k. a .kind ∙ ap (recordBy (lapses (a .step .channel) (comesLate d))) k;
       sent = λ k. acted-sent a k ∙ ap (λ (e : Channel). sentPacket e d)
           (sym (ap orNone (a .step .found (ap makesEnd k))));
       carried = acted-carried a;
@@ -74,6 +80,10 @@ demand3 start cs made run =
       sums = sums w;
       finishedOnce = finished-once w;
       inOrder = in-order w;
+      rising = rising w;
+      missing = missing w;
+      finishedInOrder = finished-in-order w;
+      finishedCounted = finished-counted w;
       endsStay = ends-stay w;
       numbersRise = numbers-rise w;
       triesAnswer = tries-answer w;

@@ -1,34 +1,35 @@
 -- What an accepted call leaves fits its fields: the end, the new record, and the two tables. Assumes nothing.
-use Rattle.wire.proofs.Prelude.{_≡_, refl, sym, ap, subst, _∙_, false, List, some, ℕ, _+_, _^_, _≤_, _<_, arith}
-use Rattle.wire.proofs.Prelude.{eqb, length, eqb-false}
+use Rattle.wire.proofs.Prelude.{_≡_, refl, sym, ap, subst, _∙_, false, List, some, ℕ, _+_, _^_, _≤_, _<_, arith, eqb}
+use Rattle.wire.proofs.Prelude.{length, eqb-false}
 use Rattle.wire.specs.Names.{_or_, Bytes, digestSize, noDigest}
-use Rattle.wire.proofs.Laws.{of-pick, bytes-zeros, field-below, bytes-part}
+use Rattle.wire.proofs.Laws.{bytes-zeros, field-below, bytes-part}
 use Rattle.slots.specs.declared.PortChannel.{PortChannel}
 use Rattle.slots.specs.declared.Counters.{Counters}
 use Rattle.slots.specs.declared.Channel.{Channel}
 use Rattle.slots.specs.declared.Record.{Record}
-use Rattle.slots.specs.Names.{top, stateInit, stateTryOpen, stateOpen, stateClosed, receiptKind, acknowledgementKind}
-use Rattle.slots.specs.Names.{isNumbered, commitmentKey, channelIn, Store, slotSize, isOrdered}
+use Rattle.slots.specs.Names.{top, stateInit, stateTryOpen, stateOpen, stateClosed, commitmentKind, receiptKind}
+use Rattle.slots.specs.Names.{acknowledgementKind, timeoutReceiptKind, isNumbered, commitmentKey, channelIn, Store}
+use Rattle.slots.specs.Names.{slotSize}
 use Rattle.slots.proofs.Laws.{Each, each-find, each-replace, length-replace, each-place, length-place, padded-size}
-use Rattle.slots.proofs.Laws.{each-insert, length-insert, each-remove, length-remove}
-use Rattle.slots.proofs.Laws.{padded-bytes, PortChannelFields, CounterFields, ChannelFields, RecordFields, StoreFields}
-use Rattle.datagram.specs.Names.{only, body, hasPart, send, endVerdictIn, endVerdictFrom, datagramIn, Datagram}
+use Rattle.slots.proofs.Laws.{each-insert, length-insert, each-remove, length-remove, padded-bytes, PortChannelFields}
+use Rattle.slots.proofs.Laws.{CounterFields, ChannelFields, RecordFields, StoreFields}
+use Rattle.datagram.specs.Names.{only, body, hasPart, send, receive, endVerdictIn, endVerdictFrom, datagramIn, Datagram}
 use Rattle.datagram.proofs.Laws.{Sound, PacketFields, packet-fields, timeout-fields, sequence-below, length-digest}
 use Rattle.datagram.proofs.Laws.{bytes-digest, height-below, time-below, port-below, counterparty-fields, order-below}
 use Rattle.datagram.proofs.Laws.{bytes-version}
-use Rattle.rules.specs.Names.{plainRecord, counted, moved, raisesReceive, receivedEnd, raisesAcknowledge}
-use Rattle.rules.specs.Names.{acknowledgedEnd, timedOutEnd, isSendAtTop, Edit, raisedReceive, raisedAcknowledge}
-use Rattle.rules.specs.Names.{closed, newEnd, portOnly, makesEnd, sentPacket, commitment, sends, receives}
-use Rattle.rules.specs.Names.{writesAcknowledgement, acknowledges, timesOut, makes, moves, placed, numberAfter}
-use Rattle.rules.specs.Names.{edited, applied, EndEdit, leaves, puts, adds, Effect}
+use Rattle.rules.specs.Names.{plainRecord, counted, moved, isSendAtTop, Edit, raisedAcknowledge, newEnd, portOnly}
+use Rattle.rules.specs.Names.{makesEnd, sentPacket, commitment, sends, receives, writesAcknowledgement}
+use Rattle.rules.specs.Names.{acknowledges, timesOut, makes, moves, placed, numberAfter, edited, applied, EndEdit}
+use Rattle.rules.specs.Names.{leaves, puts, adds, Effect}
 use Rattle.rules.proofs.KindLaws.{finishes-old, moves-old, record-timed-out}
-use Rattle.rules.proofs.OrderingLaws.{receive-below, acknowledge-below}
+use Rattle.rules.proofs.OrderingLaws.{by-receive, by-acknowledge, by-time-out, receive-below, acknowledge-below}
+use Rattle.rules.proofs.OrderingLaws.{time-out-below}
 use Rattle.rules.proofs.Accepted.{MakeOk}
 use Rattle.rules.proofs.Step.{Makes, initiating, trying, toOpen, toClosed, How, sending, receiving, writing}
 use Rattle.rules.proofs.Step.{acknowledging, timing, making, moving, Step, Turns, standing, growing, joining}
 use Rattle.rules.proofs.Step.{turns}
-use Rattle.rules.proofs.Records.{New, commits, receipts, acknowledgements, Legal, keeping, adding, freeing}
-use Rattle.rules.proofs.Records.{legal}
+use Rattle.rules.proofs.Records.{New, commits, receipts, timeoutReceipts, acknowledgements, Legal, keeping}
+use Rattle.rules.proofs.Records.{adding, freeing, legal}
 
 -- WHAT FITS ITS FIELDS stays so
 raised : (n : ℕ) → n < 256 ^ 8 → eqb n top ≡ false → n + 1 < 256 ^ 8
@@ -61,8 +62,8 @@ moved-fields n l p h =
       bytes = h .bytes;
     }
 
-plain-fields : (k n m : ℕ) (a : List ℕ) → 1 ≤ k → k ≤ 3 → n < 256 ^ 4 → m < 256 ^ 8 → length a ≡ digestSize → Bytes a →
-    RecordFields (plainRecord k n m a)
+plain-fields : (k n m : ℕ) (a : List ℕ) → commitmentKind ≤ k → k ≤ timeoutReceiptKind → n < 256 ^ 4 → m < 256 ^ 8 →
+    length a ≡ digestSize → Bytes a → RecordFields (plainRecord k n m a)
 unfolding plainRecord
 plain-fields k n m a l u p q z b =
     record {
@@ -135,9 +136,17 @@ module _ {s t : Store} (b : List ℕ) (st : Step s (datagramIn b) t) (fields : S
       let p = bytes-part _ slotSize b bytes in
       record { port = field-below _ _ _ p; channel = field-below _ _ _ p }
 
+  acknowledged-fields : ChannelFields c → eqb (c .next .acknowledge) top ≡ false →
+      ChannelFields (counted c (raisedAcknowledge (c .next)))
+  acknowledged-fields h q =
+      counted-fields h (record {
+        send = h .next .send;
+        receive = h .next .receive;
+        acknowledge = raised (c .next .acknowledge) (h .next .acknowledge) q;
+      })
+
   end-fields : {e : Effect} → How s d c e → OfEnd ChannelFields (e .ends)
-  unfolding sends receives writesAcknowledgement acknowledges timesOut makes moves receivedEnd acknowledgedEnd
-      timedOutEnd isSendAtTop moved only _or_
+  unfolding sends receives writesAcknowledgement acknowledges timesOut makes moves isSendAtTop moved only _or_
   end-fields (sending k ok) =
       let h = channel-fields (ap makesEnd k) in
       counted-fields h (record {
@@ -147,30 +156,33 @@ module _ {s t : Store} (b : List ℕ) (st : Step s (datagramIn b) t) (fields : S
       })
   end-fields (receiving k ok) =
       let h = channel-fields (ap makesEnd k) in
-      of-pick ChannelFields (raisesReceive c) (counted c (raisedReceive (c .next))) c (λ q. counted-fields h (record {
+      by-receive ChannelFields c (λ q. counted-fields h (record {
         send = h .next .send;
         receive = raised (c .next .receive) (h .next .receive) (receive-below c q (ok .below));
         acknowledge = h .next .acknowledge;
-      })) (λ q. h)
+      })) h
   end-fields (writing k ok) = tt
   end-fields (acknowledging k ok) =
       let h = channel-fields (ap makesEnd k) in
-      of-pick ChannelFields (raisesAcknowledge c) (counted c (raisedAcknowledge (c .next))) c (λ q. counted-fields h
-      (record {
-        send = h .next .send;
-        receive = h .next .receive;
-        acknowledge = raised (c .next .acknowledge) (h .next .acknowledge) (acknowledge-below c q (ok .below));
-      })) (λ q. h)
+      by-acknowledge ChannelFields c (λ q. acknowledged-fields h (acknowledge-below c q (ok .below))) h
   end-fields (timing k ok) =
       let h = channel-fields (finishes-old (d .kind) (record-timed-out (d .kind) k)) in
-      of-pick ChannelFields (isOrdered c) (closed c) c (λ q. moved-fields stateClosed (omega arith) (h .counterparty) h)
-      (λ q. h)
+      by-time-out ChannelFields c (moved-fields stateClosed (omega arith) (h .counterparty) h)
+      (λ q. acknowledged-fields h (time-out-below c q (ok .below))) (λ q r. h)
   end-fields (making k ok m) = made-fields ok m
   end-fields (moving k (toOpen o ok)) =
       moved-fields stateOpen (omega arith) (subst PortChannelFields (ok .partner .peers .own) shown-fields)
       (channel-fields (moves-old (d .kind) k))
   end-fields (moving k (toClosed o f)) =
       let h = channel-fields (moves-old (d .kind) k) in moved-fields stateClosed (omega arith) (h .counterparty) h
+
+  receipt-fields : (n : ℕ) → d .kind ≡ some receive → commitmentKind ≤ n → n ≤ timeoutReceiptKind →
+      RecordFields (plainRecord n (c .own .channel) (d .packet .sequence) noDigest)
+  unfolding body hasPart only _or_
+  receipt-fields n k l u =
+      plain-fields n (c .own .channel) (d .packet .sequence) noDigest l u
+      (channel-fields (ap makesEnd k) .own .channel) (packet-fields b bytes sound (rw k refl) .sequence) refl
+      (bytes-zeros digestSize)
 
   new-fields : (e : Channel) (r : Record) → New s d c e r → RecordFields r
   unfolding commitment sentPacket body hasPart only _or_
@@ -185,10 +197,8 @@ module _ {s t : Store} (b : List ℕ) (st : Step s (datagramIn b) t) (fields : S
         size = f .size;
         bytes = f .bytes;
       }
-  new-fields e r (receipts k o) =
-      plain-fields receiptKind (c .own .channel) (d .packet .sequence) noDigest (omega arith) (omega arith)
-      (channel-fields (ap makesEnd k) .own .channel) (packet-fields b bytes sound (rw k refl) .sequence) refl
-      (bytes-zeros digestSize)
+  new-fields e r (receipts k o) = receipt-fields receiptKind k (omega arith) (omega arith)
+  new-fields e r (timeoutReceipts k t a) = receipt-fields timeoutReceiptKind k (omega arith) (omega arith)
   new-fields e r (acknowledgements k h) =
       plain-fields acknowledgementKind (c .own .channel) (d .sequence) (d .digest) (omega arith) (omega arith)
       (channel-fields (ap makesEnd k) .own .channel) (sequence-below b bytes) (length-digest b bytes sound (rw k refl))

@@ -1,12 +1,13 @@
 -- Laws of sets of kinds: what holds of each kind of a set holds of a datagram of one of them; the set is computed.
 -- Assumes nothing.
-use Rattle.wire.proofs.Prelude.{_≡_, refl, Bool, true, false, [], _∷_, Option, none, some, ℕ, _+_, eqb}
-use Rattle.wire.specs.Names.{_or_, Every}
-use Rattle.wire.proofs.Laws.{clash}
+use Rattle.wire.proofs.Prelude.{_≡_, refl, sym, ap, _∙_, Bool, true, false, [], _∷_, Option, none, some, ℕ, _+_, eqb}
+use Rattle.wire.proofs.Prelude.{ne-eqb}
+use Rattle.wire.specs.Names.{_and_, _or_, pick, Every}
+use Rattle.wire.proofs.Laws.{and-both, clash, cases}
 use Rattle.datagram.specs.Names.{only, body, hasPart, Kind, send, receive, write, acknowledge, timeOut, openInit}
 use Rattle.datagram.specs.Names.{openTry, openAcknowledge, openConfirm, closeInit, closeConfirm, timeOutOnClose, kinds}
-use Rattle.datagram.specs.Names.{kindNumber, isOf, packetPart, bodyOf}
-use Rattle.datagram.specs.Names.{sentKind, deliveredKind, writtenKind, acknowledgedKind, timedOutKind, madeKind}
+use Rattle.datagram.specs.Names.{kindNumber, isOf, packetPart, bodyOf, sentKind, deliveredKind, writtenKind}
+use Rattle.datagram.specs.Names.{acknowledgedKind, timedOutKind, lapsedKind, madeKind}
 use Rattle.datagram.proofs.Laws.{kind-of}
 use Rattle.datagram.proofs.MatchLaws.{those, of-those}
 use Rattle.rules.specs.Names.{makesEnd, opensEnd, closesEnd, emitsOwnKind}
@@ -50,7 +51,7 @@ pub arriving-settling : (x : Option Kind) → arriving x ≡ true → settling x
 unfolding only _or_
 arriving-settling x h = of-kinds (λ y. settling y ≡ true) arriving refl x (refl, (refl, (refl, tt))) h
 
--- THE RECORD that an accepted datagram of a kind emits, by its kind; 0 where it emits nothing
+-- THE RECORD that an accepted datagram of a kind emits, by its kind, where no packet lapses; 0 where it emits nothing
 abbrev pub emittedKind : Kind → ℕ
 emittedKind send = sentKind
 emittedKind receive = deliveredKind
@@ -65,19 +66,61 @@ emittedKind closeInit = 0
 emittedKind closeConfirm = 0
 emittedKind timeOutOnClose = timedOutKind
 
--- of packets: 0x0100 and the datagram's
-pub packets-record : (k : Kind) → emitsOwnKind (some k) ≡ true → emittedKind k ≡ 0x0100 + kindNumber k
-unfolding only _or_
-packets-record k h =
-    of-those kindNumber (λ j. emitsOwnKind (some j)) (λ j. emittedKind j ≡ 0x0100 + kindNumber j) (kindNumber k) kinds k
-    (kind-of k) h (refl, (refl, (refl, (refl, (refl, tt)))))
-
 abbrev pub recordOf : Option Kind → ℕ
 recordOf none = 0
 recordOf (some k) = emittedKind k
 
 abbrev pub emitsRecord : (emitted : ℕ) → Option Kind → Bool
 emitsRecord n x = eqb (recordOf x) n
+
+-- or a packet lapses
+abbrev pub recordBy : (lapses : Bool) → Option Kind → ℕ
+recordBy l x = pick (isOf receive x and l) lapsedKind (recordOf x)
+
+pub is-receive : (x : Option Kind) → isOf receive x ≡ true → x ≡ some receive
+is-receive x h = of-kinds (λ y. y ≡ some receive) (isOf receive) refl x (refl, tt) h
+
+-- any other record is the kind's, and where it is a receive's nothing lapses
+pub record-by : (l : Bool) (x : Option Kind) (m : ℕ) → (m ≡ lapsedKind → ⊥) → recordBy l x ≡ m →
+    (recordOf x ≡ m) × (x ≡ some receive → l ≡ false)
+unfolding _and_
+record-by l x m n h =
+    cases (isOf receive x and l) (λ q. let z : lapsedKind ≡ m = cc in absurd (n (sym z)))
+    (λ q. (cc, λ k. let r = ap (isOf receive) k in cc))
+
+pub by-delivered : (l : Bool) (x : Option Kind) → x ≡ some receive → l ≡ false → recordBy l x ≡ deliveredKind
+unfolding _and_
+by-delivered l x k h = rw (k, h) refl
+
+-- which record it is, where it is neither that of a lapse nor of a delivery
+pub record-other : (l : Bool) (x : Option Kind) (m : ℕ) → (m ≡ lapsedKind → ⊥) → (m ≡ deliveredKind → ⊥) →
+    eqb (recordBy l x) m ≡ emitsRecord m x
+record-other l x m n o =
+    cases (isOf receive x and l)
+    (λ q.
+    let k = is-receive x (and-both q .0) in
+    let a = ne-eqb lapsedKind m (λ e. n (sym e)) in
+    let b = ne-eqb deliveredKind m (λ e. o (sym e)) in
+    cc) (λ q. cc)
+
+-- a packet is finished by those that emit one of two records
+pub record-finishes : (x : Option Kind) →
+    (emitsRecord acknowledgedKind x or emitsRecord timedOutKind x) ≡ finishesPacket x
+unfolding only _or_
+record-finishes x =
+    let either : Option Kind → Bool = λ y. emitsRecord acknowledgedKind y or emitsRecord timedOutKind y in
+    cases (finishesPacket x)
+    (λ f. of-kinds (λ y. either y ≡ true) finishesPacket refl x (refl, (refl, (refl, tt))) f ∙ sym f)
+    (λ f. cases (either x)
+    (λ e. clash (of-kinds (λ y. finishesPacket y ≡ true) either refl x (refl, (refl, (refl, tt))) e) f)
+    (λ e. e ∙ sym f))
+
+-- of packets: 0x0100 and the datagram's
+pub packets-record : (l : Bool) (k : Kind) → emitsOwnKind (some k) ≡ true → recordBy l (some k) ≡ 0x0100 + kindNumber k
+unfolding only _or_ _and_
+packets-record l k h =
+    of-those kindNumber (λ j. emitsOwnKind (some j)) (λ j. recordBy l (some j) ≡ 0x0100 + kindNumber j) (kindNumber k)
+    kinds k (kind-of k) h (refl, (refl, (refl, (refl, tt))))
 
 -- those whose record has a packet
 abbrev pub emitsPacket : Option Kind → Bool

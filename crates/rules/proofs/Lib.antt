@@ -2,6 +2,7 @@ pub mod RefusalLaws
 pub mod KindLaws
 pub mod VerdictLaws
 pub mod OrderingLaws
+pub mod ReceivedLaws
 pub mod Accepted
 pub mod Growth
 pub mod Step
@@ -14,6 +15,7 @@ pub mod Fields
 pub mod Bridge
 pub mod Acted
 pub mod History
+pub mod Counter
 pub mod Sums
 pub mod Once
 pub mod Ends
@@ -22,6 +24,8 @@ pub mod Tries
 pub mod Closes
 pub mod Pairing
 pub mod Delivery
+pub mod Missing
+pub mod Finishing
 pub mod Truth
 pub mod Timeouts
 pub mod HonestLaws

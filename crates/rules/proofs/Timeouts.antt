@@ -17,13 +17,14 @@ use Rattle.datagram.specs.Names.{body, hasPart, Kind, timeOutOnClose, only, ver
 use Rattle.datagram.specs.Names.{onPacket, onEnd, blockHeight, timedOutKind}
 use Rattle.datagram.proofs.Laws.{packet-verdict, end-verdict}
 use Rattle.rules.specs.Names.{claimHolds, neededEnd, neededPeer, fitsSource, isLateAtReceiver, isProvedLate}
-use Rattle.rules.specs.Names.{isCommitted, absenceDifference, Effect, Side, across, Call, datagramGot, Paired}
-use Rattle.rules.specs.Names.{packetOf, verdictsGot, heightOf, timeOf, AcceptedOn, TrueVerdict, Honest, NotBoth}
+use Rattle.rules.specs.Names.{isCommitted, comesLate, Effect, Side, across, Call, datagramGot, Paired, packetOf}
+use Rattle.rules.specs.Names.{verdictsGot, heightOf, timeOf, AcceptedOn, TrueVerdict, Honest, NotBoth}
 use Rattle.rules.proofs.KindLaws.{of-kinds, finishesPacket, finishes-old, emitsRecord, makes-no-packet}
 use Rattle.rules.proofs.KindLaws.{moves-no-packet, finishes-carries, record-timed-out, arriving, settling}
 use Rattle.rules.proofs.KindLaws.{arriving-settling}
 use Rattle.rules.proofs.VerdictLaws.{Has, has-values, Alike, same-port-channel, claim-end}
-use Rattle.rules.proofs.OrderingLaws.{absent-not-received}
+use Rattle.rules.proofs.OrderingLaws.{delivered-early}
+use Rattle.rules.proofs.ReceivedLaws.{absent-not-received}
 use Rattle.rules.proofs.Accepted.{Why, byTime, byClose, TimeoutOk}
 use Rattle.rules.proofs.Step.{How, sending, receiving, writing, acknowledging, timing, making, moving, Step}
 use Rattle.rules.proofs.Step.{own-found}
@@ -178,14 +179,13 @@ module _ (w : World) (honest : Honest settling (w .start) (w .calls)) (pairs : P
 
   -- it was not delivered by then: it would be received, and is claimed not to be
   not-before : i < b .time → ⊥
-  unfolding absenceDifference
   not-before l =
       let r = received-since w i c d (b .time) l in
       let n = ap (λ (x : PortChannel). x .channel) to in
       let g = grows-into w (c .side) i (b .time) _ (d .end) (r .channel) (omega arith) (d .found) (r .found) in
       let found = ap (λ (m : ℕ). channelAt m (ledger w (c .side) (b .time) .channels)) n ∙ r .found in
-      let absent = absent-not-received (ledger w (c .side) (b .time)) (st .channel) (r .channel) p v
-      (g .order ∙ sym (sent-from .1)) found (channel-number _ _ _ found) (ok .about) (ok .inOrder)
+      let absent = absent-not-received (ok .onClose) (ledger w (c .side) (b .time)) (st .channel) (r .channel) p v
+      (g .order ∙ sym (sent-from .1)) found (channel-number _ _ _ found) (ok .about) (ok .untaken)
       (holds-then (onPacket v) truth-here refl) in
       clash (r .received) (ap (isReceived (ledger w (c .side) (b .time) .records) (r .channel)) (sym sequence) ∙
       absent)
@@ -194,7 +194,8 @@ module _ (w : World) (honest : Honest settling (w .start) (w .calls)) (pairs : P
   not-late : isProvedLate (p .timeout) v ≡ true → ⊥
   not-late late =
       let a : AcceptedOn (c .side) (w .calls) i c = record { at = d .acts .at; side = refl; told = d .acts .told } in
-      let early = receive-of (d .acts .acted .step) (d .kind) .0 .early in
+      let early = delivered-early (d .acts .acted .step .channel) (comesLate (datagramGot c))
+      (receive-of (d .acts .acted .step) (d .kind) .0 .early) (d .kept) in
       not-before (b .all i c a (in-block c (p .timeout) v late (rw one-timeout early)
       (truth-here .notAbove i c a)))
 
@@ -223,7 +224,7 @@ module _ (w : World) (honest : Honest settling (w .start) (w .calls)) (pairs : P
 
 pub not-both : (w : World) → Honest settling (w .start) (w .calls) → Paired (w .start) → NotBoth (w .calls)
 not-both w honest pairs i j c e h k a b s =
-    let f = did w timedOutKind j e k b in
+    let f = did w timedOutKind j e (λ q. omega arith) k b in
     never w honest pairs i j c e (delivered w i c h a) f
     (sym (finish-sender w timedOutKind j e f (λ q. omega arith)) ∙ sym (s .ledger) ∙ delivery-sender w c a)
     (s .channel) (s .sequence)

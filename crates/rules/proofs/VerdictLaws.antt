@@ -8,11 +8,11 @@ use Rattle.slots.specs.declared.Timeout.{Timeout}
 use Rattle.slots.specs.declared.Channel.{Channel}
 use Rattle.slots.specs.declared.Record.{Record}
 use Rattle.slots.specs.Names.{stateInit, channelKind, sameTimeout, samePortChannel, channelAt, commitmentKey}
-use Rattle.slots.specs.Names.{receiptKey, lookup, Store}
+use Rattle.slots.specs.Names.{receiptKey, timeoutReceiptKey, lookup, Store}
 use Rattle.datagram.specs.declared.Verdict.{Verdict}
 use Rattle.datagram.specs.declared.EndVerdict.{EndVerdict}
 use Rattle.datagram.specs.Names.{Claim, commitmentPresent, acknowledgementPresent, receiptAbsent, nextReceiveIs, endIs}
-use Rattle.datagram.specs.Names.{claimNumber, claimOf, AnyVerdict, onPacket, onEnd, blockHeight}
+use Rattle.datagram.specs.Names.{timeoutReceiptPresent, claimNumber, claimOf, AnyVerdict, onPacket, onEnd, blockHeight}
 use Rattle.rules.specs.Names.{firstDifference, shown, sameButVersion, firstEndDifference, blockDifference}
 use Rattle.rules.specs.Names.{hasVersion, hasValues, isAsStated, holdsOn, endHolds, claimHolds, Peers}
 
@@ -91,6 +91,7 @@ claim-of acknowledgementPresent = refl
 claim-of receiptAbsent = refl
 claim-of nextReceiveIs = refl
 claim-of endIs = refl
+claim-of timeoutReceiptPresent = refl
 
 module _ (v : Verdict) (s : Store) (h : claimHolds (onPacket v) s ≡ true) where
   stated : (k : Claim) → v .claim ≡ claimNumber k → (x : Option Channel) →
@@ -126,6 +127,11 @@ module _ (v : Verdict) (s : Store) (h : claimHolds (onPacket v) s ≡ true) wher
     pub claim-next : v .claim ≡ claimNumber nextReceiveIs → c .next .receive ≡ v .sequence
     unfolding isAsStated
     claim-next k = eqb-true (c .next .receive) (v .sequence) (stated-on nextReceiveIs k)
+
+    pub claim-lapsed : v .claim ≡ claimNumber timeoutReceiptPresent →
+        isSome (lookup (timeoutReceiptKey (v .about .channel) (v .sequence)) (s .records)) ≡ true
+    unfolding isAsStated
+    claim-lapsed k = stated-on timeoutReceiptPresent k
 
 -- ONE END, as it is known by its record: the same but for its state and its counters
 pub record OneEnd (c e : Channel) : Type 0 where

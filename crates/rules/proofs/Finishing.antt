@@ -1,0 +1,185 @@
+-- Demand 3: at ends that are not unordered packets are acknowledged, and where timeouts are allowed also timed out, in
+-- order while the end is OPEN, and next acknowledge counts them. Assumes nothing.
+use Rattle.wire.proofs.Prelude.{some, _≡_, refl, sym, ap, subst, _∙_, Bool, true, false, List, ⊎-elim, ℕ, _≤_, suc}
+use Rattle.wire.proofs.Prelude.{arith, eqb, length, take, take-length, leb-true, eqb-true, eq-eqb}
+use Rattle.wire.specs.Names.{_and_, _or_}
+use Rattle.wire.proofs.Laws.{and-both, both-and, or-either, clash, cases}
+use Rattle.slots.specs.declared.Channel.{Channel}
+use Rattle.slots.specs.Names.{stateOpen, stateClosed, isOrder, channelAt, storeIn, Store, isUnordered, allowsTimeouts}
+use Rattle.openings.specs.Opening.{openingOf}
+use Rattle.datagram.specs.declared.Packet.{Packet}
+use Rattle.datagram.specs.Names.{only, Datagram, deliveredKind, acknowledgedKind, timedOutKind, lapsedKind}
+use Rattle.rules.specs.Names.{FinishedCounted, storeAfter, counted, moved, lapses, comesLate, sends, receives}
+use Rattle.rules.specs.Names.{writesAcknowledgement, acknowledges, timesOut, makes, moves, Effect, Side, Call}
+use Rattle.rules.specs.Names.{datagramGot, howMany, isOn, isAccepted, hasEmitted, isAcknowledgement, isTimeout}
+use Rattle.rules.specs.Names.{finishes, packetOf, isBy, FinishedInOrder}
+use Rattle.rules.proofs.KindLaws.{finishesPacket, finishes-old, finishes-carries, recordOf, emitsRecord}
+use Rattle.rules.proofs.KindLaws.{makes-no-packet, moves-no-packet, record-timed-out, record-other}
+use Rattle.rules.proofs.KindLaws.{record-finishes}
+use Rattle.rules.proofs.OrderingLaws as ordering
+use Rattle.rules.proofs.Growth.{Grown}
+use Rattle.rules.proofs.Step.{toOpen, toClosed, How, sending, receiving, writing, acknowledging, timing, making}
+use Rattle.rules.proofs.Step.{moving, Step, endLeft, leftEnd, own-found, own-grown}
+use Rattle.rules.proofs.Receipt.{one-channel}
+use Rattle.rules.proofs.Opening.{Sending, finish-opened}
+use Rattle.rules.proofs.FitStep.{own-known}
+use Rattle.rules.proofs.Acted.{acted-carried}
+use Rattle.rules.proofs.History.{side-refl, World, ledger, Acts, acts, Turn}
+use Rattle.rules.proofs.Sums.{finished-own}
+use Rattle.rules.proofs.Ends.{sends-opened}
+use Rattle.rules.proofs.Counter.{Counted, counted-at}
+
+-- AN END WHERE PACKETS ARE FINISHED IN ORDER: not unordered, and not CLOSED
+abbrev InTurn : Channel → Type 0
+InTurn c = (isUnordered c ≡ false) × (c .state ≡ stateClosed → ⊥)
+
+turn-back : (c e : Channel) → Grown c e → InTurn e → InTurn c
+turn-back c e g h = (sym (ordering.unordered-same c e (g .order)) ∙ h .0, λ q. h .1 (g .state .closed q))
+
+-- NEXT ACKNOWLEDGE stays where no packet is finished, and rises where one is
+acknowledge-kept : {s : Store} {d : Datagram} {c : Channel} {e : Effect} → How s d c e →
+    finishesPacket (d .kind) ≡ false → endLeft c (e .ends) .next .acknowledge ≡ c .next .acknowledge
+unfolding sends receives writesAcknowledgement makes moves counted moved only _or_
+acknowledge-kept {c = c} (sending q ok) f = refl
+acknowledge-kept {c = c} (receiving q ok) f =
+    ordering.by-receive (λ x. x .next .acknowledge ≡ c .next .acknowledge) c (λ q. refl) refl
+acknowledge-kept {c = c} (writing q ok) f = refl
+acknowledge-kept {c = c} (acknowledging q ok) f = clash (ap finishesPacket q) f
+acknowledge-kept {d = d} (timing q ok) f = clash (record-timed-out (d .kind) q) f
+acknowledge-kept {c = c} (making q ok m) f = refl
+acknowledge-kept {c = c} (moving q (toOpen o ok)) f = refl
+acknowledge-kept {c = c} (moving q (toClosed o x)) f = refl
+
+module _ {s t : Store} {d : Datagram} (st : Step s d t) (f : finishesPacket (d .kind) ≡ true) where
+  finish-rises : Sending s → InTurn (leftEnd st) → leftEnd st .next .acknowledge ≡ suc (st .channel .next .acknowledge)
+  unfolding acknowledges timesOut only _or_
+  finish-rises o h =
+      let c = st .channel in
+      let before = turn-back c (leftEnd st) (own-grown st) h in
+      let known = own-known st (finishes-old (d .kind) f) in
+      let high = leb-true (c .state) stateClosed (and-both (known .0) .1) in
+      let now = only-open (c .state) (finish-opened st o f) high (before .1) in
+      go (st .effect) (st .how) (before .0) now (known .1) (h .1)
+    where
+      only-open : (n : ℕ) → stateOpen ≤ n → n ≤ stateClosed → (n ≡ stateClosed → ⊥) → n ≡ stateOpen
+      only-open n l u h = omega (arith, h)
+
+      go : (e : Effect) → How s d (st .channel) e → isUnordered (st .channel) ≡ false → st .channel .state ≡ stateOpen →
+          isOrder (st .channel .order) ≡ true → (endLeft (st .channel) (e .ends) .state ≡ stateClosed → ⊥) →
+          endLeft (st .channel) (e .ends) .next .acknowledge ≡ suc (st .channel .next .acknowledge)
+      go e (sending q ok) u o k h = clash f (ap finishesPacket q)
+      go e (receiving q ok) u o k h = clash f (ap finishesPacket q)
+      go e (writing q ok) u o k h = clash f (ap finishesPacket q)
+      go e (acknowledging q ok) u o k h = ordering.acknowledged-rises (st .channel) u
+      go e (timing q ok) u o k h = ordering.timed-out-rises (st .channel) k u o h
+      go e (making q ok m) u o k h = clash f (makes-no-packet (d .kind) q .4)
+      go e (moving q m) u o k h = clash f (moves-no-packet (d .kind) q .4)
+
+  -- what is finished in order is the next one
+  finish-next : isUnordered (st .channel) ≡ false → st .channel .state ≡ stateOpen →
+      (emitsRecord acknowledgedKind (d .kind) or allowsTimeouts (st .channel)) ≡ true →
+      d .packet .sequence ≡ st .channel .next .acknowledge
+  unfolding only _or_
+  finish-next u o k = go (st .effect) (st .how)
+    where
+      go : (e : Effect) → How s d (st .channel) e → d .packet .sequence ≡ st .channel .next .acknowledge
+      go e (sending q ok) = clash f (ap finishesPacket q)
+      go e (receiving q ok) = clash f (ap finishesPacket q)
+      go e (writing q ok) = clash f (ap finishesPacket q)
+      go e (acknowledging q ok) = ordering.acknowledged-next (st .channel) (d .packet .sequence) u (ok .inOrder)
+      go e (timing q ok) =
+          ⊎-elim (λ a. absurd (omega (
+            arith,
+            eqb-true (recordOf (d .kind)) acknowledgedKind a,
+            eqb-true (recordOf (d .kind)) timedOutKind q,
+          )))
+          (λ a. ordering.timed-out-next (st .channel) (d .packet .sequence) a o (ok .inOrder)) (or-either k)
+      go e (making q ok m) = clash f (makes-no-packet (d .kind) q .4)
+      go e (moving q m) = clash f (moves-no-packet (d .kind) q .4)
+
+module _ (w : World) where
+  -- BY THE RECORD that an accepted call emitted
+  module _ {z : Side} {i : ℕ} {c : Call} (a : Acts w z i c) where
+    emits-as : (m : ℕ) → (m ≡ lapsedKind → ⊥) → (m ≡ deliveredKind → ⊥) →
+        hasEmitted m c ≡ emitsRecord m (datagramGot c .kind)
+    unfolding _and_
+    emits-as m p q =
+        let t = eq-eqb (c .told .number) 0 (a .told) in
+        let y = ap (λ (k : ℕ). eqb k m) (a .acted .kind) ∙
+        record-other (lapses (a .acted .step .channel) (comesLate (datagramGot c))) (datagramGot c .kind) m p q in
+        cc
+
+    acknowledges-as : isAcknowledgement c ≡ emitsRecord acknowledgedKind (datagramGot c .kind)
+    acknowledges-as = emits-as acknowledgedKind (λ q. omega arith) (λ q. omega arith)
+
+    finishes-as : finishes c ≡ finishesPacket (datagramGot c .kind)
+    finishes-as =
+        ap (λ (b : Bool). b or isTimeout c) acknowledges-as ∙
+        ap (λ (b : Bool). emitsRecord acknowledgedKind (datagramGot c .kind) or b)
+        (emits-as timedOutKind (λ q. omega arith) (λ q. omega arith)) ∙ record-finishes (datagramGot c .kind)
+
+  abbrev isFinished : Side → (channel : ℕ) → Call → Bool
+  isFinished z n c = isBy z n finishes c
+
+  finishes-on : (z : Side) (n : ℕ) (c : Call) → isFinished z n c ≡ true → (isOn z c ≡ true) × (isAccepted c ≡ true)
+  finishes-on z n c h =
+      let a = and-both (and-both h .0) in
+      (a .0, ⊎-elim (λ e. and-both e .0) (λ e. and-both e .0) (or-either (a .1)))
+
+  -- NEXT ACKNOWLEDGE counts what was finished
+  next-acknowledge : (z : Side) (n i : ℕ) → Counted w InTurn (λ c. c .next .acknowledge) isFinished
+      (howMany (isFinished z n) (take i (w .calls))) (channelAt n (ledger w z i .channels))
+  unfolding openingOf
+  next-acknowledge =
+      counted-at w InTurn (λ c. c .next .acknowledge) isFinished finishes-on turn-back (λ o. refl)
+      (λ n e f. f .acknowledge)
+      (λ z n i u q.
+      let a = u .acts .acted in
+      let h = and-both q in
+      let f = sym (finishes-as (u .acts)) ∙ and-both (h .0) .1 in
+      record {
+        old = finishes-old (datagramGot (u .call) .kind) f;
+        number = sym (finished-own a f) ∙ eqb-true (packetOf (u .call) .source .channel) n (h .1);
+        rises = finish-rises (a .step) f (sends-opened w z i);
+      })
+      (λ z n i u q number k. acknowledge-kept (u .acts .acted .step .how) (not-finished z n i u q number))
+    where
+      not-finished : (z : Side) (n i : ℕ) (u : Turn w z i) → isFinished z n (u .call) ≡ false →
+          u .acts .acted .step .channel .own .channel ≡ n → finishesPacket (datagramGot (u .call) .kind) ≡ false
+      not-finished z n i u q number =
+          cases (finishesPacket (datagramGot (u .call) .kind))
+          (λ f. clash (both-and (both-and (rw (u .acts .side) (side-refl z)) (finishes-as (u .acts) ∙ f))
+          (eq-eqb (packetOf (u .call) .source .channel) n (finished-own (u .acts .acted) f ∙ number))) q) (λ f. f)
+
+  pub finished-in-order : FinishedInOrder (w .calls)
+  finished-in-order i c e h f g u o k =
+      let n = packetOf c .source .channel in
+      let a = acts w i c h (eqb-true (c .told .number) 0 (accepted f)) in
+      let st = a .acted .step in
+      let q = sym (finishes-as a) ∙ f in
+      let there = ap (λ (m : ℕ). channelAt m (ledger w (c .side) i .channels)) (finished-own (a .acted) q) ∙
+      own-found st (finishes-old (datagramGot c .kind) q) in
+      let same = one-channel (ledger w (c .side) i) n
+      (ap (λ (bs : List ℕ). channelAt n (storeIn bs .channels)) (sym (w .run .got i c h)) ∙ g) there in
+      let us = ap isUnordered (sym same) ∙ u in
+      let now = ap (λ (x : Channel). x .state) (sym same) ∙ o in
+      let v : InTurn (st .channel) → st .channel .next .acknowledge ≡ suc
+      (howMany (isFinished (c .side) n) (take i (w .calls))) =
+      subst (Counted w InTurn (λ c. c .next .acknowledge) isFinished _) there (next-acknowledge (c .side) n i) in
+      ap (λ (p : Packet). p .sequence) (acted-carried (a .acted) (finishes-carries (datagramGot c .kind) q)) ∙
+      finish-next st q us now (ap (λ (b : Bool). b or allowsTimeouts (st .channel)) (sym (acknowledges-as a)) ∙
+      ap (λ (x : Channel). isAcknowledgement c or allowsTimeouts x) (sym same) ∙ k) ∙ v (us, λ x. omega arith)
+    where
+      accepted : finishes c ≡ true → isAccepted c ≡ true
+      accepted f = ⊎-elim (λ e. and-both e .0) (λ e. and-both e .0) (or-either f)
+
+  pub finished-counted : FinishedCounted (w .start) (w .calls)
+  finished-counted = subst (λ (cs : List Call). (z : Side) (n : ℕ) (c : Channel) →
+      channelAt n (storeIn (storeAfter (isOn z) (w .start z) cs) .channels) ≡ some c → isUnordered c ≡ false →
+      c .state ≡ stateOpen → c .next .acknowledge ≡ suc (howMany (isFinished z n) cs)) (take-length (w .calls))
+      (λ z n c f u o.
+      let v : InTurn c → c .next .acknowledge ≡ suc
+      (howMany (isFinished z n) (take (length (w .calls)) (w .calls))) =
+      subst (Counted w InTurn (λ c. c .next .acknowledge) isFinished _) f
+      (next-acknowledge z n (length (w .calls))) in
+      v (u, λ x. omega arith))
