@@ -6,7 +6,8 @@ use slots::Layout;
 use slots::Record;
 use slots::Timeout;
 use slots::slot::channel_at;
-use tables::ordering::is_ordered;
+use tables::ordering::allows_timeouts;
+use tables::ordering::is_unordered;
 use tables::scan::find_channel;
 use tables::scan::first_record;
 use tables::scan::is_found;
@@ -15,18 +16,18 @@ use wire::is_zero_digest;
 use wire::u32_at;
 use wire::u64_at;
 ghost use mathlib.Core.Path.{_≡_};
-ghost use mathlib.Core.Bool.{not};
 ghost use mathlib.Core.Option.{some};
 ghost use Prim.Native.Nat.{_+_, _≤_};
 ghost use lib.ListN.{length};
-ghost use Rattle.wire.specs.Choice.{_and_};
-ghost use Rattle.wire.specs.Bytes.{part, areZero};
+ghost use Rattle.wire.specs.Choice.{_and_, isSome};
+ghost use Rattle.wire.specs.Bytes.{part};
 ghost use Rattle.slots.specs.Height.{noTimeout, sameTimeout};
+ghost use Rattle.slots.specs.Table.{lookup};
 ghost use Rattle.slots.specs.Layout.{slotSize, sizeFor, channelIn, storeIn};
-ghost use Rattle.slots.specs.Ordering.{isOrdered, isReceived};
-ghost use Rattle.slots.specs.Fit.{channelFits, fitsEnd, recordFits};
+ghost use Rattle.slots.specs.Ordering.{isReceived};
+ghost use Rattle.slots.specs.Fit.{channelFits, saysNothing, fitsEnd, recordFits};
 
-// INIT, TRYOPEN, OPEN or CLOSED, ordered or unordered, counters at least 1, a version with zeros behind it; an INIT end
+// INIT, TRYOPEN, OPEN or CLOSED, a known order, counters at least 1, a version with zeros behind it; an INIT end
 // names no counterparty's channel. The channel record from `at` on, field by field.
 pub fn channel_fits(s: &[u8], at: usize) -> bool
     requires { ⌜ at + slotSize ≤ length (now s) ⌝ }
@@ -35,7 +36,7 @@ pub fn channel_fits(s: &[u8], at: usize) -> bool
     let state = s[at + 2];
     let order = s[at + 3];
     ((Channel::INIT <= state) & (state <= Channel::CLOSED))
-        & ((Channel::ORDERED <= order) & (order <= Channel::UNORDERED))
+        & ((Channel::ORDERED <= order) & (order <= Channel::ALLOW_TIMEOUT))
         & ((1 <= u64_at(s, at + 16)) & (1 <= u64_at(s, at + 24)) & (1 <= u64_at(s, at + 32)))
         & is_padded(s, at + 40)
         & ((state != Channel::INIT) | (u32_at(s, at + 12) == 0))
@@ -47,28 +48,46 @@ fn is_no_timeout(t: Timeout) -> bool
     (t.height == 0) & (t.time == 0)
 }
 
-fn receipt_fits(r: Record, c: Channel) -> bool
-    ensures { λ b. ⌜ b ≡ (not (isOrdered c) and sameTimeout (r .timeout) noTimeout and areZero (r .digest)) ⌝ }
+// Nothing but that it is there: no timeouts, and no digest.
+fn says_nothing(r: Record) -> bool
+    ensures { λ b. ⌜ b ≡ saysNothing r ⌝ }
 {
     let t = r.timeout;
     let d = r.digest;
-    !is_ordered(c) & is_no_timeout(t) & is_zero_digest(d)
+    is_no_timeout(t) & is_zero_digest(d)
 }
 
-// Ordered: the sequence is below next receive. Unordered: its receipt is there, wherever it stands.
-fn is_received(s: &[u8], count: usize, c: Channel, sequence: u64) -> bool
+// A packet record of this kind, wherever it stands.
+fn is_there(s: &[u8], count: usize, kind: u16, c: Channel, sequence: u64) -> bool
     requires { ⌜ length (now s) ≡ sizeFor count ⌝ }
-    ensures { λ r. ⌜ r ≡ isReceived (storeIn (now (s .entry)) .records) c sequence ⌝ }
+    ensures { λ r. ⌜
+        r ≡
+        isSome
+        (lookup (record { kind = kind; channel = c .own .channel; sequence = sequence })
+        (storeIn (now (s .entry)) .records))
+        ⌝ }
 {
-    if is_ordered(c) {
-        return sequence < c.next.receive;
-    }
     let k = Key {
-        kind: Record::RECEIPT,
+        kind: kind,
         channel: c.own.channel,
         sequence: sequence,
     };
     is_found(first_record(s, count, 0, k))
+}
+
+// Unordered: its receipt is there. Else: the sequence is below next receive, and where timeouts are allowed no timeout
+// receipt of it is there.
+fn is_received(s: &[u8], count: usize, c: Channel, sequence: u64) -> bool
+    requires { ⌜ length (now s) ≡ sizeFor count ⌝ }
+    ensures { λ r. ⌜ r ≡ isReceived (storeIn (now (s .entry)) .records) c sequence ⌝ }
+{
+    if is_unordered(c) {
+        return is_there(s, count, Record::RECEIPT, c, sequence);
+    }
+    if allows_timeouts(c) & (sequence < c.next.receive) {
+        return !is_there(s, count, Record::TIMEOUT_RECEIPT, c, sequence);
+    }
+    sequence < c.next.receive
 }
 
 fn acknowledgement_fits(s: &[u8], count: usize, r: Record, c: Channel) -> bool
@@ -81,7 +100,8 @@ fn acknowledgement_fits(s: &[u8], count: usize, r: Record, c: Channel) -> bool
     is_no_timeout(t) & is_received(s, count, c, r.sequence)
 }
 
-// By kind, on the record's own channel end.
+// By kind, on the record's own channel end. A timeout receipt is no arm of its own: the match on four kinds that stand
+// side by side becomes a jump by a table, which slows the check of every record.
 fn fits_end(s: &[u8], count: usize, r: Record, c: Channel) -> bool
     requires { ⌜ length (now s) ≡ sizeFor count ⌝ }
     ensures { λ b. ⌜ b ≡ fitsEnd (storeIn (now (s .entry))) r (some c) ⌝ }
@@ -89,9 +109,14 @@ fn fits_end(s: &[u8], count: usize, r: Record, c: Channel) -> bool
     let kind = r.kind;
     match kind {
         Record::COMMITMENT => r.sequence < c.next.send,
-        Record::RECEIPT => receipt_fits(r, c),
+        Record::RECEIPT => is_unordered(c) & says_nothing(r),
         Record::ACKNOWLEDGEMENT => acknowledgement_fits(s, count, r, c),
-        _ => false,
+        _ => {
+            (kind == Record::TIMEOUT_RECEIPT)
+                & allows_timeouts(c)
+                & (r.sequence < c.next.receive)
+                & says_nothing(r)
+        }
     }
 }
 

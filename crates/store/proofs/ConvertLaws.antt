@@ -8,8 +8,9 @@ use Rattle.wire.proofs.Laws.{and-both, both-and}
 use Rattle.slots.specs.declared.Channel.{Channel}
 use Rattle.slots.specs.declared.Record.{Record}
 use Rattle.slots.specs.declared.Key.{Key}
-use Rattle.slots.specs.Names.{receiptKey, lookup, count, channelAt, Store, recordsFrom, sizeFor}
-use Rattle.slots.specs.Names.{channelBytes, recordBytes, tableBytes, headerBytes, bytesOf, storeIn, isReceived, fitsEnd}
+use Rattle.slots.specs.Names.{receiptKey, timeoutReceiptKey, lookup, count, channelAt, Store, recordsFrom, sizeFor}
+use Rattle.slots.specs.Names.{channelBytes, recordBytes, tableBytes, headerBytes, bytesOf, storeIn}
+use Rattle.slots.specs.Names.{isTaken, isLapsed, isReceived, fitsEnd}
 use Rattle.slots.specs.Names.{recordFits, entriesFit, storeFits, isFit, isFitAnyOrder}
 use Rattle.slots.specs.Effect.{withRecords}
 use Rattle.slots.proofs.TableLaws.{each-map, all-each, each-all}
@@ -28,9 +29,10 @@ use Rattle.store.specs.Convert.{convertTold, convertStore, Converted, Co
 -- A RECORD fits beside records among which the same ones are found
 end-alike : (s t : Store) (r : Record) (x : Option Channel) →
     ((k : Key) → lookup k (s .records) ≡ lookup k (t .records)) → fitsEnd s r x ≡ fitsEnd t r x
-unfolding fitsEnd isReceived
+unfolding fitsEnd isReceived isTaken isLapsed
 end-alike s t r none h = refl
-end-alike s t r (some c) h = rw (h (receiptKey (c .own .channel) (r .sequence)))
+end-alike s t r (some c) h =
+    rw (h (receiptKey (c .own .channel) (r .sequence)), h (timeoutReceiptKey (c .own .channel) (r .sequence)))
 
 -- ALL BYTES before the records, and those of the records
 module _ (s : Store) where
