@@ -1,60 +1,87 @@
-// What depends on a channel's ordering: lines 14 for 5 and 12, 15, 16 for 2, 17, 19, and 20 for 2; whether a counter
-// rises. Beside it only the fitness of acknowledgements depends on it, in entries.
+// What depends on a channel's ordering: lines 11 for 2, 14 for 5 and 12, 15, 16 for 2, 17, 19, and 20 for 2; whether a
+// packet lapses, and which counters rise. Beside it only the fitness of packet records depends on it, in entries, and
+// that a time-out closes an ordered channel, in ends.
 use slots::Channel;
 use slots::Key;
 use slots::Record;
 use tables::halves::has_record;
-use tables::ordering::is_ordered;
+use tables::ordering::allows_timeouts;
+use tables::ordering::is_unordered;
 ghost use mathlib.Core.Path.{_≡_};
-ghost use mathlib.Core.Bool.{true};
-ghost use Rattle.wire.specs.Choice.{pick};
+ghost use Rattle.wire.specs.Choice.{isSome};
+ghost use Rattle.slots.specs.Table.{lookup};
 ghost use Rattle.slots.specs.Layout.{storeIn};
-ghost use Rattle.slots.specs.Ordering.{isOrdered, hasReceipt, isReceived};
+ghost use Rattle.slots.specs.Ordering.{isReceived};
 ghost use Rattle.slots.specs.Scan.{RecordsInOrder};
-ghost use Rattle.rules.specs.Ordering.{receivesInOrder, acknowledgesInOrder, timesOutInOrder, absenceClaim};
-ghost use Rattle.rules.specs.Ordering.{absenceSequence, isReceiptThere, raisesReceive, raisesAcknowledge};
 ghost use Rattle.datagram.specs.Claim.{claimNumber};
-ghost use Rattle.rules.specs.Ordering.{isSendAtTop, isReceiveAtTop, isAcknowledgeAtTop, needsReceipt};
+ghost use Rattle.rules.specs.Ordering.{receivesInOrder, refusesLate, lapses, isReceiptThere, raisesReceive};
+ghost use Rattle.rules.specs.Ordering.{acknowledgesInOrder, raisesAcknowledge, absenceClaim, countsTimeouts};
+ghost use Rattle.rules.specs.Ordering.{timesOutInOrder, isSendAtTop, isReceiveAtTop, isAcknowledgeAtTop};
+ghost use Rattle.rules.specs.Ordering.{isTimeoutAtTop, needsRecord};
 
 const TOP: u64 = 18446744073709551615;
 
-// An ordered channel takes what passes a test; an unordered one takes all.
-fn if_ordered(c: Channel, test: bool) -> bool
-    ensures { λ r. ⌜ r ≡ pick (isOrdered c) test true ⌝ }
-{
-    if is_ordered(c) {
-        return test;
-    }
-    true
-}
+// What a verdict claims of a packet that was not received: its receipt is absent, next receive, or its timeout receipt
+// is there.
+const RECEIPT_ABSENT: u16 = 3;
+
+pub const NEXT_RECEIVE_IS: u16 = 4;
+
+const TIMEOUT_RECEIPT_PRESENT: u16 = 6;
 
 // 15, for 2.
 pub fn receives_in_order(c: Channel, sequence: u64) -> bool
     ensures { λ r. ⌜ r ≡ receivesInOrder c sequence ⌝ }
 {
-    if_ordered(c, sequence == c.next.receive)
+    is_unordered(c) | (sequence == c.next.receive)
 }
 
 // 15, for 4.
 pub fn acknowledges_in_order(c: Channel, sequence: u64) -> bool
     ensures { λ r. ⌜ r ≡ acknowledgesInOrder c sequence ⌝ }
 {
-    if_ordered(c, sequence == c.next.acknowledge)
+    is_unordered(c) | (sequence == c.next.acknowledge)
 }
 
-// 15, for 5 and 12: the next receive that the verdict claims is not above the sequence: the packet was not taken.
-pub fn times_out_in_order(c: Channel, sequence: u64, claimed: u64) -> bool
-    ensures { λ r. ⌜ r ≡ timesOutInOrder c sequence claimed ⌝ }
+// Where timeouts are allowed, the time-outs of an OPEN end are counted with its acknowledgements.
+pub fn counts_timeouts(c: Channel) -> bool
+    ensures { λ r. ⌜ r ≡ countsTimeouts c ⌝ }
 {
-    if_ordered(c, claimed <= sequence)
+    allows_timeouts(c) & (c.state == Channel::OPEN)
 }
 
-fn has_receipt(store: &[u8], count: usize, c: Channel, sequence: u64) -> bool
+// 15, for 5 and 12.
+pub fn times_out_in_order(c: Channel, sequence: u64) -> bool
+    ensures { λ r. ⌜ r ≡ timesOutInOrder c sequence ⌝ }
+{
+    !counts_timeouts(c) | (sequence == c.next.acknowledge)
+}
+
+// 11, for 2: a packet that comes late is refused, but where timeouts are allowed: there it lapses.
+pub fn refuses_late(c: Channel, late: bool) -> bool
+    ensures { λ r. ⌜ r ≡ refusesLate c late ⌝ }
+{
+    !allows_timeouts(c) & late
+}
+
+pub fn lapses(c: Channel, late: bool) -> bool
+    ensures { λ r. ⌜ r ≡ lapses c late ⌝ }
+{
+    allows_timeouts(c) & late
+}
+
+// A packet record of this kind, on the channel.
+fn is_there(store: &[u8], count: usize, kind: u16, c: Channel, sequence: u64) -> bool
     requires { ⌜ RecordsInOrder (now store) count ⌝ }
-    ensures { λ r. ⌜ r ≡ hasReceipt (storeIn (now (store .entry)) .records) c sequence ⌝ }
+    ensures { λ r. ⌜
+        r ≡
+        isSome
+        (lookup (record { kind = kind; channel = c .own .channel; sequence = sequence })
+        (storeIn (now (store .entry)) .records))
+        ⌝ }
 {
     let k = Key {
-        kind: Record::RECEIPT,
+        kind: kind,
         channel: c.own.channel,
         sequence: sequence,
     };
@@ -66,51 +93,50 @@ pub fn is_receipt_there(store: &[u8], count: usize, c: Channel, sequence: u64) -
     requires { ⌜ RecordsInOrder (now store) count ⌝ }
     ensures { λ r. ⌜ r ≡ isReceiptThere (storeIn (now (store .entry)) .records) c sequence ⌝ }
 {
-    if is_ordered(c) {
+    if !is_unordered(c) {
         return false;
     }
-    has_receipt(store, count, c, sequence)
+    is_there(store, count, Record::RECEIPT, c, sequence)
 }
 
-// 17, for 3. Ordered: the sequence is below next receive. Unordered: its receipt is there.
+// 17, for 3. Unordered: its receipt is there. Else: the sequence is below next receive, and where timeouts are allowed
+// no timeout receipt of it is there.
 pub fn is_received(store: &[u8], count: usize, c: Channel, sequence: u64) -> bool
     requires { ⌜ RecordsInOrder (now store) count ⌝ }
     ensures { λ r. ⌜ r ≡ isReceived (storeIn (now (store .entry)) .records) c sequence ⌝ }
 {
-    if is_ordered(c) {
-        return sequence < c.next.receive;
+    if is_unordered(c) {
+        return is_there(store, count, Record::RECEIPT, c, sequence);
     }
-    has_receipt(store, count, c, sequence)
+    if allows_timeouts(c) & (sequence < c.next.receive) {
+        return !is_there(store, count, Record::TIMEOUT_RECEIPT, c, sequence);
+    }
+    sequence < c.next.receive
 }
 
-// Line 14, for 5 and 12: what a verdict has to claim of a packet that was not received, next receive or no receipt.
-pub fn absence_claim(c: Channel) -> u16
-    ensures { λ r. ⌜ r ≡ claimNumber (absenceClaim c) ⌝ }
+// Line 14, for 5 and 12: what a verdict has to claim of a packet that was not received. On close, where timeouts are
+// allowed, the claim that it has says which of two is meant.
+pub fn absence_claim(on_close: bool, c: Channel, claimed: u16) -> u16
+    ensures { λ r. ⌜ r ≡ claimNumber (absenceClaim «on_close» c claimed) ⌝ }
 {
-    if is_ordered(c) {
-        return 4;
+    if is_unordered(c) {
+        return RECEIPT_ABSENT;
     }
-    3
+    if allows_timeouts(c) & (!on_close | (claimed == TIMEOUT_RECEIPT_PRESENT)) {
+        return TIMEOUT_RECEIPT_PRESENT;
+    }
+    NEXT_RECEIVE_IS
 }
 
-pub fn absence_sequence(c: Channel, sequence: u64, claimed: u64) -> u64
-    ensures { λ r. ⌜ r ≡ absenceSequence c sequence claimed ⌝ }
-{
-    if is_ordered(c) {
-        return claimed;
-    }
-    sequence
-}
-
-// On an ordered channel a receive and an acknowledge raise their counter.
+// A receive and an acknowledge raise their counter, except on an unordered channel.
 pub fn raises_counter(c: Channel) -> bool
     ensures { λ r. ⌜ (r ≡ raisesReceive c) × (r ≡ raisesAcknowledge c) ⌝ }
 {
-    is_ordered(c)
+    !is_unordered(c)
 }
 
 // 19: a counter at its top can't be raised. A send (1) raises one on every channel, a receive (2) and an acknowledge
-// (4) on ordered ones.
+// (4) except on unordered ones, a time-out (5, 12) where it is counted.
 pub fn is_send_at_top(c: Channel) -> bool
     ensures { λ r. ⌜ r ≡ isSendAtTop c ⌝ }
 {
@@ -120,24 +146,24 @@ pub fn is_send_at_top(c: Channel) -> bool
 pub fn is_receive_at_top(c: Channel) -> bool
     ensures { λ r. ⌜ r ≡ isReceiveAtTop c ⌝ }
 {
-    if is_ordered(c) {
-        return c.next.receive == TOP;
-    }
-    false
+    raises_counter(c) & (c.next.receive == TOP)
 }
 
 pub fn is_acknowledge_at_top(c: Channel) -> bool
     ensures { λ r. ⌜ r ≡ isAcknowledgeAtTop c ⌝ }
 {
-    if is_ordered(c) {
-        return c.next.acknowledge == TOP;
-    }
-    false
+    raises_counter(c) & (c.next.acknowledge == TOP)
 }
 
-// 20, for 2: a receive writes a receipt where it raises no counter.
-pub fn needs_receipt(c: Channel) -> bool
-    ensures { λ r. ⌜ r ≡ needsReceipt c ⌝ }
+pub fn is_timeout_at_top(c: Channel) -> bool
+    ensures { λ r. ⌜ r ≡ isTimeoutAtTop c ⌝ }
 {
-    !is_ordered(c)
+    counts_timeouts(c) & (c.next.acknowledge == TOP)
+}
+
+// 20, for 2: a receive writes a record where it raises no counter, or the packet lapses.
+pub fn needs_record(c: Channel, late: bool) -> bool
+    ensures { λ r. ⌜ r ≡ needsRecord c late ⌝ }
+{
+    !raises_counter(c) | lapses(c, late)
 }

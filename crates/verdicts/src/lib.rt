@@ -1,19 +1,22 @@
-// Line 14, a verdict against what is needed of it: the number of the part that differs first, 0 where none does.
+// Line 14, a verdict against what is needed of it: the number of the part that differs first, 0 where none does. And of
+// line 15, what a verdict says of the packet's turn.
 use datagram::Packet;
 use datagram::Verdict;
 use heights::no_timeout;
 use heights::same_timeout;
+use ordering::NEXT_RECEIVE_IS;
 use ordering::absence_claim;
-use ordering::absence_sequence;
 use slots::Channel;
 use slots::OtherHeight;
 use slots::PortChannel;
 use slots::Timeout;
 use wire::same_digest;
 ghost use mathlib.Core.Path.{_≡_};
+ghost use Rattle.wire.specs.Choice.{pick};
 ghost use Rattle.datagram.specs.Datagram.{AnyVerdict, blockHeight, blockTime};
 ghost use Rattle.rules.specs.Verdict.{firstDifference, blockDifference};
-ghost use Rattle.rules.specs.Refusals.{commitmentDifference, acknowledgementDifference, absenceDifference};
+ghost use Rattle.rules.specs.Refusals.{commitmentDifference, acknowledgementDifference, claimsNext, absenceDifference};
+ghost use Rattle.rules.specs.Refusals.{claimsTaken};
 
 fn first_difference(
     v: Verdict,
@@ -66,14 +69,31 @@ pub fn acknowledgement_difference(p: Packet, digest: [u8; 32], v: Verdict) -> u8
     first_difference(v, 2, destination, p.sequence, no_timeout(), digest)
 }
 
-// For 5 and 12: at the packet's destination, that it was not received.
-pub fn absence_difference(c: Channel, p: Packet, v: Verdict) -> u8
-    ensures { λ r. ⌜ r ≡ absenceDifference c p v ⌝ }
+// Next receive may be claimed of any sequence; a receipt and a timeout receipt are the packet's own.
+fn absence_sequence(v: Verdict, sequence: u64) -> u64
+    ensures { λ r. ⌜ r ≡ pick (claimsNext v) (v .sequence) sequence ⌝ }
 {
-    let claim = absence_claim(c);
+    if v.claim == NEXT_RECEIVE_IS {
+        return v.sequence;
+    }
+    sequence
+}
+
+// For 5 and, by the other end's close, for 12: at the packet's destination, that it was not received.
+pub fn absence_difference(on_close: bool, c: Channel, p: Packet, v: Verdict) -> u8
+    ensures { λ r. ⌜ r ≡ absenceDifference «on_close» c p v ⌝ }
+{
+    let claim = absence_claim(on_close, c, v.claim);
     let destination = p.destination;
-    let sequence = absence_sequence(c, p.sequence, v.sequence);
+    let sequence = absence_sequence(v, p.sequence);
     first_difference(v, claim, destination, sequence, no_timeout(), [0u8; 32])
+}
+
+// 15, for 5 and 12: the next receive that the verdict claims is above the sequence, so the packet was taken.
+pub fn claims_taken(v: Verdict, sequence: u64) -> bool
+    ensures { λ r. ⌜ r ≡ claimsTaken v sequence ⌝ }
+{
+    (v.claim == NEXT_RECEIVE_IS) & (sequence < v.sequence)
 }
 
 // For 12: 146 where two verdicts, each of a height and a time, are not of one block of the other ledger.

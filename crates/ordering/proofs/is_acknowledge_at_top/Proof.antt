@@ -1,20 +1,13 @@
--- By the ordering. Assumes nothing.
+-- Both tests. Assumes nothing.
 use Rattle.wire.specs.Choice.{_and_}
-use Rattle.rules.specs.Ordering.{isAcknowledgeAtTop, raisesAcknowledge}
 use borrow.Author.Needs.{needs}
+use Rattle.rules.specs.Ordering.{isAcknowledgeAtTop}
 use Rattle.ordering.proofs.is_acknowledge_at_top.Statement.{statement}
 use Rattle.ordering.proofs.is_acknowledge_at_top.Tie as tie
 
 returns : tie.Need-returns
-unfolding isAcknowledgeAtTop raisesAcknowledge _and_
-returns c = rw (← c .before .before .is-ordered .ensures, c .before .if1 .taken)
-
-returns-2 : tie.Need-returns-2
-unfolding isAcknowledgeAtTop raisesAcknowledge _and_
-returns-2 c = rw (← c .before .is-ordered .ensures, c .if1 .left)
+unfolding isAcknowledgeAtTop _and_
+returns c = rw (← c .before .raises-counter .ensures .1)
 
 pub is-acknowledge-at-top-spec : {M : Type 1} → statement M
-is-acknowledge-at-top-spec =
-    tie.close
-    (tie.spec
-    (λ c κs. search needs) returns returns-2)
+is-acknowledge-at-top-spec = tie.close (tie.spec (λ c κs. search needs) returns)

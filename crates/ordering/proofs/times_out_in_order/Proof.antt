@@ -1,12 +1,17 @@
--- By the ordering. Assumes nothing.
+-- Where time-outs are counted. Assumes nothing.
+use lib.Dec.{eqb}
 use borrow.Author.Needs.{needs}
 use Rattle.rules.specs.Ordering.{timesOutInOrder}
+use Rattle.ordering.proofs.PassLaws.{only-if}
 use Rattle.ordering.proofs.times_out_in_order.Statement.{statement}
 use Rattle.ordering.proofs.times_out_in_order.Tie as tie
 
 returns : tie.Need-returns
 unfolding timesOutInOrder
-returns c = c .if-ordered .ensures
+returns c =
+    let a = c .before .before .args in
+    rw (← c .before .counts-timeouts .ensures)
+    (only-if (c .before .counts-timeouts .result) (eqb (a .sequence) (a .c .next .acknowledge)))
 
 pub times-out-in-order-spec : {M : Type 1} → statement M
 times-out-in-order-spec = tie.close (tie.spec (λ c κs. search needs) returns)
