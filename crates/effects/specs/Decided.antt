@@ -4,10 +4,10 @@ use mathlib.Core.Bool.{false}
 use mathlib.Core.Option.{Option, some}
 use Prim.Native.Nat.{ℕ}
 use Rattle.slots.specs.declared.Channel.{Channel}
-use Rattle.datagram.specs.Kind.{Kind, send, receive, acknowledge, openInit, openTry}
+use Rattle.datagram.specs.Kind.{Kind, send, receive, acknowledge, timeOut, openInit, openTry, timeOutOnClose}
 use Rattle.datagram.specs.Datagram.{Datagram}
 use Rattle.emit.specs.Output.{emittedBy}
-use Rattle.rules.specs.Ordering.{isSendAtTop, isReceiveAtTop, isAcknowledgeAtTop}
+use Rattle.rules.specs.Ordering.{isSendAtTop, isReceiveAtTop, isAcknowledgeAtTop, isTimeoutAtTop}
 use Rattle.rules.specs.Acceptance.{EndEdit, leaves, puts, adds, Effect, effect}
 use Rattle.lifecycle.specs.Number.{NumberLeft}
 use Rattle.records.specs.Edited.{editBy}
@@ -31,5 +31,7 @@ pub record Left (k : Option Kind) (next : ℕ) (c : Channel) (d : Datagram) : Ty
   pub sends : k ≡ some send → isSendAtTop c ≡ false
   pub receives : k ≡ some receive → isReceiveAtTop c ≡ false
   pub acknowledges : k ≡ some acknowledge → isAcknowledgeAtTop c ≡ false
+  pub timesOut : k ≡ some timeOut → isTimeoutAtTop c ≡ false
+  pub timesOutOnClose : k ≡ some timeOutOnClose → isTimeoutAtTop c ≡ false
   pub inits : k ≡ some openInit → NumberLeft next d
   pub tries : k ≡ some openTry → NumberLeft next d

@@ -2,6 +2,7 @@
 // packet records, and the record that is emitted. A new kind is a line of `decide`, and one more such function where it
 // is about a packet.
 use datagram::Packet;
+use datagram::read::context_in;
 use datagram::read::digest_in;
 use datagram::read::packet_in;
 use datagram::read::sequence_in;
@@ -9,6 +10,7 @@ use datagram::read::timeout_in;
 use emit::DELIVERED;
 use emit::Emission;
 use emit::Form;
+use emit::LAPSED;
 use emit::SENT;
 use emit::TIMED_OUT;
 use emit::made;
@@ -17,11 +19,13 @@ use ends::acknowledged_end;
 use ends::received_end;
 use ends::sent_end;
 use ends::timed_out_end;
+use heights::is_late_at_receiver;
 use lifecycle::answered_end;
 use lifecycle::closed_end;
 use lifecycle::init_end;
 use lifecycle::opened_end;
 use lifecycle::tried_end;
+use ordering::lapses;
 use records::Action;
 use records::RecordEdit;
 use records::freed_commitment;
@@ -39,7 +43,8 @@ ghost use lib.ListN.{length};
 ghost use Rattle.wire.specs.Choice.{isSome};
 ghost use Rattle.datagram.specs.Kind.{send, receive, write, acknowledge, kindOf, bodyFrom, packetSize, sizeOf};
 ghost use Rattle.datagram.specs.Datagram.{packetIn, packetFrom, sequenceFrom, digestFrom, datagramOf};
-ghost use Rattle.rules.specs.Ordering.{isSendAtTop, isReceiveAtTop, isAcknowledgeAtTop};
+ghost use Rattle.rules.specs.Ordering.{receivedKind, isSendAtTop, isReceiveAtTop, isAcknowledgeAtTop, isTimeoutAtTop};
+ghost use Rattle.rules.specs.Refusals.{comesLate};
 ghost use Rattle.rules.specs.Acceptance.{sentPacket, commitment, sends, receives};
 ghost use Rattle.rules.specs.Acceptance.{writesAcknowledgement, acknowledges, timesOut, makes, moves, effectFor};
 ghost use Rattle.effects.specs.Decided.{effectBy, Left};
@@ -112,19 +117,36 @@ fn decide_send(d: &[u8], c: Channel) -> Decision
     }
 }
 
+// A packet that lapses is not delivered.
+fn received_kind(c: Channel, late: bool) -> u16
+    ensures { λ r. ⌜ r ≡ receivedKind c late ⌝ }
+{
+    if lapses(c, late) {
+        return LAPSED;
+    }
+    DELIVERED
+}
+
 fn decide_receive(d: &[u8], c: Channel) -> Decision
     requires { ⌜ (sizeOf (some receive) ≤ length (now d)) × (isReceiveAtTop c ≡ false) ⌝ }
-    ensures { λ r. ⌜ effectBy r ≡ receives c (packetFrom (some receive) (now (d .entry))) ⌝ }
+    ensures { λ r. ⌜
+        effectBy r ≡
+        receives c (comesLate (datagramOf (some receive) (now (d .entry))))
+        (packetFrom (some receive) (now (d .entry)))
+        ⌝ }
 {
     let packet = packet_in(d);
-    let edit = received_edit(c, packet.sequence);
+    let timeout = packet.timeout;
+    let late = is_late_at_receiver(context_in(d), timeout);
+    let edit = received_edit(c, late, packet.sequence);
     let end = received_end(c);
+    let kind = received_kind(c, late);
     Decision {
         ends: EndAction::Puts,
         end: end,
         edit: edit,
         emission: Emission {
-            form: Form::PacketOnly(DELIVERED),
+            form: Form::PacketOnly(kind),
             packet: packet,
             digest: [0; 32],
         },
@@ -191,7 +213,7 @@ fn decide_acknowledge(d: &[u8], c: Channel) -> Decision
 
 // A time-out, and one on close: the packet stands at the front of the body of both.
 fn decide_time_out(d: &[u8], c: Channel) -> Decision
-    requires { ⌜ bodyFrom + packetSize ≤ length (now d) ⌝ }
+    requires { ⌜ (bodyFrom + packetSize ≤ length (now d)) × (isTimeoutAtTop c ≡ false) ⌝ }
     ensures { λ r. ⌜ effectBy r ≡ timesOut c (packetIn bodyFrom (now (d .entry))) ⌝ }
 {
     let packet = packet_in(d);

@@ -1,5 +1,6 @@
 // The channel end that acceptance of a packet leaves, by the kind of datagram and the channel's ordering.
 use lifecycle::closed_end;
+use ordering::counts_timeouts;
 use ordering::raises_counter;
 use slots::Channel;
 use slots::Counters;
@@ -10,8 +11,8 @@ ghost use Prim.Native.Nat.{_+_};
 ghost use lib.Dec.{eqb};
 ghost use Rattle.wire.specs.Choice.{_and_, pick};
 ghost use Rattle.slots.specs.Limits.{top};
-ghost use Rattle.rules.specs.Ordering.{isSendAtTop, isReceiveAtTop, isAcknowledgeAtTop};
-ghost use Rattle.rules.specs.Ordering.{counted, raisedSend, receivedEnd, acknowledgedEnd, timedOutEnd};
+ghost use Rattle.rules.specs.Ordering.{isSendAtTop, isReceiveAtTop, isAcknowledgeAtTop, isTimeoutAtTop, counted};
+ghost use Rattle.rules.specs.Ordering.{raisedSend, raisedAcknowledge, receivedEnd, acknowledgedEnd, timedOutEnd};
 
 // A counter that rises is below 2^64 - 1: the table's line 19 refused it otherwise.
 fn raised(counter: u64, rises: bool) -> u64
@@ -65,11 +66,12 @@ pub fn received_end(c: Channel) -> Channel
     with_counters(c, next)
 }
 
-pub fn acknowledged_end(c: Channel) -> Channel
-    requires { ⌜ isAcknowledgeAtTop c ≡ false ⌝ }
-    ensures { λ r. ⌜ r ≡ acknowledgedEnd c ⌝ }
+// Next acknowledge rises or stays.
+fn with_acknowledge(c: Channel, rises: bool) -> Channel
+    requires { ⌜ (rises and eqb (c .next .acknowledge) top) ≡ false ⌝ }
+    ensures { λ r. ⌜ r ≡ pick rises (counted c (raisedAcknowledge (c .next))) c ⌝ }
 {
-    let acknowledge = raised(c.next.acknowledge, raises_counter(c));
+    let acknowledge = raised(c.next.acknowledge, rises);
     let next = Counters {
         send: c.next.send,
         receive: c.next.receive,
@@ -78,12 +80,21 @@ pub fn acknowledged_end(c: Channel) -> Channel
     with_counters(c, next)
 }
 
-// An ordered channel becomes CLOSED: no later packet of it can be received in order.
+pub fn acknowledged_end(c: Channel) -> Channel
+    requires { ⌜ isAcknowledgeAtTop c ≡ false ⌝ }
+    ensures { λ r. ⌜ r ≡ acknowledgedEnd c ⌝ }
+{
+    with_acknowledge(c, raises_counter(c))
+}
+
+// An ordered channel becomes CLOSED: no later packet of it can be received in order. Where timeouts are allowed the
+// state stays, and next acknowledge rises where it counts them.
 pub fn timed_out_end(c: Channel) -> Channel
+    requires { ⌜ isTimeoutAtTop c ≡ false ⌝ }
     ensures { λ r. ⌜ r ≡ timedOutEnd c ⌝ }
 {
     if is_ordered(c) {
         return closed_end(c);
     }
-    c
+    with_acknowledge(c, counts_timeouts(c))
 }

@@ -1,6 +1,7 @@
 // What acceptance does to the packet records. Which edit it is, is decided by value; one function carries it out.
 use changes::insert_record;
 use changes::remove_record;
+use ordering::lapses;
 use ordering::raises_counter;
 use slots::Channel;
 use slots::Found;
@@ -12,12 +13,13 @@ use tables::halves::find_record;
 use tables::halves::place_of;
 ghost use mathlib.Core.Path.{_≡_};
 ghost use mathlib.Core.Bool.{true};
+ghost use Rattle.wire.specs.Bytes.{noDigest};
 ghost use Rattle.slots.specs.Table.{commitmentKey, inOrder, keyOf, precedes};
 ghost use Rattle.slots.specs.Layout.{bytesOf, storeIn};
 ghost use Rattle.slots.specs.Scan.{RecordsInOrder};
 ghost use Rattle.slots.specs.Effect.{Exact};
 ghost use Rattle.slots.specs.Fit.{isFit};
-ghost use Rattle.rules.specs.Ordering.{keeps, frees, plainRecord, receivedEdit};
+ghost use Rattle.rules.specs.Ordering.{keeps, writes, frees, plainRecord, receivedEdit};
 ghost use Rattle.records.specs.Edited.{withEdit, editBy, slotFor, slotOf};
 
 pub enum Action {
@@ -55,21 +57,27 @@ pub fn no_edit() -> RecordEdit
     }
 }
 
-// A receipt is needed only where no counter tells what was received.
-pub fn received_edit(c: Channel, sequence: u64) -> RecordEdit
-    ensures { λ r. ⌜ editBy r ≡ receivedEdit c sequence ⌝ }
+// A record with no timeouts and no digest is written.
+fn written(kind: u16, c: Channel, sequence: u64) -> RecordEdit
+    ensures { λ r. ⌜ editBy r ≡ writes (plainRecord kind (c .own .channel) sequence noDigest) ⌝ }
 {
-    let receipt = plain_record(Record::RECEIPT, c.own.channel, sequence, [0; 32]);
-    if raises_counter(c) {
-        return RecordEdit {
-            action: Action::Keeps,
-            about: receipt,
-        };
-    }
     RecordEdit {
         action: Action::Writes,
-        about: receipt,
+        about: plain_record(kind, c.own.channel, sequence, [0; 32]),
     }
+}
+
+// A timeout receipt tells that a packet lapsed. A receipt is needed only where no counter tells what was received.
+pub fn received_edit(c: Channel, late: bool, sequence: u64) -> RecordEdit
+    ensures { λ r. ⌜ editBy r ≡ receivedEdit c late sequence ⌝ }
+{
+    if lapses(c, late) {
+        return written(Record::TIMEOUT_RECEIPT, c, sequence);
+    }
+    if raises_counter(c) {
+        return no_edit();
+    }
+    written(Record::RECEIPT, c, sequence)
 }
 
 // The commitment of this sequence becomes free.

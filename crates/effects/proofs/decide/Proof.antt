@@ -1,5 +1,6 @@
 -- By the kind. Assumes nothing.
 use mathlib.Core.Path.{_≡_, refl, ap, _∙_}
+use mathlib.Core.Bool.{false}
 use mathlib.Core.List.{List, [], _∷_}
 use Prim.Native.Nat.{ℕ, _+_, _≤_}
 use native.Mathlib.Omega.{arith}
@@ -10,13 +11,21 @@ use Rattle.wire.proofs.Laws.{clash}
 use Rattle.datagram.specs.Kind.{kindOf, bodyFrom, packetSize, body, partsSize, sizeBefore, sizeOf}
 use Rattle.datagram.specs.Datagram.{packetFrom, datagramOf}
 use Rattle.datagram.proofs.MatchLaws.{by-key, by-kind}
+use Rattle.rules.specs.Ordering.{isTimeoutAtTop}
 use Rattle.rules.specs.Acceptance.{Effect, makes, moves, effectOf, effectFor}
+use Rattle.effects.specs.Decided.{Left}
 use Rattle.effects.proofs.decide.Statement.{statement}
 use Rattle.effects.proofs.decide.Tie as tie
 
 -- an effect is that of a number's kind
 abbrev Does : tie.Start → Effect → (kind : ℕ) → Type 0
 Does o e n = e ≡ effectFor (kindOf n) (o .args .next) (o .args .c) (datagramOf (kindOf n) (now (o .args .d)))
+
+-- what is left for a number's kind says that the counter of time-outs is below its top
+abbrev Below : tie.Start → (kind : ℕ) → Type 0
+Below o n =
+    let a = o .args in
+    Left (kindOf n) (a .next) (a .c) (datagramOf (kindOf n) (now (a .d))) → isTimeoutAtTop (a .c) ≡ false
 
 -- both time-outs have the packet at the front of their body
 decide-time-out-requires : tie.Need-decide-time-out-requires
@@ -25,7 +34,9 @@ decide-time-out-requires c κs =
     let o = c .before .before in
     let room = by-key (λ (n : ℕ). bodyFrom + packetSize ≤ sizeOf (kindOf n)) (5 ∷ 12 ∷ []) (omega arith) (omega arith)
     (o .args .kind) (c .match .keys5) in
-    omega (arith, room, o .pre .1)
+    let below = by-key (Below o) (5 ∷ 12 ∷ []) (λ l. l .timesOut refl) (λ l. l .timesOutOnClose refl)
+    (o .args .kind) (c .match .keys5) in
+    (omega (arith, room, o .pre .1), below (o .pre .2))
 
 returns-5 : tie.Need-returns-5
 unfolding withNumber effectFor effectOf packetFrom body sizeBefore
