@@ -19,7 +19,7 @@ use Rattle.rules.specs.Names.{firstGiven, table, refusals, orNone, endFor, Effe
 use Rattle.rules.specs.Names.{receives, writesAcknowledgement, acknowledges, timesOut, makes, moves, effectOf}
 use Rattle.rules.specs.Names.{effectFor, placed, numberAfter, answerTo, effectIn}
 use Rattle.rules.proofs.RefusalLaws.{givenAt, silent, not-given}
-use Rattle.rules.proofs.Accepted.{send-ok, receive-ok, acknowledge-ok, init-ok, try-ok}
+use Rattle.rules.proofs.Accepted.{send-ok, receive-ok, acknowledge-ok, timeout-ok, timeout-on-close-ok, init-ok, try-ok}
 use Rattle.effects.specs.declared.EndAction.{EndAction}
 use Rattle.effects.specs.declared.EndAction.the-variants.{Leaves, Puts, Adds}
 use Rattle.effects.specs.Decided.{endEditOf, Left}
@@ -41,6 +41,9 @@ module _ (s o d : List ℕ) (accepted : answerTo s o d ≡ 0) where
         sends = λ q. send-ok s (length o) d (storeIn s) (datagramIn d) channel (of-kind q) .below;
         receives = λ q. receive-ok s (length o) d (storeIn s) (datagramIn d) channel (of-kind q) .below;
         acknowledges = λ q. acknowledge-ok s (length o) d (storeIn s) (datagramIn d) channel (of-kind q) .below;
+        timesOut = λ q. timeout-ok s (length o) d (storeIn s) (datagramIn d) channel (of-kind q) .below;
+        timesOutOnClose = λ q.
+            timeout-on-close-ok s (length o) d (storeIn s) (datagramIn d) channel q (of-kind q) .below;
         inits = λ q.
             let m = init-ok s (length o) d (storeIn s) (datagramIn d) channel (of-kind q) in
             (m .number, m .version);

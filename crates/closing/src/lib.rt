@@ -8,10 +8,10 @@ use datagram::Verdict;
 use handshake::end_difference;
 use handshake::has_version;
 use handshake::needed_peer;
-use ordering::times_out_in_order;
 use packets::fits_source;
 use packets::is_committed;
 use packets::lacks_connection;
+use rows::timed_out_row;
 use slots::Channel;
 use steps::moving_row;
 use verdicts::absence_difference;
@@ -79,8 +79,8 @@ pub fn time_out_on_close_row(
     closed_row(p, v, w, c)
 }
 
-// Lines 14, 15 and 27 of a time-out on close: the counterparty is CLOSED, and the packet was not received, both at one
-// block.
+// Lines 14, 15, 19 and 27 of a time-out on close: the counterparty is CLOSED, and the packet was not received, both at
+// one block.
 fn closed_row(p: Packet, v: EndVerdict, w: Verdict, c: Channel) -> u8
     ensures { λ r. ⌜
         ((s : Store) (d : Datagram) → d .packet ≡ p → d .endVerdict ≡ v → d .verdict ≡ w →
@@ -92,7 +92,7 @@ fn closed_row(p: Packet, v: EndVerdict, w: Verdict, c: Channel) -> u8
     if end != 0 {
         return end;
     }
-    let absence = absence_difference(c, p, w);
+    let absence = absence_difference(true, c, p, w);
     if absence != 0 {
         return absence;
     }
@@ -100,8 +100,9 @@ fn closed_row(p: Packet, v: EndVerdict, w: Verdict, c: Channel) -> u8
     if block != 0 {
         return block;
     }
-    if !times_out_in_order(c, p.sequence, w.sequence) {
-        return 15;
+    let number = timed_out_row(p, w, c);
+    if number != 0 {
+        return number;
     }
     if !has_version(v, needed) {
         return 27;

@@ -14,8 +14,10 @@ use ordering::is_receipt_there;
 use ordering::is_receive_at_top;
 use ordering::is_received;
 use ordering::is_send_at_top;
-use ordering::needs_receipt;
+use ordering::is_timeout_at_top;
+use ordering::needs_record;
 use ordering::receives_in_order;
+use ordering::refuses_late;
 use ordering::times_out_in_order;
 use packets::fits_destination;
 use packets::fits_source;
@@ -29,6 +31,7 @@ use slots::Timeout;
 use tables::halves::has_record;
 use verdicts::absence_difference;
 use verdicts::acknowledgement_difference;
+use verdicts::claims_taken;
 use verdicts::commitment_difference;
 use wire::is_zero_digest;
 ghost use mathlib.Core.Path.{_≡_};
@@ -40,7 +43,8 @@ ghost use Rattle.slots.specs.Layout.{Store, storeIn};
 ghost use Rattle.slots.specs.Scan.{RecordsInOrder};
 ghost use Rattle.datagram.specs.Kind.{send, receive, write, acknowledge, timeOut};
 ghost use Rattle.datagram.specs.Datagram.{Datagram};
-ghost use Rattle.rules.specs.Ordering.{needsReceipt};
+ghost use Rattle.rules.specs.Ordering.{needsRecord};
+ghost use Rattle.rules.specs.Refusals.{comesLate};
 ghost use Rattle.verdicts.specs.Lines.{numberBehind};
 
 // Send (1): lines 10, 11, 19 and 20.
@@ -81,32 +85,33 @@ pub fn receive_row(store: &[u8], count: usize, x: Context, p: Packet, v: Verdict
         return 9;
     }
     let timeout = p.timeout;
-    if is_late_at_receiver(x, timeout) {
+    let late = is_late_at_receiver(x, timeout);
+    if refuses_late(c, late) {
         return 11;
     }
     let number = commitment_difference(p, v);
     if number != 0 {
         return number;
     }
-    delivery_row(store, count, p, c)
+    delivery_row(store, count, p, late, c)
 }
 
-// 20, for 2: a receipt is needed, and there is no room for it.
-fn lacks_record(store: &[u8], count: usize, c: Channel) -> bool
+// 20, for 2: a record is needed, and there is no room for it.
+fn lacks_record(store: &[u8], count: usize, c: Channel, late: bool) -> bool
     requires { ⌜ RecordsInOrder (now store) count ⌝ }
-    ensures { λ r. ⌜ r ≡ (needsReceipt c and not (hasFree (storeIn (now (store .entry)) .records))) ⌝ }
+    ensures { λ r. ⌜ r ≡ (needsRecord c late and not (hasFree (storeIn (now (store .entry)) .records))) ⌝ }
 {
-    if !needs_receipt(c) {
+    if !needs_record(c, late) {
         return false;
     }
     !has_free(store, count)
 }
 
 // Lines 15, 16, 19 and 20 of a receive: behind the verdict, what the channel end and the packet records say.
-fn delivery_row(store: &[u8], count: usize, p: Packet, c: Channel) -> u8
+fn delivery_row(store: &[u8], count: usize, p: Packet, late: bool, c: Channel) -> u8
     requires { ⌜ RecordsInOrder (now store) count ⌝ }
     ensures { λ r. ⌜
-        ((d : Datagram) → d .packet ≡ p →
+        ((d : Datagram) → d .packet ≡ p → comesLate d ≡ late →
         r ≡ numberBehind 14 (some receive) (storeIn (now (store .entry))) d c)
         ⌝ }
 {
@@ -119,7 +124,7 @@ fn delivery_row(store: &[u8], count: usize, p: Packet, c: Channel) -> u8
     if is_receive_at_top(c) {
         return 19;
     }
-    if lacks_record(store, count, c) {
+    if lacks_record(store, count, c, late) {
         return 20;
     }
     0
@@ -198,7 +203,7 @@ fn acknowledgement_row(p: Packet, c: Channel) -> u8
     0
 }
 
-// Time out (5): lines 9, 12, 13, 14 and 15.
+// Time out (5): lines 9, 12, 13 and 14, then those of `timed_out_row`.
 pub fn time_out_row(store: &[u8], count: usize, p: Packet, v: Verdict, c: Channel) -> u8
     requires { ⌜ RecordsInOrder (now store) count ⌝ }
     ensures { λ r. ⌜
@@ -216,12 +221,28 @@ pub fn time_out_row(store: &[u8], count: usize, p: Packet, v: Verdict, c: Channe
     if !is_committed(store, count, p) {
         return 13;
     }
-    let number = absence_difference(c, p, v);
+    let number = absence_difference(false, c, p, v);
     if number != 0 {
         return number;
     }
-    if !times_out_in_order(c, p.sequence, v.sequence) {
+    timed_out_row(p, v, c)
+}
+
+// Lines 15 and 19 of a time-out, and of one on close (12), which has these before its last: behind the verdict, whether
+// it shows that the packet was taken, and what the channel end says.
+pub fn timed_out_row(p: Packet, v: Verdict, c: Channel) -> u8
+    ensures { λ r. ⌜
+        ((s : Store) (d : Datagram) → d .packet ≡ p → d .verdict ≡ v → r ≡ numberBehind 14 (some timeOut) s d c)
+        ⌝ }
+{
+    if claims_taken(v, p.sequence) {
         return 15;
+    }
+    if !times_out_in_order(c, p.sequence) {
+        return 15;
+    }
+    if is_timeout_at_top(c) {
+        return 19;
     }
     0
 }

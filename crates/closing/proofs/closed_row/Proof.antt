@@ -1,16 +1,20 @@
 -- The lines of a time-out on close from its verdicts on, one after another. Assumes nothing.
 use mathlib.Core.Path.{_≡_, refl, sym, ap, _∙_}
+use mathlib.Core.Bool.{Bool, true, false, not}
 use mathlib.Core.Option.{some}
 use Prim.Native.Nat.{ℕ}
+use lib.Dec.{eqb}
 use borrow.Author.Needs.{needs}
-use Rattle.wire.specs.Choice.{_or_}
+use Rattle.wire.specs.Choice.{_or_, pick}
+use Rattle.slots.specs.declared.Channel.{Channel}
 use Rattle.slots.specs.Codes.{stateClosed}
 use Rattle.slots.specs.Layout.{Store}
-use Rattle.datagram.specs.Kind.{only, timeOutOnClose}
+use Rattle.datagram.specs.Kind.{only, timeOut, timeOutOnClose}
 use Rattle.datagram.specs.Datagram.{Datagram, onPacket, onEnd}
 use Rattle.rules.specs.Verdict.{firstEndDifference, blockDifference, hasVersion}
+use Rattle.rules.specs.Ordering.{timesOutInOrder, isTimeoutAtTop}
 use Rattle.rules.specs.Handshake.{neededPeer}
-use Rattle.rules.specs.Refusals.{firstGiven, table}
+use Rattle.rules.specs.Refusals.{claimsTaken, firstGiven, table}
 use Rattle.verdicts.specs.Lines.{behind, numberBehind}
 use Rattle.verdicts.proofs.TestedLaws.{holds, fails, is-zero, is-not-zero}
 use Rattle.closing.proofs.closed_row.Statement.{statement}
@@ -84,18 +88,39 @@ past-14 e s d h =
       is-zero (block-number (e .before)) (e .if3 .left),
     )
 
-returns-4 : tie.Need-returns-4
-unfolding numberBehind behind table firstGiven only _or_
-returns-4 c =
-    λ s d p v w. sym (past-14 (c .before .before) s d (p, v, w) ∙
-    rw (p, w, fails (c .before .times-out-in-order .ensures) (c .if4 .taken)))
+-- THE LINES BEHIND: those of a time-out, and then the last
+abbrev firstOf : (a b c : Bool) → (last : ℕ) → ℕ
+firstOf a b c n =
+    pick (eqb (pick a 15 0) 0)
+    (pick (eqb (pick b 15 0) 0) (pick (eqb (pick c 19 0) 0) n (pick c 19 0)) (pick b 15 0)) (pick a 15 0)
 
-past-15 : (e : tie.Else4) →
-    Left 15 (e .before .before .before .before .before .before .before .before .before)
+by-last : (a b c : Bool) (n : ℕ) → firstOf a b c n ≡ pick (eqb (firstOf a b c 0) 0) n (firstOf a b c 0)
+by-last true b c n = refl
+by-last false true c n = refl
+by-last false false true n = refl
+by-last false false false n = refl
+
+as-timed-out : (s : Store) (d : Datagram) (c : Channel) →
+    numberBehind 14 (some timeOutOnClose) s d c ≡
+    pick (eqb (numberBehind 14 (some timeOut) s d c) 0) (numberBehind 19 (some timeOutOnClose) s d c)
+    (numberBehind 14 (some timeOut) s d c)
 unfolding numberBehind behind table firstGiven only _or_
-past-15 e s d h =
-    past-14 (e .before .before) s d h ∙
-    rw (h .0, h .2, holds (e .before .times-out-in-order .ensures) (e .if4 .left))
+as-timed-out s d c =
+    by-last (claimsTaken (d .verdict) (d .packet .sequence)) (not (timesOutInOrder c (d .packet .sequence)))
+    (isTimeoutAtTop c) (numberBehind 19 (some timeOutOnClose) s d c)
+
+returns-4 : tie.Need-returns-4
+returns-4 c =
+    let e = c .before .before in
+    λ s d p v w.
+    let n = c .before .timed-out-row .ensures s d p w in
+    sym (past-14 e s d (p, v, w) ∙ as-timed-out s d _ ∙ rw (is-not-zero n (c .if4 .taken)) (sym n))
+
+past-19 : (e : tie.Else4) →
+    Left 19 (e .before .before .before .before .before .before .before .before .before)
+past-19 e s d h =
+    let n = e .before .timed-out-row .ensures s d (h .0) (h .2) in
+    past-14 (e .before .before) s d h ∙ as-timed-out s d _ ∙ rw (is-zero n (e .if4 .left))
 
 version : (k : tie.After-has-version) →
     let needed = k .before .before .before .before .before .before .before .before .before in
@@ -108,13 +133,13 @@ version k =
 returns-5 : tie.Need-returns-5
 unfolding numberBehind behind table firstGiven only _or_
 returns-5 c =
-    λ s d p v w. sym (past-15 (c .before .before) s d (p, v, w) ∙
+    λ s d p v w. sym (past-19 (c .before .before) s d (p, v, w) ∙
     rw (v, fails (version (c .before)) (c .if5 .taken)))
 
 returns-6 : tie.Need-returns-6
 unfolding numberBehind behind table firstGiven only _or_
 returns-6 c =
-    λ s d p v w. sym (past-15 (c .before .before) s d (p, v, w) ∙
+    λ s d p v w. sym (past-19 (c .before .before) s d (p, v, w) ∙
     rw (v, holds (version (c .before)) (c .if5 .left)))
 
 pub closed-row-spec : {M : Type 1} → statement M

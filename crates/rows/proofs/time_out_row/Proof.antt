@@ -65,24 +65,13 @@ past-14 e d p v =
     past-13 (e .before .before) d p v ∙ rw (p, v, is-zero (e .before .absence-difference .ensures) (e .if4 .left))
 
 returns-5 : tie.Need-returns-5
-unfolding numberBehind behind table firstGiven only _or_
 returns-5 c =
-    λ d p v. sym (past-14 (c .before .before) d p v ∙
-    rw (p, v, fails (c .before .times-out-in-order .ensures) (c .if5 .taken)))
-
-past-15 : (e : tie.Else5) →
-    Left 15 (e .before .before .before .before .before .before .before .before .before .before .before .before)
-unfolding numberBehind behind table firstGiven only _or_
-past-15 e d p v =
-    past-14 (e .before .before) d p v ∙ rw (p, v, holds (e .before .times-out-in-order .ensures) (e .if5 .left))
-
-returns-6 : tie.Need-returns-6
-unfolding numberBehind behind table firstGiven only _or_
-returns-6 c = λ d p v. sym (past-15 c d p v)
+    let o = c .before .before .before .before .before .before .before .before .before .before .before in
+    λ d p v. c .timed-out-row .ensures (storeIn (now (o .args .store))) d p v ∙ sym (past-14 (c .before) d p v)
 
 pub time-out-row-spec : {M : Type 1} → statement M
 time-out-row-spec =
     tie.close
     (tie.spec
     (λ c κs. search needs) returns (λ c κs. search needs) returns-2 (λ c κs. search needs) returns-3
-    (λ c κs. search needs) returns-4 (λ c κs. search needs) returns-5 returns-6)
+    (λ c κs. search needs) returns-4 (λ c κs. search needs) returns-5)
