@@ -34,6 +34,16 @@ pub fn compare(subject: &Subject, calls: u64, seed: u64) -> Report {
     report
 }
 
+/// The first of that many random calls that differs, by its index.
+pub fn first_different(subject: &Subject, calls: u64, seed: u64) -> Option<u64> {
+    let mut generator = Generator::new(seed);
+    let mut report = Report::default();
+    (0..calls).find(|index| {
+        compare_call(subject, &generator.next_call(), *index, &mut report);
+        report.different_calls > 0
+    })
+}
+
 fn compare_call(subject: &Subject, call: &Call, index: u64, report: &mut Report) {
     let shift = (index % 16) as usize;
     let (expected, given) = match &call.task {

@@ -1,9 +1,11 @@
 //! How often each answer came for each kind of datagram, and which cells were reached.
 
+mod allow_timeout;
 pub mod cell;
 mod closing;
 mod converter;
 mod place;
+mod possible;
 mod standing;
 mod step;
 
@@ -11,11 +13,12 @@ use std::collections::BTreeMap;
 use std::fmt;
 
 use crate::bytes::get_u16;
-use crate::datagram::{read, Body, Datagram};
+use crate::datagram::{read, Body, Datagram, ALL_KINDS};
+use crate::generate::shape::channels;
 use crate::generate::{although, Call, Origin, Row, Task};
 use crate::places::frame;
 use crate::refusal::*;
-use crate::store::{find_channel, next_channel, Channel, ORDERED};
+use crate::store::{find_channel, next_channel, Channel};
 use crate::subject::Left;
 use crate::table::own_channel;
 use cell::{Cell, KINDS, SORTS};
@@ -63,7 +66,7 @@ fn in_table(column: usize, number: u8) -> bool {
         OTHER => (STORE_NOT_FIT..=MALFORMED).contains(&number),
         CONVERTER => number <= STORE_NOT_FIT,
         MAKER => number == 0 || (STORE_LENGTH_UNFIT..=CHANNEL_TWICE).contains(&number),
-        _ => cell::answers(column as u16 + 1).contains(&number),
+        _ => possible::answers(column as u16 + 1).contains(&number),
     }
 }
 
@@ -106,6 +109,7 @@ impl Coverage {
                 self.reach(Cell::Maker(number));
                 if number == 0 {
                     self.reach(Cell::Next(next_channel(&left.store)));
+                    channels(&left.store).iter().for_each(|(_, end)| self.reach(Cell::Opened(end.order)));
                 }
             }
         }
@@ -136,12 +140,12 @@ impl Coverage {
 
     /// The cells that can be reached and were not.
     pub fn unmet(&self) -> Vec<Cell> {
-        cell::possible().into_iter().filter(|cell| !self.cells.contains_key(cell)).collect()
+        possible::possible().into_iter().filter(|cell| !self.cells.contains_key(cell)).collect()
     }
 
     /// Cells reached and cells possible, of this sort, and the rarest one that was reached.
     fn of_sort(&self, sort: usize) -> (usize, usize, Option<(Cell, u64)>) {
-        let possible: Vec<Cell> = cell::possible().into_iter().filter(|cell| cell.sort() == sort).collect();
+        let possible: Vec<Cell> = possible::possible().into_iter().filter(|cell| cell.sort() == sort).collect();
         let reached = possible.iter().filter_map(|cell| Some((*cell, *self.cells.get(cell)?)));
         (reached.clone().count(), possible.len(), reached.min_by_key(|(_, count)| *count))
     }
@@ -170,9 +174,10 @@ fn cells_of_store(store: &[u8], bytes: &[u8], applying: &[Line]) -> Vec<Cell> {
             Body::OpenInit { order, .. } | Body::OpenTry { order, .. } => Some(order),
             _ => end.map(|end| end.order),
         };
-        let row = Row { kind, ordered: order == Some(ORDERED) };
+        let row = Row { kind, order: order.unwrap_or_default() };
         cells.push(Cell::Accepted(row));
         let sequence = match &datagram.body {
+            Body::Acknowledge { packet, .. } => packet.sequence,
             Body::TimeOut { packet, .. } | Body::TimeOutOnClose { packet, .. } => packet.sequence,
             _ => 0,
         };
@@ -181,18 +186,19 @@ fn cells_of_store(store: &[u8], bytes: &[u8], applying: &[Line]) -> Vec<Cell> {
     }
     cells.extend(end.and_then(|end| cell_of_end(kind, &end, &datagram, applying)));
     cells.extend(end.filter(|_| applying.is_empty()).and_then(|end| closing::reached(&end, &datagram)));
+    cells.extend(end.iter().flat_map(|end| allow_timeout::reached(end, &datagram, applying)));
     cells
 }
 
 /// The cell of a time-out that is accepted, and of a refusal that applies alone on an end in another state than the
 /// one that the kind is for.
 fn cell_of_end(kind: u16, end: &Channel, datagram: &Datagram, applying: &[Line]) -> Option<Cell> {
-    let (row, state) = (Row { kind, ordered: end.is_ordered() }, end.state);
+    let (row, state) = (Row { kind, order: end.order }, end.state);
     match (applying, &datagram.body) {
         ([], Body::TimeOut { packet, verdict } | Body::TimeOutOnClose { packet, verdict, .. }) => {
-            Some(Cell::TimedOut { row, state, below: verdict.sequence < packet.sequence })
+            Some(Cell::TimedOut { row, claim: verdict.claim, state, below: verdict.sequence < packet.sequence })
         }
-        ([line], _) if cell::state_for(kind) != Some(state) => Some(Cell::InState(row, state, *line)),
+        ([line], _) if possible::state_for(kind) != Some(state) => Some(Cell::InState(row, state, *line)),
         _ => None,
     }
 }
@@ -211,7 +217,7 @@ impl fmt::Display for Coverage {
     fn fmt(&self, out: &mut fmt::Formatter) -> fmt::Result {
         writeln!(out, "Answers by kind of datagram\n{}", self.answers)?;
         writeln!(out, "Refusals that applied alone, once for each part of a verdict, and pairs that applied together")?;
-        for row in cell::rows() {
+        for row in Row::all() {
             let counts: Vec<String> =
                 self.alone(row).map(|(line, count)| format!("{}:{count}", line.number())).collect();
             let of_row = |cell: &&Cell| matches!(cell, Cell::Pair(of, ..) if *of == row);
@@ -219,9 +225,10 @@ impl fmt::Display for Coverage {
             writeln!(out, "{:>20}  {}; {pairs} pairs", row.to_string(), counts.join(" "))?;
         }
         writeln!(out, "\nCoverage")?;
-        for kind in cell::kinds() {
-            let (met, unmet): (Vec<u8>, Vec<u8>) =
-                cell::answers(kind).iter().partition(|number| self.cells.contains_key(&Cell::Answer(kind, **number)));
+        for kind in ALL_KINDS {
+            let (met, unmet): (Vec<u8>, Vec<u8>) = possible::answers(kind)
+                .iter()
+                .partition(|number| self.cells.contains_key(&Cell::Answer(kind, **number)));
             let missed = if unmet.is_empty() { "all of its row".to_string() } else { format!("NOT {}", list(&unmet)) };
             writeln!(out, "{:>20}  meets {}: {missed}", cell::name(kind), list(&met))?;
         }
@@ -230,7 +237,7 @@ impl fmt::Display for Coverage {
             let rarest = rarest.map_or(String::new(), |(cell, count)| format!(", the rarest {count} times ({cell})"));
             writeln!(out, "{name:>20}  {reached} of {possible}{rarest}")?;
         }
-        for (cell, reason) in cell::impossible() {
+        for (cell, reason) in possible::impossible() {
             writeln!(out, "{:>20}  {cell}, as {reason}", "cannot be met")?;
         }
         Ok(())

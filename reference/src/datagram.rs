@@ -5,7 +5,7 @@ use crate::places::{
     close_init, confirm, context, frame, open_acknowledge, open_init, open_try, packet, send, time_out_on_close,
     verdict, write,
 };
-use crate::store::{ORDERED, UNORDERED};
+use crate::store::ORDERS;
 use crate::verdict::{EndVerdict, Verdict};
 
 pub const SEND: u16 = 1;
@@ -26,6 +26,20 @@ pub const TIME_OUT_ON_CLOSE: u16 = 12;
 pub const PACKET_KINDS: [u16; 5] = [SEND, RECEIVE, WRITE, ACKNOWLEDGE, TIME_OUT];
 pub const HANDSHAKE_KINDS: [u16; 4] = [OPEN_INIT, OPEN_TRY, OPEN_ACKNOWLEDGE, OPEN_CONFIRM];
 pub const CLOSING_KINDS: [u16; 3] = [CLOSE_INIT, CLOSE_CONFIRM, TIME_OUT_ON_CLOSE];
+pub const ALL_KINDS: [u16; 12] = [
+    SEND,
+    RECEIVE,
+    WRITE,
+    ACKNOWLEDGE,
+    TIME_OUT,
+    OPEN_INIT,
+    OPEN_TRY,
+    OPEN_ACKNOWLEDGE,
+    OPEN_CONFIRM,
+    CLOSE_INIT,
+    CLOSE_CONFIRM,
+    TIME_OUT_ON_CLOSE,
+];
 
 /// What the host says about the moment of the call.
 #[derive(Clone, Copy, Debug, PartialEq, Eq)]
@@ -201,7 +215,7 @@ fn read_step(kind: u16, bytes: &[u8]) -> Option<Body<'_>> {
 }
 
 fn known_order(order: u8) -> Option<u8> {
-    matches!(order, ORDERED | UNORDERED).then_some(order)
+    ORDERS.contains(&order).then_some(order)
 }
 
 fn read_write(bytes: &[u8]) -> Option<Body<'_>> {

@@ -10,16 +10,30 @@ const DELIVERED: u16 = 0x0102;
 const WRITTEN: u16 = 0x0103;
 const ACKNOWLEDGED: u16 = 0x0104;
 const TIMED_OUT: u16 = 0x0105;
+const LAPSED: u16 = 0x0106;
 const END_MADE: u16 = 0x0107;
 
 #[derive(Clone, Copy, Debug)]
 pub enum Emitted {
     Sent(Packet),
     Delivered(Packet),
-    Written { port: u16, channel: u32, sequence: u64, digest: Digest },
-    Acknowledged { packet: Packet, acknowledgement: Digest },
+    Written {
+        port: u16,
+        channel: u32,
+        sequence: u64,
+        digest: Digest,
+    },
+    Acknowledged {
+        packet: Packet,
+        acknowledgement: Digest,
+    },
     TimedOut(Packet),
-    EndMade { port: u16, channel: u32 },
+    /// Its timeout receipt was written.
+    Lapsed(Packet),
+    EndMade {
+        port: u16,
+        channel: u32,
+    },
 }
 
 impl Emitted {
@@ -30,6 +44,7 @@ impl Emitted {
             Emitted::Sent(packet) => (SENT, write_packet(packet, body)),
             Emitted::Delivered(packet) => (DELIVERED, write_packet(packet, body)),
             Emitted::TimedOut(packet) => (TIMED_OUT, write_packet(packet, body)),
+            Emitted::Lapsed(packet) => (LAPSED, write_packet(packet, body)),
             Emitted::Written { port, channel, sequence, digest } => {
                 put_u16(body, 0, *port);
                 put_u32(body, 2, *channel);
@@ -77,7 +92,7 @@ pub struct Effect {
     pub end: (usize, Channel),
     /// The next channel number as it is afterwards, where an end was made.
     pub next_channel: Option<u64>,
-    /// Receiving on an ordered channel touches no packet record.
+    /// A delivery touches no packet record but on an unordered channel.
     pub record: Option<Change>,
     /// The steps that open or close an end emit nothing.
     pub emitted: Option<Emitted>,

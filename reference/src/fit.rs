@@ -44,7 +44,7 @@ fn channel_fit(bytes: &[u8], next: u64) -> bool {
     let end = Channel::read(bytes);
     get_u16(bytes, channel::KIND) == CHANNEL_KIND
         && matches!(end.state, INIT | TRYOPEN | OPEN | CLOSED)
-        && matches!(end.order, ORDERED | UNORDERED)
+        && matches!(end.order, ORDERED | UNORDERED | ALLOW_TIMEOUT)
         && u64::from(end.channel) < next
         && (end.state != INIT || end.counterparty_channel == 0)
         && end.next_sequence_send >= 1
@@ -77,25 +77,32 @@ fn record_fit(store: &[u8], bytes: &[u8]) -> bool {
     all_zero(&bytes[record::ZEROS..record::CHANNEL]) && record.sequence >= 1 && record_allowed(store, &record, &end)
 }
 
-/// What is asked of each of the three kinds; there is no fourth.
+/// What is asked of each of the four kinds; there is no fifth.
 fn record_allowed(store: &[u8], record: &Record, end: &Channel) -> bool {
     let no_timeouts = record.timeout_height == 0 && record.timeout_timestamp == 0;
+    let says_nothing = no_timeouts && record.digest == NO_DIGEST;
     match record.kind {
         COMMITMENT => record.sequence < end.next_sequence_send,
-        RECEIPT => !end.is_ordered() && no_timeouts && record.digest == NO_DIGEST,
+        RECEIPT => end.is_unordered() && says_nothing,
         ACKNOWLEDGEMENT => no_timeouts && received_in_any_order(store, end, record.sequence),
+        TIMEOUT_RECEIPT => end.allows_timeouts() && record.sequence < end.next_sequence_recv && says_nothing,
         _ => false,
     }
 }
 
-/// As `received`, wherever the receipt stands.
+/// As `received`, wherever the receipt or the timeout receipt stands.
 fn received_in_any_order(store: &[u8], end: &Channel, sequence: u64) -> bool {
-    let receipt = key(RECEIPT, end.channel, sequence);
-    if end.is_ordered() {
-        sequence < end.next_sequence_recv
-    } else {
-        records(store).iter().any(|bytes| has_key(bytes, receipt))
+    match end.order {
+        UNORDERED => is_there(store, key(RECEIPT, end.channel, sequence)),
+        ALLOW_TIMEOUT => {
+            sequence < end.next_sequence_recv && !is_there(store, key(TIMEOUT_RECEIPT, end.channel, sequence))
+        }
+        _ => sequence < end.next_sequence_recv,
     }
+}
+
+fn is_there(store: &[u8], key: u128) -> bool {
+    records(store).iter().any(|bytes| has_key(bytes, key))
 }
 
 /// The records in use rise strictly, and the free ones stand behind them: before each one in use, but the first, stands

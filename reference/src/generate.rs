@@ -11,6 +11,7 @@ pub mod fault;
 pub mod grow;
 pub mod making;
 pub mod malform;
+mod ready;
 pub mod rng;
 pub mod shape;
 pub mod step;
@@ -20,23 +21,32 @@ use crate::bytes::get_u16;
 use crate::datagram::*;
 use crate::places::{frame, OUTPUT};
 use crate::refusal::*;
-use crate::store::{CLOSED, INIT, TRYOPEN};
+use crate::store::{Channel, CLOSED, INIT, OPEN, TRYOPEN};
 pub use call::{Call, Origin, Row, Task};
 use draft::Draft;
 use rng::Rng;
 
 /// Calls made from one store before the next one is grown.
 const CALLS_PER_STORE: u32 = 100;
+/// How much more often a row is aimed at than it has pairs of lines, of which it has 15 to 231.
+const MORE: usize = 30;
 
 pub struct Generator {
     rng: Rng,
     store: Vec<u8>,
     left: u32,
+    /// Each row as often as it has pairs of lines, so that all pairs are aimed at as often; and some more, for those
+    /// with few lines.
+    rows: Vec<Row>,
 }
 
 impl Generator {
     pub fn new(seed: u64) -> Generator {
-        Generator { rng: Rng::new(seed), store: Vec::new(), left: 0 }
+        let rows = Row::all().flat_map(|row| {
+            let lines = fault::aims(row).len();
+            vec![row; lines * (lines - 1) / 2 + MORE]
+        });
+        Generator { rng: Rng::new(seed), store: Vec::new(), left: 0, rows: rows.collect() }
     }
 
     pub fn next_call(&mut self) -> Call {
@@ -45,16 +55,16 @@ impl Generator {
             self.left = CALLS_PER_STORE;
         }
         self.left -= 1;
-        match self.rng.below(114) {
+        match self.rng.below(132) {
             0..=22 => self.accepted(),
-            23..=45 => self.with_faults(false),
-            46..=79 => self.with_faults(true),
-            80..=89 => self.damaged(),
-            90..=95 => self.malformed(),
-            96..=98 => self.garbage(),
-            99..=101 => self.flipped(),
-            102..=106 => self.maker(),
-            107 => self.length(),
+            23..=52 => self.with_faults(false),
+            53..=92 => self.with_faults(true),
+            93..=103 => self.damaged(),
+            104..=109 => self.malformed(),
+            110..=112 => self.garbage(),
+            113..=115 => self.flipped(),
+            116..=120 => self.maker(),
+            121 => self.length(),
             _ => self.converter(),
         }
     }
@@ -63,27 +73,23 @@ impl Generator {
         (0..12).find_map(|_| grow::any_accepted(&mut self.rng, &self.store))
     }
 
-    /// A draft to be spoiled, on channels of both orders. Kinds with many lines, and those that few stores are ready
-    /// for, are tried often, so that all lines come about as often. A time-out of either sort is as good on an end that
-    /// is not OPEN.
-    fn draft_to_spoil(&mut self) -> Option<Draft> {
-        let kind = match self.rng.below(40) {
-            0..=3 => self.rng.pick(&HANDSHAKE_KINDS),
-            4 | 5 => self.rng.pick(&[CLOSE_INIT, CLOSE_CONFIRM]),
-            6..=13 => TIME_OUT_ON_CLOSE,
-            14..=21 => ACKNOWLEDGE,
-            22..=26 => RECEIVE,
-            27..=32 => TIME_OUT,
-            _ => self.rng.pick(&[SEND, WRITE]),
-        };
-        let ordered = self.rng.one_in(if kind == RECEIVE { 4 } else { 2 });
+    /// A draft of this row, if the store has an end for it or can be given one; the store that goes on stays as it is.
+    /// A time-out of either sort is as good on an end that is not OPEN.
+    fn draft_in(&mut self, row: Row) -> Option<Draft> {
         let mut store = self.store.clone();
-        let mut draft = (0..30).find_map(|_| {
-            shape::make_ready(&mut self.rng, &mut store, kind);
-            accept::accepted(&mut self.rng, &store, kind).filter(|draft| draft.row().ordered == ordered)
+        let mut draft = (0..8).find_map(|attempt| {
+            if attempt >= 4 {
+                ready::make_ready(&mut self.rng, &mut store, row);
+            }
+            accept::accepted_in(&mut self.rng, &store, row)
         })?;
-        if matches!(kind, TIME_OUT | TIME_OUT_ON_CLOSE) && self.rng.one_in(2) {
-            draft.set_state(self.rng.pick(&[INIT, TRYOPEN, CLOSED]));
+        if matches!(row.kind, TIME_OUT | TIME_OUT_ON_CLOSE) {
+            draft.set_state(self.rng.pick(&[INIT, TRYOPEN, CLOSED, OPEN, OPEN, OPEN]));
+            // Where the end is OPEN now, it may have to be the packet's turn.
+            if draft.end().counts_timeouts() {
+                draft.set_end(Channel { next_sequence_ack: draft.packet.sequence, ..draft.end() });
+            }
+            draft.match_verdict();
         }
         Some(draft)
     }
@@ -94,12 +100,12 @@ impl Generator {
         if self.rng.one_in(4) {
             shape::reshape(&mut self.rng, &mut self.store);
         }
-        let Some(mut draft) = self.draft() else {
+        let Some(mut draft) = self.draft_to_accept() else {
             self.left = 0;
             return self.garbage();
         };
         let (output, datagram) = (self.output(), draft.encode());
-        if grow::may_go_on(&mut self.rng, &draft) {
+        if draft.store == self.store && grow::may_go_on(&mut self.rng, &draft) {
             crate::handle(&mut self.store, &mut output.clone(), &datagram);
         }
         if self.rng.one_in(3) {
@@ -109,32 +115,46 @@ impl Generator {
         Call { origin: Origin::Accepted, task, intended: Some(0) }
     }
 
+    /// Mostly one for the store as it is, which grows by them; else one of any row, for which few stores may be ready.
+    fn draft_to_accept(&mut self) -> Option<Draft> {
+        if self.rng.one_in(3) {
+            let row = self.rng.pick(&self.rows);
+            return self.draft_in(row);
+        }
+        self.draft()
+    }
+
     /// A call at which one refusal is aimed, or two.
     fn with_faults(&mut self, two: bool) -> Call {
-        for _ in 0..20 {
-            let Some(draft) = self.draft_to_spoil() else {
-                continue;
+        for _ in 0..8 {
+            let row = self.rng.pick(&self.rows);
+            let mut lines = fault::aims(row);
+            self.rng.shuffle(&mut lines);
+            lines.truncate(if two { 2 } else { 1 });
+            lines.sort_unstable();
+            let never = match lines[..] {
+                [first, second] => fault::never_together(row, first, second),
+                _ => fault::never_given(row, lines[0]),
             };
-            let aims = fault::aims(draft.row());
-            let mut lines = vec![self.rng.pick(&aims)];
-            if two {
-                lines.push(self.rng.pick(&aims));
-            }
-            if let Some(call) = self.spoiled(draft, lines) {
-                return call;
+            if never.is_none() {
+                if let Some(call) = (0..8).find_map(|_| self.aimed_at(row, &lines)) {
+                    return call;
+                }
             }
         }
         self.garbage()
     }
 
-    fn spoiled(&mut self, mut draft: Draft, mut lines: Vec<Line>) -> Option<Call> {
-        lines.sort_unstable();
-        let (first, last) = (lines[0], lines[lines.len() - 1]);
-        let row = draft.row();
-        let possible =
-            if lines.len() == 2 { fault::pair_possible(first, last) } else { fault::alone_possible(row, first) };
+    fn aimed_at(&mut self, row: Row, lines: &[Line]) -> Option<Call> {
+        let draft = self.draft_in(row)?;
+        self.spoiled(draft, lines)
+    }
+
+    /// The lines are in order.
+    fn spoiled(&mut self, mut draft: Draft, lines: &[Line]) -> Option<Call> {
+        let (row, first) = (draft.row(), lines[0]);
         let of_call = lines.partition_point(|line| *line < Line::from(BEFORE_LAST));
-        if !possible || !fault::spoil(&mut self.rng, &mut draft, &lines[of_call..]) {
+        if !fault::spoil(&mut self.rng, &mut draft, &lines[of_call..]) {
             return None;
         }
         let aims_at = |number| lines.contains(&Line::from(number));
@@ -146,9 +166,13 @@ impl Generator {
         if aims_at(STORE_NOT_FIT) {
             damage::damage(&mut self.rng, &mut draft.store);
         }
-        let also_out_of_order = row.kind == ACKNOWLEDGE && last.number() == COUNTER_AT_END;
-        let intended = if also_out_of_order { first.min(Line::from(OUT_OF_ORDER)) } else { first };
-        let origin = if lines.len() == 2 { Origin::Pair(row, first, last) } else { Origin::Fault(row, first) };
+        // The packet is out of order too where the counter is that of finished ones.
+        let out_of_order = aims_at(COUNTER_AT_END) && fault::never_given(row, COUNTER_AT_END.into()).is_some();
+        let intended = if out_of_order { first.min(OUT_OF_ORDER.into()) } else { first };
+        let origin = match lines {
+            [first, second] => Origin::Pair(row, *first, *second),
+            _ => Origin::Fault(row, first),
+        };
         let task = Task::Handle { store: draft.store, output, datagram };
         Some(Call { origin, task, intended: Some(intended.number()) })
     }

@@ -7,6 +7,7 @@ mod handshake;
 mod ledger;
 mod opening;
 mod packets;
+mod sequences;
 mod tally;
 
 use std::collections::BTreeMap;

@@ -28,7 +28,7 @@ fn records_to_make(length: usize, openings: &[u8]) -> Result<usize, u8> {
 fn well_formed(bytes: &[u8]) -> bool {
     says_length(get_u32(bytes, frame::LENGTH), opening::LENGTH)
         && get_u16(bytes, frame::KIND) == OPENING_KIND
-        && matches!(bytes[opening::ORDER], ORDERED | UNORDERED)
+        && ORDERS.contains(&bytes[opening::ORDER])
         && bytes[opening::ZERO] == 0
 }
 

@@ -115,19 +115,27 @@ impl Call<'_> {
             && packet.source_port == end.counterparty_port
             && packet.source_channel == end.counterparty_channel;
         refuse_if(!fits, WRONG_END)?;
-        let passed =
+        let late =
             reached(self.context.height, packet.timeout_height) || reached(self.context.time, packet.timeout_timestamp);
-        refuse_if(passed, TIMEOUT_PASSED)?;
+        refuse_if(late && !end.allows_timeouts(), TIMEOUT_PASSED)?;
         verdict.compare(&committed(&packet, &verdict))?;
-        if end.is_ordered() {
-            refuse_if(packet.sequence != end.next_sequence_recv, OUT_OF_ORDER)?;
-            end.next_sequence_recv = raised(end.next_sequence_recv)?;
-            return Ok(self.effect(end, None, Emitted::Delivered(packet)));
+        if end.is_unordered() {
+            refuse_if(received(self.store, &end, packet.sequence), ALREADY_THERE)?;
+            return self.with_receipt(end, RECEIPT, packet.sequence, Emitted::Delivered(packet));
         }
-        refuse_if(received(self.store, &end, packet.sequence), ALREADY_THERE)?;
+        refuse_if(packet.sequence != end.next_sequence_recv, OUT_OF_ORDER)?;
+        end.next_sequence_recv = raised(end.next_sequence_recv)?;
+        if late {
+            return self.with_receipt(end, TIMEOUT_RECEIPT, packet.sequence, Emitted::Lapsed(packet));
+        }
+        Ok(self.effect(end, None, Emitted::Delivered(packet)))
+    }
+
+    /// Puts in a receipt or a timeout receipt, which have nothing in them but their key.
+    fn with_receipt(&self, end: Channel, kind: u16, sequence: u64, emitted: Emitted) -> Result<Effect, u8> {
         refuse_if(!has_room(self.store), NO_FREE_RECORD)?;
-        let receipt = Record { kind: RECEIPT, channel: end.channel, sequence: packet.sequence, ..Record::FREE };
-        Ok(self.effect(end, Some(Change::Insert(receipt)), Emitted::Delivered(packet)))
+        let record = Record { kind, channel: end.channel, sequence, ..Record::FREE };
+        Ok(self.effect(end, Some(Change::Insert(record)), emitted))
     }
 
     fn write(&self, sequence: u64, digest: Digest) -> Result<Effect, u8> {
@@ -142,16 +150,19 @@ impl Call<'_> {
     }
 
     fn acknowledge(&self, packet: Packet, acknowledgement: Digest, verdict: Verdict) -> Result<Effect, u8> {
-        let mut end = self.end;
         refuse_if(self.context.connection != 1, CONNECTION_NOT_OPEN)?;
         refuse_if(!self.sent_here(&packet), WRONG_END)?;
         let index = self.commitment(&packet).ok_or(NO_COMMITMENT)?;
         verdict.compare(&acknowledged(&packet, acknowledgement, &verdict))?;
-        if end.is_ordered() {
-            refuse_if(packet.sequence != end.next_sequence_ack, OUT_OF_ORDER)?;
-            end.next_sequence_ack = raised(end.next_sequence_ack)?;
-        }
+        let end = if self.end.is_unordered() { self.end } else { self.finished_next(&packet)? };
         Ok(self.effect(end, Some(Change::Remove(index)), Emitted::Acknowledged { packet, acknowledgement }))
+    }
+
+    /// The end when a packet is finished whose turn it has to be.
+    fn finished_next(&self, packet: &Packet) -> Result<Channel, u8> {
+        let next = self.end.next_sequence_ack;
+        refuse_if(packet.sequence != next, OUT_OF_ORDER)?;
+        Ok(Channel { next_sequence_ack: raised(next)?, ..self.end })
     }
 
     fn time_out(&self, packet: Packet, verdict: Verdict) -> Result<Effect, u8> {
@@ -160,30 +171,31 @@ impl Call<'_> {
             || reached(verdict.proof_time, packet.timeout_timestamp);
         refuse_if(!passed, TIMEOUT_NOT_PASSED)?;
         let index = self.commitment(&packet).ok_or(NO_COMMITMENT)?;
-        verdict.compare(&self.not_received(&packet, &verdict))?;
-        refuse_if(self.says_taken(&verdict, &packet), OUT_OF_ORDER)?;
-        Ok(self.given_back(index, packet))
+        verdict.compare(&not_received(self.absence_claim(true), &packet, &verdict))?;
+        let end = self.given_back(&packet, &verdict)?;
+        Ok(self.effect(end, Some(Change::Remove(index)), Emitted::TimedOut(packet)))
     }
 
-    /// On an ordered channel any sequence will do here: whether it is above the packet's is a matter of order.
-    fn not_received(&self, packet: &Packet, given: &Verdict) -> Verdict {
-        let about = about_destination(packet, given);
-        if self.end.is_ordered() {
-            return Verdict { claim: NEXT_RECV_EQUALS, ..about };
+    /// What has to be claimed of a packet that was not received. Unordered channels keep receipts and the others count;
+    /// a packet that lapsed, where timeouts are allowed, has a timeout receipt.
+    fn absence_claim(&self, lapsed: bool) -> u16 {
+        match self.end.order {
+            UNORDERED => RECEIPT_ABSENT,
+            ALLOW_TIMEOUT if lapsed => TIMEOUT_RECEIPT_PRESENT,
+            _ => NEXT_RECV_EQUALS,
         }
-        Verdict { claim: RECEIPT_ABSENT, sequence: packet.sequence, ..about }
     }
 
-    /// Above the sequence, the next receive that is claimed of an ordered channel says that the packet was taken.
-    fn says_taken(&self, verdict: &Verdict, packet: &Packet) -> bool {
-        self.end.is_ordered() && verdict.sequence > packet.sequence
-    }
-
-    /// What both time-outs do, with the index of the commitment.
-    fn given_back(&self, index: usize, packet: Packet) -> Effect {
-        let state = if self.end.is_ordered() { CLOSED } else { self.end.state };
-        let end = Channel { state, ..self.end };
-        self.effect(end, Some(Change::Remove(index)), Emitted::TimedOut(packet))
+    /// The refusals 15 and 19 of both time-outs, and the end when they are accepted. Above the sequence, the next
+    /// receive that is claimed says that the packet was taken.
+    fn given_back(&self, packet: &Packet, verdict: &Verdict) -> Result<Channel, u8> {
+        let says_taken = verdict.claim == NEXT_RECV_EQUALS && verdict.sequence > packet.sequence;
+        refuse_if(says_taken, OUT_OF_ORDER)?;
+        match self.end.order {
+            ORDERED => Ok(Channel { state: CLOSED, ..self.end }),
+            _ if self.end.counts_timeouts() => self.finished_next(packet),
+            _ => Ok(self.end),
+        }
     }
 
     /// At the sender the source is this end and the destination its counterparty.
@@ -242,6 +254,12 @@ fn committed(packet: &Packet, given: &Verdict) -> Verdict {
 fn acknowledged(packet: &Packet, acknowledgement: Digest, given: &Verdict) -> Verdict {
     let claim = ACKNOWLEDGEMENT_PRESENT;
     Verdict { claim, sequence: packet.sequence, digest: acknowledgement, ..about_destination(packet, given) }
+}
+
+/// Any next receive may be claimed: whether it is above the packet's sequence is a matter of order.
+fn not_received(claim: u16, packet: &Packet, given: &Verdict) -> Verdict {
+    let sequence = if claim == NEXT_RECV_EQUALS { given.sequence } else { packet.sequence };
+    Verdict { claim, sequence, ..about_destination(packet, given) }
 }
 
 /// The two others are about the destination and have no timeouts.

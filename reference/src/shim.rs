@@ -6,7 +6,7 @@ use crate::bytes::*;
 use crate::datagram::{self, Body, Packet, ACKNOWLEDGE, RECEIVE, TIME_OUT};
 use crate::places::{frame, header, PACKET_RECORDS};
 use crate::store::*;
-use crate::subject::{ConvertStore, Handle, Subject};
+use crate::subject::{ConvertStore, Handle, MakeStore, Subject};
 
 pub const RIGHT: Subject = with(right);
 
@@ -36,6 +36,10 @@ pub const GIVES_BACK: Handle = gives_back;
 
 pub const fn with(handle: Handle) -> Subject {
     Subject { handle, make_store, convert_store, store_length }
+}
+
+pub const fn with_maker(make_store: MakeStore) -> Subject {
+    Subject { make_store, ..RIGHT }
 }
 
 pub const fn with_converter(convert_store: ConvertStore) -> Subject {
@@ -76,10 +80,13 @@ macro_rules! behind_c {
     };
 }
 
-// Behind the macro, which all but the last use.
+// Behind the macro, which most of them use.
 pub mod closing;
 pub mod handshake;
+pub mod lapse;
+pub mod maker;
 pub mod order;
+pub mod time_out;
 mod tools;
 pub mod verdict;
 

@@ -12,7 +12,7 @@ use crate::places::OUTPUT;
 use crate::refusal::*;
 use crate::rules::reached;
 use crate::store::*;
-use crate::verdict::Verdict;
+use crate::verdict::{Verdict, NEXT_RECV_EQUALS};
 
 /// Every line that applies, in the order of the places. Nothing is asked of an unfit store or of malformed bytes, and
 /// of a channel that is not there no more than that.
@@ -101,35 +101,40 @@ fn of_send(store: &[u8], context: &Context, end: &Channel, height: u64, time: u6
 fn of_receive(store: &[u8], context: &Context, end: &Channel, packet: &Packet) -> Vec<(u8, bool)> {
     let here = (packet.dest_port, packet.source_port, packet.source_channel);
     let late = reached(context.height, packet.timeout_height) || reached(context.time, packet.timeout_timestamp);
-    let ordered = end.is_ordered();
+    let counts = matches!(end.order, ORDERED | ALLOW_TIMEOUT);
+    let writes = end.order == UNORDERED || end.order == ALLOW_TIMEOUT && late;
     vec![
         (CONNECTION_NOT_OPEN, context.connection == 0),
         (WRONG_END, here != (end.port, end.counterparty_port, end.counterparty_channel)),
-        (TIMEOUT_PASSED, late),
-        (OUT_OF_ORDER, ordered && packet.sequence != end.next_sequence_recv),
-        (ALREADY_THERE, !ordered && received(store, end, packet.sequence)),
-        (COUNTER_AT_END, ordered && end.next_sequence_recv == u64::MAX),
-        (NO_FREE_RECORD, !ordered && is_full(store)),
+        (TIMEOUT_PASSED, late && end.order != ALLOW_TIMEOUT),
+        (OUT_OF_ORDER, counts && packet.sequence != end.next_sequence_recv),
+        (ALREADY_THERE, end.order == UNORDERED && is_there(store, RECEIPT, end, packet.sequence)),
+        (COUNTER_AT_END, counts && end.next_sequence_recv == u64::MAX),
+        (NO_FREE_RECORD, writes && is_full(store)),
     ]
 }
 
 fn of_write(store: &[u8], end: &Channel, sequence: u64, digest: &Digest) -> Vec<(u8, bool)> {
+    let is_received = match end.order {
+        UNORDERED => is_there(store, RECEIPT, end, sequence),
+        _ => sequence < end.next_sequence_recv && !is_there(store, TIMEOUT_RECEIPT, end, sequence),
+    };
     vec![
-        (ALREADY_THERE, find_record(store, ACKNOWLEDGEMENT, end.channel, sequence).is_some()),
-        (NOT_RECEIVED, !received(store, end, sequence)),
+        (ALREADY_THERE, is_there(store, ACKNOWLEDGEMENT, end, sequence)),
+        (NOT_RECEIVED, !is_received),
         (EMPTY_ACKNOWLEDGEMENT, all_zero(digest)),
         (NO_FREE_RECORD, is_full(store)),
     ]
 }
 
 fn of_acknowledge(store: &[u8], context: &Context, end: &Channel, packet: &Packet) -> Vec<(u8, bool)> {
-    let ordered = end.is_ordered();
+    let counts = matches!(end.order, ORDERED | ALLOW_TIMEOUT);
     vec![
         (CONNECTION_NOT_OPEN, context.connection == 0),
         (WRONG_END, !sent_here(end, packet)),
         (NO_COMMITMENT, !is_committed(store, end, packet)),
-        (OUT_OF_ORDER, ordered && packet.sequence != end.next_sequence_ack),
-        (COUNTER_AT_END, ordered && end.next_sequence_ack == u64::MAX),
+        (OUT_OF_ORDER, counts && packet.sequence != end.next_sequence_ack),
+        (COUNTER_AT_END, counts && end.next_sequence_ack == u64::MAX),
     ]
 }
 
@@ -140,13 +145,22 @@ fn of_time_out(store: &[u8], end: &Channel, packet: &Packet, verdict: &Verdict) 
         (WRONG_END, !sent_here(end, packet)),
         (TIMEOUT_NOT_PASSED, !passed),
         (NO_COMMITMENT, !is_committed(store, end, packet)),
-        (OUT_OF_ORDER, says_taken(end, packet, verdict)),
+        (OUT_OF_ORDER, out_of_order(end, packet, verdict)),
+        (COUNTER_AT_END, counts_time_outs(end) && end.next_sequence_ack == u64::MAX),
     ]
 }
 
-/// The next receive that is claimed of an ordered channel is above the packet's sequence.
-fn says_taken(end: &Channel, packet: &Packet, verdict: &Verdict) -> bool {
-    end.is_ordered() && packet.sequence < verdict.sequence
+/// The next receive that is claimed is above the packet's sequence: on an ordered channel one is always claimed, where
+/// timeouts are allowed by claim 4 only. Or it is not the packet's turn.
+fn out_of_order(end: &Channel, packet: &Packet, verdict: &Verdict) -> bool {
+    let claims_next = end.order == ORDERED || end.order == ALLOW_TIMEOUT && verdict.claim == NEXT_RECV_EQUALS;
+    claims_next && packet.sequence < verdict.sequence
+        || counts_time_outs(end) && packet.sequence != end.next_sequence_ack
+}
+
+/// Whether a time-out of either sort is counted by next acknowledge.
+fn counts_time_outs(end: &Channel) -> bool {
+    (end.order, end.state) == (ALLOW_TIMEOUT, OPEN)
 }
 
 fn sent_here(end: &Channel, packet: &Packet) -> bool {
@@ -165,6 +179,10 @@ fn is_committed(store: &[u8], end: &Channel, packet: &Packet) -> bool {
         digest: packet.digest,
     };
     records(store).iter().any(|bytes| Record::read(bytes) == wanted)
+}
+
+fn is_there(store: &[u8], kind: u16, end: &Channel, sequence: u64) -> bool {
+    records(store).iter().map(|bytes| Record::read(bytes)).any(|it| it.key() == key(kind, end.channel, sequence))
 }
 
 fn is_full(store: &[u8]) -> bool {

@@ -2,14 +2,15 @@
 
 use std::collections::BTreeSet;
 
-use crate::compare::compare;
+use crate::compare::{compare, first_different};
 use crate::fit::{entries_fit, fit};
 use crate::generate::damage::{converter_answer, damage, KINDS, TWO_OF_ONE_KEY};
 use crate::generate::rng::Rng;
 use crate::generate::{grow, Generator, Origin};
 use crate::history::{self, Truth};
-use crate::shim::{self, closing, handshake, order, verdict};
+use crate::shim::{self, closing, handshake, lapse, maker, order, time_out, verdict};
 use crate::store::{key_of, records, records_in, sort_records};
+use crate::subject::Handle;
 use crate::workload::{workload, Workload, SEGMENT};
 
 const SEED: u64 = 20_240_601;
@@ -17,7 +18,7 @@ const SEED: u64 = 20_240_601;
 /// No difference, nothing missed, and each part of the table reached.
 #[test]
 fn right_handler_passes() {
-    let report = compare(&shim::RIGHT, 150_000, SEED);
+    let report = compare(&shim::RIGHT, 200_000, SEED);
     println!("{}", report.coverage);
     assert_eq!(report.differences, Vec::<String>::new());
     assert_eq!(report.reference_faults, Vec::<String>::new());
@@ -35,14 +36,16 @@ fn unmet_cells_are_told() {
 
 #[test]
 fn wrong_handlers_are_found() {
+    let of_packets = shim::WRONG.into_iter().chain(lapse::WRONG).chain(time_out::WRONG);
     let of_steps = handshake::WRONG.into_iter().chain(closing::WRONG);
-    let handlers = shim::WRONG.into_iter().chain(of_steps).chain(order::WRONG).chain(verdict::WRONG);
+    let handlers = of_packets.chain(of_steps).chain(order::WRONG).chain(verdict::WRONG);
     let converters = order::WRONG_CONVERTERS.map(|(name, convert)| (name, shim::with_converter(convert)));
-    for (name, subject) in handlers.map(|(name, handle)| (name, shim::with(handle))).chain(converters) {
-        let report = compare(&subject, 10_000, SEED);
-        println!("{name}: {} different calls", report.different_calls);
-        assert!(report.different_calls > 0, "{name}");
-        assert!(report.reference_faults.is_empty());
+    let makers = maker::WRONG.map(|(name, make)| (name, shim::with_maker(make)));
+    let others = makers.into_iter().chain(converters);
+    for (name, subject) in handlers.map(|(name, handle)| (name, shim::with(handle))).chain(others) {
+        let first = first_different(&subject, 20_000, SEED);
+        println!("{name}: differs at call {first:?}");
+        assert!(first.is_some(), "{name}");
     }
 }
 
@@ -90,7 +93,7 @@ fn every_origin_comes() {
 #[test]
 fn right_histories_keep_all_promises() {
     for truth in [Truth::Everything, Truth::Openings, Truth::Nothing] {
-        let outcome = history::run(&shim::RIGHT, 60, SEED, truth);
+        let outcome = history::run(&shim::RIGHT, 120, SEED, truth);
         println!("{truth:?}: {} calls, {}", outcome.calls, outcome.answers);
         outcome.named_totals().for_each(|(name, count)| println!("{count:>8} {name}"));
         println!("broken where lies excuse it: {:?}", outcome.excused);
@@ -100,41 +103,63 @@ fn right_histories_keep_all_promises() {
     }
 }
 
+/// Handlers with the truth of a history and the promise that they break then.
+const BREAKING: [(&str, Handle, Truth, &str); 42] = [
+    ("without receipt", shim::WITHOUT_RECEIPT, Truth::Everything, "delivered twice"),
+    ("without receipt", shim::WITHOUT_RECEIPT, Truth::Openings, "delivered twice"),
+    ("frees all", shim::FREES_ALL, Truth::Everything, "left"),
+    ("frees all", shim::FREES_ALL, Truth::Nothing, "left"),
+    ("at the very timeout", shim::AT_TIMEOUT, Truth::Everything, "timed out after its delivery"),
+    ("gives back", shim::GIVES_BACK, Truth::Everything, "timed out after its delivery"),
+    ("out of turn", shim::OUT_OF_TURN, Truth::Everything, "delivered out of order"),
+    ("out of turn", shim::OUT_OF_TURN, Truth::Nothing, "delivered out of order"),
+    ("tries any", handshake::TRIES_ANY, Truth::Everything, "a try answers no init"),
+    ("acknowledges any", handshake::ACKNOWLEDGES_ANY, Truth::Openings, "an opened end is not paired"),
+    ("confirms any", handshake::CONFIRMS_ANY, Truth::Openings, "an opened end is not paired"),
+    ("confirms any", handshake::CONFIRMS_ANY, Truth::Everything, "two opened ends name one end"),
+    ("confirms any", handshake::CONFIRMS_ANY, Truth::Openings, "delivered twice"),
+    ("acknowledges again", handshake::ACKNOWLEDGES_AGAIN, Truth::Nothing, "a counterparty changed"),
+    ("skips numbers", handshake::SKIPS_NUMBERS, Truth::Nothing, "a number is not the next"),
+    ("other versions", handshake::OTHER_VERSIONS, Truth::Openings, "an opened end is not paired"),
+    ("names none", handshake::NAMES_NONE, Truth::Everything, "an opened end is not paired"),
+    ("emits at open", handshake::EMITS_AT_OPEN, Truth::Nothing, "made ends are not those emitted"),
+    ("confirms any close", closing::CONFIRMS_ANY_CLOSE, Truth::Everything, "a close confirm answers no close"),
+    ("emits at close", closing::EMITS_AT_CLOSE, Truth::Nothing, "made ends are not those emitted"),
+    ("frees at close", closing::FREES_AT_CLOSE, Truth::Nothing, "left"),
+    ("other not closed", closing::OTHER_NOT_CLOSED, Truth::Everything, "delivered after its time-out on close"),
+    ("receives on closed", closing::RECEIVES_ON_CLOSED, Truth::Everything, "delivered after its time-out on close"),
+    ("by sequence", order::BY_SEQUENCE, Truth::Everything, "or the store is unfit now"),
+    ("leaves a gap", order::LEAVES_GAP, Truth::Everything, "or the store is unfit now"),
+    ("out of turn", shim::OUT_OF_TURN, Truth::Nothing, "does not rise"),
+    ("no timeout receipt", lapse::NO_TIMEOUT_RECEIPT, Truth::Everything, "has packets missing"),
+    ("no timeout receipt", lapse::NO_TIMEOUT_RECEIPT, Truth::Nothing, "has packets missing"),
+    ("emits a delivery", lapse::EMITS_DELIVERY, Truth::Nothing, "delivered what has a timeout receipt"),
+    ("emits a delivery", lapse::EMITS_DELIVERY, Truth::Everything, "timed out after its delivery"),
+    ("no room", lapse::NO_ROOM, Truth::Nothing, "left"),
+    ("lapses out of order", lapse::LAPSES_OUT_OF_ORDER, Truth::Nothing, "has packets missing"),
+    ("writes for lapsed", lapse::WRITES_FOR_LAPSED, Truth::Everything, "or the store is unfit now"),
+    ("by claim 3", time_out::BY_CLAIM_3, Truth::Everything, "timed out after its delivery"),
+    ("by claim 4", time_out::BY_CLAIM_4, Truth::Everything, "timed out after its delivery"),
+    ("uncounted", time_out::UNCOUNTED, Truth::Nothing, "finished another number than it counts"),
+    ("apart", time_out::APART, Truth::Nothing, "finished out of order"),
+    ("apart", time_out::APART, Truth::Everything, "finished out of order"),
+    ("acknowledges apart", time_out::ACKNOWLEDGES_APART, Truth::Everything, "finished out of order"),
+    ("out of turn", time_out::OUT_OF_TURN, Truth::Nothing, "finished out of order"),
+    ("two blocks", closing::TWO_BLOCKS, Truth::Everything, "timed out on close after its delivery"),
+    ("gives back", closing::GIVES_BACK_ON_CLOSE, Truth::Everything, "timed out on close after its delivery"),
+];
+
 /// Counting alone finds these, without the reference implementation beside them.
 #[test]
 fn wrong_histories_break_promises() {
-    for (name, handle, truth, promise) in [
-        ("without receipt", shim::WITHOUT_RECEIPT, Truth::Everything, "delivered twice"),
-        ("without receipt", shim::WITHOUT_RECEIPT, Truth::Openings, "delivered twice"),
-        ("frees all", shim::FREES_ALL, Truth::Everything, "left"),
-        ("frees all", shim::FREES_ALL, Truth::Nothing, "left"),
-        ("at the very timeout", shim::AT_TIMEOUT, Truth::Everything, "timed out after its delivery"),
-        ("gives back", shim::GIVES_BACK, Truth::Everything, "timed out after its delivery"),
-        ("out of turn", shim::OUT_OF_TURN, Truth::Everything, "out of order"),
-        ("out of turn", shim::OUT_OF_TURN, Truth::Nothing, "out of order"),
-        ("tries any", handshake::TRIES_ANY, Truth::Everything, "a try answers no init"),
-        ("acknowledges any", handshake::ACKNOWLEDGES_ANY, Truth::Openings, "an opened end is not paired"),
-        ("confirms any", handshake::CONFIRMS_ANY, Truth::Openings, "an opened end is not paired"),
-        ("confirms any", handshake::CONFIRMS_ANY, Truth::Everything, "two opened ends name one end"),
-        ("confirms any", handshake::CONFIRMS_ANY, Truth::Openings, "delivered twice"),
-        ("acknowledges again", handshake::ACKNOWLEDGES_AGAIN, Truth::Nothing, "a counterparty changed"),
-        ("skips numbers", handshake::SKIPS_NUMBERS, Truth::Nothing, "a number is not the next"),
-        ("other versions", handshake::OTHER_VERSIONS, Truth::Openings, "an opened end is not paired"),
-        ("names none", handshake::NAMES_NONE, Truth::Everything, "an opened end is not paired"),
-        ("emits at open", handshake::EMITS_AT_OPEN, Truth::Nothing, "made ends are not those emitted"),
-        ("confirms any close", closing::CONFIRMS_ANY_CLOSE, Truth::Everything, "a close confirm answers no close"),
-        ("emits at close", closing::EMITS_AT_CLOSE, Truth::Nothing, "made ends are not those emitted"),
-        ("frees at close", closing::FREES_AT_CLOSE, Truth::Nothing, "left"),
-        ("other not closed", closing::OTHER_NOT_CLOSED, Truth::Everything, "delivered after its time-out on close"),
-        ("receives on closed", closing::RECEIVES_ON_CLOSED, Truth::Everything, "delivered after its time-out on close"),
-        ("by sequence", order::BY_SEQUENCE, Truth::Everything, "or the store is unfit now"),
-        ("leaves a gap", order::LEAVES_GAP, Truth::Everything, "or the store is unfit now"),
-        ("two blocks", closing::TWO_BLOCKS, Truth::Everything, "timed out on close after its delivery"),
-        ("gives back", closing::GIVES_BACK_ON_CLOSE, Truth::Everything, "timed out on close after its delivery"),
-    ] {
-        let outcome = history::run(&shim::with(handle), 100, SEED, truth);
-        println!("{name}: {} broken, first {:?}", outcome.broken.len(), outcome.broken.first());
-        assert!(outcome.broken.iter().any(|text| text.ends_with(promise)), "{name}, {truth:?}");
+    for (name, handle, truth, promise) in BREAKING {
+        // Few will do for most of them.
+        let broken = [10, 100].into_iter().find_map(|histories| {
+            let outcome = history::run(&shim::with(handle), histories, SEED, truth);
+            outcome.broken.into_iter().find(|text| text.ends_with(promise))
+        });
+        println!("{name}: {broken:?}");
+        assert!(broken.is_some(), "{name}, {truth:?}: {promise}");
     }
 }
 

@@ -11,6 +11,7 @@ pub const ACKNOWLEDGEMENT_PRESENT: u16 = 2;
 pub const RECEIPT_ABSENT: u16 = 3;
 pub const NEXT_RECV_EQUALS: u16 = 4;
 pub const END_SHOWN: u16 = 5;
+pub const TIMEOUT_RECEIPT_PRESENT: u16 = 6;
 
 /// About a packet.
 #[derive(Clone, Copy, Debug, PartialEq, Eq)]
@@ -37,7 +38,7 @@ pub struct EndVerdict {
 
 /// Every claim is known in both forms of verdict; one that does not belong there is about something else.
 fn is_known(claim: u16) -> bool {
-    (COMMITMENT_PRESENT..=END_SHOWN).contains(&claim)
+    (COMMITMENT_PRESENT..=TIMEOUT_RECEIPT_PRESENT).contains(&claim)
 }
 
 impl Verdict {

@@ -7,7 +7,7 @@ use crate::datagram::*;
 use crate::generate::accept::{accepted, pick_record};
 use crate::generate::draft::Draft;
 use crate::generate::fault;
-use crate::generate::making::openings;
+use crate::generate::making::openings_of;
 use crate::generate::malform::malform;
 use crate::generate::rng::Rng;
 use crate::generate::shape::{channels, fill};
@@ -21,6 +21,8 @@ pub const SEGMENT: usize = 100;
 const KEPT: usize = 4;
 /// With more free records than this the next accepted call is a send, so that the store is never far from full.
 const FREE: usize = 2;
+/// Of these orders, so that figures can be compared with those before the third one.
+const MEASURED: [u8; 2] = [ORDERED, UNORDERED];
 
 /// Datagrams in segments, each made for the store as the segment's earlier ones leave it.
 pub struct Workload {
@@ -50,12 +52,12 @@ pub fn workload(seed: u64, records: usize, count: usize) -> Workload {
     workload
 }
 
-/// Eight ends of both orders and no free record; at least half of the records are commitments, the rest receipts and
+/// Eight ends of the two orders and no free record; at least half of the records are commitments, the rest receipts and
 /// acknowledgements.
 fn full(rng: &mut Rng, records: usize) -> Vec<u8> {
     loop {
         let mut store = vec![0; store_length(records)];
-        crate::make_store(&mut store, &openings(rng, 8));
+        crate::make_store(&mut store, &openings_of(rng, 8, &MEASURED));
         for (index, end) in channels(&store) {
             Channel { next_sequence_recv: 1 + records as u64, ..end }.write(&mut store[channel_place(index)..]);
         }
@@ -158,7 +160,7 @@ pub struct Shifting {
 pub fn shifting(seed: u64, records: usize) -> Shifting {
     let mut rng = Rng::new(seed);
     let mut store = vec![0; store_length(records)];
-    let mut list = openings(&mut rng, 3);
+    let mut list = openings_of(&mut rng, 3, &MEASURED);
     (1..=3).zip(list.chunks_exact_mut(opening::LENGTH)).for_each(|(number, it)| put_u32(it, opening::CHANNEL, number));
     crate::make_store(&mut store, &list);
     let (index, end) = find_channel(&store, 2).expect("the maker made it");

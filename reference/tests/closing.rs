@@ -8,13 +8,14 @@ use ends::*;
 
 #[test]
 fn close_init_closes_an_open_end() {
-    for end in [ORDERED, UNORDERED] {
+    for end in ENDS {
         let mut store = fresh();
         assert_eq!(answer(&mut store, &end.close_init()), (0, Vec::new()));
         assert_eq!(channel(&store, end.index), end.record(CLOSED, 1));
         let header = Bytes::default().n32(1216).n16(0x0401).n16(16).n64(100).n64(1000).n32(2).n64(9).zeros(28).0;
         assert_eq!(store[..64], header);
-        assert_eq!(channel(&store, 1 - end.index)[2], OPEN);
+        let others = (0..3).filter(|other| *other != end.index);
+        others.for_each(|other| assert_eq!(channel(&store, other)[2], OPEN));
         assert!(store[1088..].iter().all(|byte| *byte == 0));
         assert_eq!(number(&mut store, &end.close_init()), 26);
         assert_eq!(number(&mut store, &end.close_confirm()), 26);
@@ -24,7 +25,7 @@ fn close_init_closes_an_open_end() {
 
 #[test]
 fn close_confirm_answers_a_close() {
-    for end in [ORDERED, UNORDERED] {
+    for end in ENDS {
         let mut store = fresh();
         assert_eq!(answer(&mut store, &end.close_confirm()), (0, Vec::new()));
         assert_eq!(channel(&store, end.index), end.record(CLOSED, 1));
@@ -83,9 +84,9 @@ fn refusals_of_closes_come_by_place() {
 /// Every byte of the verdict: the claim, the block, which is compared with nothing, the record, its version.
 #[test]
 fn verdicts_about_another_end() {
-    for end in [ORDERED, UNORDERED] {
+    for end in ENDS {
         assert_changes(&fresh(), &end.close_confirm(), CONFIRM_VERDICT, &[(2, 18, 0), (18, 58, 145), (58, 82, 27)]);
-        for claim in 1..=4 {
+        for claim in [1, 2, 3, 4, 6] {
             assert_eq!(number(&mut fresh(), &with(end.close_confirm(), &[(CONFIRM_VERDICT, claim)])), 140, "{claim}");
         }
     }
@@ -95,7 +96,7 @@ fn verdicts_about_another_end() {
 fn malformed_closes() {
     assert_malformed(&fresh(), &ORDERED.close_init());
     assert_malformed(&fresh(), &ORDERED.close_confirm());
-    for claim in [0, 6, 7, 0xff] {
+    for claim in [0, 7, 8, 0xff] {
         assert_eq!(number(&mut fresh(), &with(ORDERED.close_confirm(), &[(CONFIRM_VERDICT, claim)])), 3);
     }
 }

@@ -8,6 +8,8 @@ use bytes::*;
 /// Channel 256 stands behind channel 7, though its first byte is lower.
 const ORDERED: u32 = 7;
 const UNORDERED: u32 = 256;
+/// Ordered, with timeouts allowed.
+const ALLOWED: u32 = 300;
 const FREE: [u8; 64] = [0; 64];
 /// Where a sequence or a digest begins in a record.
 const SEQUENCE: usize = 8;
@@ -25,14 +27,19 @@ fn acknowledgement(channel: u32, sequence: u64) -> Vec<u8> {
     Bytes::default().n16(3).n16(0).n32(channel).n64(sequence).n64(0).n64(0).digest(0xac).0
 }
 
-/// Two ends of port 5 with next send 600 and next receive 2, and these packet records as they stand.
+fn timeout_receipt(sequence: u64) -> Vec<u8> {
+    Bytes::default().n16(4).n16(0).n32(ALLOWED).n64(sequence).zeros(48).0
+}
+
+/// Three ends of port 5 with next send 600 and next receive 2, of which the last one has 4, and these packet records as
+/// they stand.
 fn store_of<T: AsRef<[u8]>>(records: &[T]) -> Vec<u8> {
     let mut store = vec![0xee; 1088 + 64 * records.len()];
-    let openings = [opening(5, UNORDERED, 6, 10, 2), opening(5, ORDERED, 6, 9, 1)].concat();
-    assert_eq!(reference::make_store(&mut store, &openings), 0);
-    for end in [64, 128] {
+    let openings = [opening(5, UNORDERED, 6, 10, 2), opening(5, ORDERED, 6, 9, 1), opening(5, ALLOWED, 6, 11, 3)];
+    assert_eq!(reference::make_store(&mut store, &openings.concat()), 0);
+    for (end, next_receive) in [(64, 2), (128, 2), (192, 4)] {
         store[end + 16..end + 24].copy_from_slice(&600u64.to_le_bytes());
-        store[end + 24] = 2;
+        store[end + 24] = next_receive;
     }
     records
         .iter()
@@ -75,6 +82,10 @@ fn rising() -> Vec<Vec<u8>> {
         receipt(1 << 56),
         acknowledgement(UNORDERED, 1),
         acknowledgement(UNORDERED, 1 << 56),
+        commitment(ALLOWED, 1),
+        acknowledgement(ALLOWED, 2),
+        timeout_receipt(1),
+        timeout_receipt(3),
     ]
 }
 
@@ -131,8 +142,8 @@ fn unfit_stores_are_not_converted() {
     records.reverse();
     let store = store_of(&records);
     let header = (0..8).chain(24..28).chain(36..64);
-    let ends = [64, 128].into_iter().flat_map(|end| [end, end + 1, end + 3, end + 4, end + 5, end + 41, end + 63]);
-    for place in header.chain(ends).chain(192..1088).chain([1088 + 2, 1088 + 64 + 3]) {
+    let ends = [64, 128, 192].into_iter().flat_map(|end| [end, end + 1, end + 3, end + 4, end + 5, end + 41, end + 63]);
+    for place in header.chain(ends).chain(256..1088).chain([1088 + 2, 1088 + 64 + 3]) {
         let mut changed = store.clone();
         changed[place] ^= 0x40;
         assert_eq!(converted(&changed).0, 1, "{place}");
@@ -143,8 +154,15 @@ fn unfit_stores_are_not_converted() {
         assert_eq!(converted(&resized).0, 1, "{length}");
     }
     let mut unsent = store.clone();
-    unsent[1088 + 64 * 9 + SEQUENCE..][..8].copy_from_slice(&600u64.to_le_bytes());
+    unsent[1088 + 64 * (rising().len() - 1) + SEQUENCE..][..8].copy_from_slice(&600u64.to_le_bytes());
     assert_eq!(converted(&unsent).0, 1);
+    // The first records are the timeout receipts of 3 and 1 and an acknowledgement of 2: none may be of one packet, and
+    // none was taken from 4 on.
+    for (place, sequence) in [(0, 2), (64, 2), (128, 1), (128, 3), (0, 4)] {
+        let mut changed = store.clone();
+        changed[1088 + place + SEQUENCE] = sequence;
+        assert_eq!(converted(&changed).0, 1, "{place}, {sequence}");
+    }
 }
 
 /// Records are put in at their places, and those behind them keep their content.

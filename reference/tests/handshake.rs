@@ -105,6 +105,23 @@ fn both_ends_open() {
     assert_eq!(number(&mut one, &send), 0);
 }
 
+/// The order is the init's, and a try has to be for the same one.
+#[test]
+fn ends_of_each_order() {
+    for order in [1, 2, 3] {
+        let mut store = empty();
+        assert_eq!(number(&mut store, &spoiled(init(VERSION), 40, order)), 0);
+        assert_eq!(channel(&store, 0)[3], order);
+        for shown in [1, 2, 3] {
+            // The order in the verdict's record, and the one in the datagram.
+            let tried = spoiled(spoiled(open_try(&shows_init(), VERSION), 45 + 18 + 3, shown), 44, order);
+            let mut other = empty();
+            assert_eq!(number(&mut other, &tried), if shown == order { 0 } else { 145 });
+            assert_eq!(channel(&other, 0)[3], if shown == order { order } else { 0 });
+        }
+    }
+}
+
 /// A send on an end that is not OPEN, and a time-out, which does not ask for that.
 #[test]
 fn no_packets_before_an_end_is_open() {
@@ -185,7 +202,7 @@ fn verdicts_about_another_end() {
     for (store, datagram, at) in steps {
         let with = |place: usize, value: u8| number(&mut store.clone(), &spoiled(datagram.clone(), place, value));
         let changed = |place: usize| with(place, datagram[place] ^ 0x40);
-        (1..=4).for_each(|claim| assert_eq!(with(at, claim), 140));
+        [1, 2, 3, 4, 6].into_iter().for_each(|claim| assert_eq!(with(at, claim), 140));
         // The block is not compared with anything; the version stands behind the rest of the record.
         for (from, to, expected) in [(2, 18, 0), (18, 58, 145), (58, 82, 27)] {
             (at + from..at + to).for_each(|place| assert_eq!(changed(place), expected, "{place}"));
@@ -233,11 +250,11 @@ fn malformed_steps() {
         assert_ne!(number(&mut empty(), &datagram), 3);
         assert_eq!(number(&mut empty(), &short(datagram)), 3);
     }
-    for order in [0, 3, 0x11] {
+    for order in [0, 4, 0x11] {
         assert_eq!(number(&mut empty(), &spoiled(init(VERSION), 40, order)), 3);
         assert_eq!(number(&mut empty(), &spoiled(open_try(&shows_init(), VERSION), 44, order)), 3);
     }
-    for claim in [0, 6, 0xff] {
+    for claim in [0, 7, 0xff] {
         assert_eq!(number(&mut empty(), &spoiled(open_try(&shows_init(), VERSION), 45, claim)), 3);
         assert_eq!(number(&mut after_init(), &spoiled(acknowledge(5, 1, 1, &tried), 46, claim)), 3);
         assert_eq!(number(&mut after_tries(), &spoiled(confirm(6, 1, &open), 42, claim)), 3);

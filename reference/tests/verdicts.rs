@@ -14,8 +14,7 @@ const BEHIND_ACKNOWLEDGEMENT: usize = 138;
 type Case = (Vec<u8>, Vec<u8>, usize, u8, u8);
 
 fn cases(end: End) -> [Case; 3] {
-    let ordered = end.order == 1;
-    let (absent, sequence) = if ordered { (4, 15) } else { (3, 143) };
+    let (absent, sequence) = [(4, 15), (3, 143), (6, 143)][usize::from(end.order) - 1];
     [
         (fresh(), end.receive(), BEHIND_PACKET, 1, 143),
         (end.sent(OPEN), end.acknowledge(), BEHIND_ACKNOWLEDGEMENT, 2, 143),
@@ -26,14 +25,14 @@ fn cases(end: End) -> [Case; 3] {
 /// Every byte behind the block, and each other claim. The block is compared with nothing.
 #[test]
 fn one_part_differs() {
-    for (store, datagram, at, needed, sequence) in [ORDERED, UNORDERED].map(cases).concat() {
+    for (store, datagram, at, needed, sequence) in ENDS.map(cases).concat() {
         assert_eq!(number(&mut store.clone(), &datagram), 0);
         assert_changes(&store, &datagram, at, &parts_of(sequence));
         assert_changes(&store, &datagram, at, &[(2, 18, 0)]);
-        for claim in (1..=5).filter(|claim| *claim != needed) {
+        for claim in (1..=6).filter(|claim| *claim != needed) {
             assert_eq!(number(&mut store.clone(), &with(datagram.clone(), &[(at, claim)])), 140, "{claim}");
         }
-        for claim in [0, 6, 7, 0xff] {
+        for claim in [0, 7, 8, 0xff] {
             assert_eq!(number(&mut store.clone(), &with(datagram.clone(), &[(at, claim)])), 3, "{claim}");
         }
     }
@@ -42,8 +41,8 @@ fn one_part_differs() {
 /// All parts differ, and one after the other is put right: the first that differs is told.
 #[test]
 fn parts_come_in_order() {
-    for (store, datagram, at, needed, sequence) in [ORDERED, UNORDERED].map(cases).concat() {
-        let mut faults = vec![(0, 1 + needed % 5, 140), (18, 0x46, 141), (20, 0x46, 142)];
+    for (store, datagram, at, needed, sequence) in ENDS.map(cases).concat() {
+        let mut faults = vec![(0, 1 + needed % 6, 140), (18, 0x46, 141), (20, 0x46, 142)];
         if sequence == 143 {
             faults.push((24, 2, 143));
         }
@@ -77,7 +76,7 @@ fn parts_stand_between_13_and_15() {
         assert_eq!(number(&mut store, &datagram), beside);
         for (place, _, part) in [(0, 2, 140)].into_iter().chain(parts_of(sequence)) {
             // A known claim gives another known one.
-            let other = 1 + datagram[at + place] % 5;
+            let other = 1 + datagram[at + place] % 6;
             let expected = if beside == 13 { 13 } else { part };
             assert_eq!(number(&mut store, &with(datagram.clone(), &[(at + place, other)])), expected, "{place}");
         }

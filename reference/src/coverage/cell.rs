@@ -1,17 +1,17 @@
-//! What a run has to reach, cell by cell.
+//! One thing to reach, and how a run tells it.
 
 use std::fmt;
 
-use super::closing::{self, Circumstance};
-use super::converter::{self, Disorder};
-use super::place::{self, Place};
-use super::standing::{self, Standing};
-use super::step::{self, Room, Text};
-use crate::datagram::*;
+use super::allow_timeout::Allowed;
+use super::closing::Circumstance;
+use super::converter::Disorder;
+use super::place::Place;
+use super::standing::Standing;
+use super::step::{Room, Text};
 use crate::generate::although::{self, Although};
-use crate::generate::{damage, fault, malform, Row};
-use crate::refusal::*;
-use crate::store::{CLOSED, INIT, OPEN, TRYOPEN};
+use crate::generate::{damage, malform, Row};
+use crate::refusal::Line;
+use crate::store::{INIT, OPEN, ORDERED, TRYOPEN, UNORDERED};
 
 /// Names of the kinds, from kind 1.
 pub const KINDS: [&str; 12] = [
@@ -28,8 +28,6 @@ pub const KINDS: [&str; 12] = [
     "close cf.",
     "on close",
 ];
-/// What an accepted call can emit; 0 is nothing.
-const EMITTED: [u16; 7] = [0, 0x0101, 0x0102, 0x0103, 0x0104, 0x0105, 0x0107];
 
 /// One thing to reach.
 #[derive(Clone, Copy, Debug, PartialEq, Eq, PartialOrd, Ord)]
@@ -44,10 +42,13 @@ pub enum Cell {
     Accepted(Row),
     /// A call of this row was accepted although the store held the thing of this index.
     Although(Row, usize),
-    /// A time-out of this row was accepted on an end in this state, its claimed sequence below the packet's or at it.
-    TimedOut { row: Row, state: u8, below: bool },
+    /// A time-out of this row was accepted with this claim on an end in this state, the claimed sequence below the
+    /// packet's or at it.
+    TimedOut { row: Row, claim: u16, state: u8, below: bool },
     /// A time-out on close was accepted so.
     OnClose(Circumstance),
+    /// A call met this on an end where timeouts are allowed.
+    Allowed(Allowed),
     /// On an end in this state, which is not the one that the kind is for, this line applied and no other.
     InState(Row, u8, Line),
     /// A datagram had or showed a version of this sort, and was accepted or refused for it alone.
@@ -70,12 +71,14 @@ pub enum Cell {
     Maker(u8),
     /// The maker set the next channel number to this one.
     Next(u64),
+    /// The maker made an end of this order.
+    Opened(u8),
     /// The length of a store was asked for.
     Length,
 }
 
 /// The sorts of cells, as a run tells them.
-pub const SORTS: [&str; 19] = [
+pub const SORTS: [&str; 21] = [
     "answers by kind",
     "refusals alone",
     "pairs",
@@ -95,6 +98,8 @@ pub const SORTS: [&str; 19] = [
     "places of records",
     "damages converted",
     "orders converted",
+    "timeouts allowed",
+    "maker's orders",
 ];
 
 impl Cell {
@@ -120,6 +125,8 @@ impl Cell {
             Cell::Place(_) => 16,
             Cell::Converter(..) => 17,
             Cell::Converted(_) => 18,
+            Cell::Allowed(_) => 19,
+            Cell::Opened(_) => 20,
         }
     }
 }
@@ -130,7 +137,7 @@ pub fn name(kind: u16) -> &'static str {
 
 impl fmt::Display for Row {
     fn fmt(&self, out: &mut fmt::Formatter) -> fmt::Result {
-        write!(out, "{}, {}", name(self.kind), if self.ordered { "ordered" } else { "unordered" })
+        write!(out, "{}, {}", name(self.kind), order_name(self.order))
     }
 }
 
@@ -145,11 +152,12 @@ impl fmt::Display for Cell {
                 let Although { name, refusal, .. } = &although::ALL[*index];
                 write!(out, "{row}: no {refusal} although {name}")
             }
-            Cell::TimedOut { row, state, below } => {
+            Cell::TimedOut { row, claim, state, below } => {
                 let claimed = if *below { "below" } else { "at" };
-                write!(out, "{row}: accepted, end {}, claim {claimed} the sequence", state_name(*state))
+                write!(out, "{row}: accepted, end {}, claim {claim} {claimed} the sequence", state_name(*state))
             }
             Cell::OnClose(circumstance) => write!(out, "{circumstance}"),
+            Cell::Allowed(allowed) => write!(out, "timeouts allowed: {allowed}"),
             Cell::InState(row, state, line) => write!(out, "{row}: {line} alone, end {}", state_name(*state)),
             Cell::Version(kind, text) => write!(out, "{}: version {text}", name(*kind)),
             Cell::Room(kind, room) => write!(out, "{}: {room}", name(*kind)),
@@ -162,8 +170,17 @@ impl fmt::Display for Cell {
             Cell::Way(kind, way) => write!(out, "{}: malformed by {}", name(*kind), malform::WAYS[*way].0),
             Cell::Maker(number) => write!(out, "maker: answer {number}"),
             Cell::Next(number) => write!(out, "maker: next channel number {number}"),
+            Cell::Opened(order) => write!(out, "maker: an end, {}", order_name(*order)),
             Cell::Length => write!(out, "length of a store"),
         }
+    }
+}
+
+fn order_name(order: u8) -> &'static str {
+    match order {
+        ORDERED => "ordered",
+        UNORDERED => "unordered",
+        _ => "timeouts allowed",
     }
 }
 
@@ -174,112 +191,4 @@ fn state_name(state: u8) -> &'static str {
         OPEN => "OPEN",
         _ => "CLOSED",
     }
-}
-
-pub fn kinds() -> impl Iterator<Item = u16> {
-    PACKET_KINDS.into_iter().chain(HANDSHAKE_KINDS).chain(CLOSING_KINDS)
-}
-
-/// The order is the end's, or the one that a new end is to have.
-pub fn rows() -> impl Iterator<Item = Row> {
-    kinds().flat_map(|kind| [true, false].map(|ordered| Row { kind, ordered }))
-}
-
-/// The answers that a call of this kind can get, in the order of their places.
-pub fn answers(kind: u16) -> Vec<u8> {
-    let mut lines = [true, false].map(|ordered| fault::aims(Row { kind, ordered })).concat();
-    lines.retain(|line| fault::alone_possible(Row { kind, ordered: true }, *line));
-    let mut numbers: Vec<u8> = [0].into_iter().chain(lines.into_iter().map(Line::number)).collect();
-    numbers.sort_unstable_by_key(|number| (place(*number), *number));
-    numbers.dedup();
-    numbers
-}
-
-/// What the rows name and no call can meet, with the reason.
-pub fn impossible() -> Vec<(Cell, &'static str)> {
-    let mut cells = Vec::new();
-    for row in rows() {
-        let lines = fault::aims(row);
-        let alone = lines.iter().filter(|line| !fault::alone_possible(row, **line));
-        cells.extend(alone.map(|line| (Cell::Alone(row, *line), "a commitment is below next send")));
-        for first in &lines {
-            let behind = lines.iter().filter(|second| first < *second && !fault::pair_possible(*first, **second));
-            cells.extend(behind.map(|second| {
-                let sent = "a send without timeouts has none to pass";
-                let is_sent = first.number() == NO_TIMEOUT;
-                let reason = if is_sent { sent } else { "only a received packet is acknowledged" };
-                (Cell::Pair(row, *first, *second), reason)
-            }));
-        }
-    }
-    cells
-}
-
-fn of_row(row: Row) -> Vec<Cell> {
-    let lines = fault::aims(row);
-    let alone = lines.iter().filter(|line| fault::alone_possible(row, **line));
-    let mut cells: Vec<Cell> = alone.map(|line| Cell::Alone(row, *line)).collect();
-    for first in &lines {
-        let behind = lines.iter().filter(|second| fault::pair_possible(*first, **second));
-        cells.extend(behind.map(|second| Cell::Pair(row, *first, *second)));
-    }
-    cells
-}
-
-/// The state of the end that a kind is for, if it is about an end.
-pub fn state_for(kind: u16) -> Option<u8> {
-    match kind {
-        OPEN_INIT | OPEN_TRY => None,
-        OPEN_ACKNOWLEDGE => Some(INIT),
-        OPEN_CONFIRM => Some(TRYOPEN),
-        _ => Some(OPEN),
-    }
-}
-
-/// The refusals that can apply alone in this row on an end in another state than the one that it is for. There 6 or 26
-/// applies to all kinds but the two time-outs; behind 1, 3 and 5 there is no end to look at.
-fn alone_by_state(row: Row) -> Vec<Cell> {
-    let mut lines = fault::aims(row);
-    lines.retain(|line| match row.kind {
-        TIME_OUT | TIME_OUT_ON_CLOSE => !matches!(line.number(), STORE_NOT_FIT | MALFORMED | NO_CHANNEL),
-        _ => matches!(line.number(), NOT_OPEN | NOT_PRIOR_STATE),
-    });
-    let usual = state_for(row.kind);
-    let others = [INIT, TRYOPEN, OPEN, CLOSED].into_iter().filter(|state| usual.is_some_and(|usual| usual != *state));
-    others.flat_map(|state| lines.iter().map(move |line| Cell::InState(row, state, *line))).collect()
-}
-
-/// The time-outs of this kind that can be accepted.
-fn timed_out(kind: u16) -> Vec<Cell> {
-    let claims = [(false, false), (true, false), (true, true)];
-    let of_state = |state| claims.map(|(ordered, below)| Cell::TimedOut { row: Row { kind, ordered }, state, below });
-    [INIT, TRYOPEN, OPEN, CLOSED].into_iter().flat_map(of_state).collect()
-}
-
-/// Every cell that a run can reach.
-pub fn possible() -> Vec<Cell> {
-    let maker = [0, STORE_LENGTH_UNFIT, OPENINGS_MALFORMED, TOO_MANY_OPENINGS, CHANNEL_TWICE];
-    let mut cells: Vec<Cell> = rows().flat_map(of_row).collect();
-    for kind in kinds() {
-        cells.extend(answers(kind).into_iter().map(|number| Cell::Answer(kind, number)));
-        let ways = malform::WAYS.iter().enumerate().filter(|(_, (_, kinds, _))| kinds.contains(&kind));
-        cells.extend(ways.map(|(way, _)| Cell::Way(kind, way)));
-    }
-    cells.extend(rows().map(Cell::Accepted));
-    cells.extend(rows().flat_map(|row| although::possible(row).map(move |index| Cell::Although(row, index))));
-    cells.extend([TIME_OUT, TIME_OUT_ON_CLOSE].into_iter().flat_map(timed_out));
-    cells.extend(rows().flat_map(alone_by_state));
-    cells.extend(step::possible());
-    cells.extend(closing::possible());
-    cells.extend(place::possible());
-    cells.extend(converter::possible());
-    cells.extend(EMITTED.map(Cell::Emitted));
-    for way in 0..damage::KINDS.len() {
-        cells.extend(standing::possible(way, false).into_iter().map(|standing| Cell::Damage(way, standing)));
-        cells.extend(standing::possible(way, true).into_iter().map(|standing| Cell::Converter(way, standing)));
-    }
-    cells.extend(maker.map(Cell::Maker));
-    cells.extend([1, 1 << 32].map(Cell::Next));
-    cells.push(Cell::Length);
-    cells
 }

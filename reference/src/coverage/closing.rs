@@ -11,7 +11,7 @@ use crate::store::*;
 /// What an accepted time-out on close met and did not ask.
 #[derive(Clone, Copy, Debug, PartialEq, Eq, PartialOrd, Ord)]
 pub struct Circumstance {
-    ordered: bool,
+    order: u8,
     when: When,
     connected: bool,
     has_version: bool,
@@ -29,10 +29,10 @@ enum When {
 /// The cells that a run can reach here.
 pub fn possible() -> Vec<Cell> {
     let mut cells = Vec::new();
-    for ordered in [true, false] {
+    for order in ORDERS {
         for when in [When::Before, When::After, When::NoTimeout] {
             let others = [(true, true), (true, false), (false, true), (false, false)];
-            let circumstance = |(connected, has_version)| Circumstance { ordered, when, connected, has_version };
+            let circumstance = |(connected, has_version)| Circumstance { order, when, connected, has_version };
             cells.extend(others.map(|other| Cell::OnClose(circumstance(other))));
         }
     }
@@ -46,7 +46,7 @@ pub fn reached(end: &Channel, datagram: &Datagram) -> Option<Cell> {
     };
     let when = when(packet, verdict.proof_height, verdict.proof_time);
     let (connected, has_version) = (datagram.context.connection == 1, end.version != NO_VERSION);
-    Some(Cell::OnClose(Circumstance { ordered: end.is_ordered(), when, connected, has_version }))
+    Some(Cell::OnClose(Circumstance { order: end.order, when, connected, has_version }))
 }
 
 fn when(packet: &Packet, proof_height: u64, proof_time: u64) -> When {
@@ -67,7 +67,7 @@ impl fmt::Display for Circumstance {
         };
         let connection = if self.connected { "open" } else { "not open" };
         let version = if self.has_version { "a version" } else { "no version" };
-        let row = Row { kind: TIME_OUT_ON_CLOSE, ordered: self.ordered };
+        let row = Row { kind: TIME_OUT_ON_CLOSE, order: self.order };
         write!(out, "{row}: accepted {when}, connection {connection}, with {version}")
     }
 }

@@ -6,10 +6,11 @@ use super::cell::{name, Cell};
 use crate::datagram::*;
 use crate::store::*;
 
-/// Where a record stands that a call of this kind put in, or stood that it took out.
+/// Where a record of this kind stands that a call of this kind put in, or stood that it took out.
 #[derive(Clone, Copy, Debug, PartialEq, Eq, PartialOrd, Ord)]
 pub struct Place {
     kind: u16,
+    record: u16,
     among: Among,
     /// With it no record is free.
     full: bool,
@@ -24,17 +25,17 @@ enum Among {
     Last,
 }
 
-/// A commitment, a receipt, an acknowledgement.
-const INSERTING: [u16; 3] = [SEND, RECEIVE, WRITE];
-/// Each frees a commitment.
-const REMOVING: [u16; 3] = [ACKNOWLEDGE, TIME_OUT, TIME_OUT_ON_CLOSE];
+/// What each kind of datagram puts in; the others take out a commitment.
+const INSERTING: [(u16, u16); 4] =
+    [(SEND, COMMITMENT), (RECEIVE, RECEIPT), (RECEIVE, TIMEOUT_RECEIPT), (WRITE, ACKNOWLEDGEMENT)];
+const REMOVING: [(u16, u16); 3] = [(ACKNOWLEDGE, COMMITMENT), (TIME_OUT, COMMITMENT), (TIME_OUT_ON_CLOSE, COMMITMENT)];
 
 /// The cells that a run can reach here.
 pub fn possible() -> Vec<Cell> {
     let mut cells = Vec::new();
-    for kind in INSERTING.into_iter().chain(REMOVING) {
+    for (kind, record) in INSERTING.into_iter().chain(REMOVING) {
         for among in [Among::Only, Among::First, Among::Middle, Among::Last] {
-            cells.extend([false, true].map(|full| Cell::Place(Place { kind, among, full })));
+            cells.extend([false, true].map(|full| Cell::Place(Place { kind, record, among, full })));
         }
     }
     cells
@@ -52,12 +53,13 @@ pub fn reached(kind: u16, before: &[u8], after: &[u8]) -> Option<Cell> {
         _ if index + 1 == count => Among::Last,
         _ => Among::Middle,
     };
-    (old != new).then_some(Cell::Place(Place { kind, among, full: count == record_count(after) }))
+    let record = record_at(if new > old { after } else { before }, index).kind;
+    (old != new).then_some(Cell::Place(Place { kind, record, among, full: count == record_count(after) }))
 }
 
 impl fmt::Display for Place {
     fn fmt(&self, out: &mut fmt::Formatter) -> fmt::Result {
-        let done = if INSERTING.contains(&self.kind) { "puts in" } else { "takes out" };
+        let done = if INSERTING.contains(&(self.kind, self.record)) { "puts in" } else { "takes out" };
         let among = match self.among {
             Among::Only => "the only record",
             Among::First => "the first record",
@@ -65,6 +67,6 @@ impl fmt::Display for Place {
             Among::Last => "the last record",
         };
         let full = if self.full { "no other" } else { "another" };
-        write!(out, "{}: {done} {among}, {full} free", name(self.kind))
+        write!(out, "{}: {done} {among}, of kind {}, {full} free", name(self.kind), self.record)
     }
 }

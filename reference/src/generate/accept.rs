@@ -3,7 +3,8 @@
 mod closing;
 mod handshake;
 
-use super::draft::{Draft, NO_VERDICT};
+use super::call::Row;
+use super::draft::{absence_claims, Draft, NO_VERDICT};
 use super::rng::Rng;
 use super::step::Step;
 use crate::datagram::*;
@@ -13,16 +14,26 @@ use crate::verdict::Verdict;
 
 /// A call of this kind that the store accepts, or nothing when the dice find none.
 pub fn accepted(rng: &mut Rng, store: &[u8], kind: u16) -> Option<Draft> {
+    of_orders(rng, store, kind, &ORDERS)
+}
+
+/// The same for a call of this row.
+pub fn accepted_in(rng: &mut Rng, store: &[u8], row: Row) -> Option<Draft> {
+    of_orders(rng, store, row.kind, &[row.order])
+}
+
+fn of_orders(rng: &mut Rng, store: &[u8], kind: u16, orders: &[u8]) -> Option<Draft> {
     if has_version(kind) {
-        return handshake::making_an_end(rng, store, kind);
+        return handshake::making_an_end(rng, store, kind, orders);
     }
     // A time-out of either sort is taken in every state.
-    let takes = |end: Channel| match kind {
+    let in_state = |end: &Channel| match kind {
         TIME_OUT | TIME_OUT_ON_CLOSE => true,
         OPEN_ACKNOWLEDGE => end.state == INIT,
         OPEN_CONFIRM => end.state == TRYOPEN,
         _ => end.is_open(),
     };
+    let takes = |end: Channel| orders.contains(&end.order) && in_state(&end);
     let ends: Vec<usize> = (0..CHANNELS).filter(|index| channel_at(store, *index).is_some_and(takes)).collect();
     let index = rng.pick_any(&ends)?;
     let end = channel_at(store, index)?;
@@ -78,6 +89,7 @@ fn blank(rng: &mut Rng, store: &[u8], index: usize, kind: u16) -> Draft {
         packet,
         acknowledgement: rng.digest(),
         verdict: Verdict { proof_height: rng.number(), proof_time: rng.number(), ..NO_VERDICT },
+        absence: rng.pick(absence_claims(kind, end.order)),
         claimed: 0,
         step: Step::default(),
     }
@@ -109,27 +121,55 @@ fn fill_receive(rng: &mut Rng, draft: &mut Draft, end: &Channel) -> Option<()> {
     (packet.source_channel, packet.dest_channel) = (end.counterparty_channel, end.channel);
     packet.timeout_height = ahead(rng, draft.context.height);
     packet.timeout_timestamp = ahead(rng, draft.context.time);
-    if end.is_ordered() {
-        end.next_sequence_recv.checked_add(1)?;
-        packet.sequence = end.next_sequence_recv;
-        return Some(());
+    if end.is_unordered() {
+        has_room(&draft.store).then_some(())?;
+        packet.sequence = rng.number_from_1();
+        return (!received(&draft.store, end, packet.sequence)).then_some(());
     }
-    has_room(&draft.store).then_some(())?;
-    packet.sequence = rng.number_from_1();
-    (!received(&draft.store, end, packet.sequence)).then_some(())
+    end.next_sequence_recv.checked_add(1)?;
+    packet.sequence = end.next_sequence_recv;
+    // It lapses then, for which a record has to be free.
+    if end.allows_timeouts() && has_room(&draft.store) && rng.one_in(2) {
+        come_late(rng, &draft.context, packet);
+    }
+    Some(())
+}
+
+/// Lets a packet that is to be received come late, by one of its timeouts or by both; often just so.
+pub fn come_late(rng: &mut Rng, context: &Context, packet: &mut Packet) {
+    let by_time = context.time >= 1 && rng.one_in(2);
+    let (by_height, just) = (!by_time || rng.one_in(3), rng.one_in(3));
+    let mut passed = |now: u64| if just { now } else { rng.between(1, now) };
+    if by_time {
+        packet.timeout_timestamp = passed(context.time);
+    }
+    if by_height {
+        packet.timeout_height = passed(context.height);
+    }
 }
 
 fn fill_write(rng: &mut Rng, draft: &mut Draft, end: &Channel) -> Option<()> {
     has_room(&draft.store).then_some(())?;
     draft.packet.dest_channel = end.channel;
-    draft.packet.sequence = if end.is_ordered() {
-        rng.between(1, end.next_sequence_recv.checked_sub(1).filter(|last| *last >= 1)?)
-    } else {
-        pick_record(rng, &draft.store, RECEIPT, end.channel)?.1.sequence
-    };
+    draft.packet.sequence = some_received(rng, &draft.store, end)?;
     draft.acknowledgement = rng.nonzero_digest();
-    let taken = find_record(&draft.store, ACKNOWLEDGEMENT, end.channel, draft.packet.sequence);
-    taken.is_none().then_some(())
+    let written = find_record(&draft.store, ACKNOWLEDGEMENT, end.channel, draft.packet.sequence);
+    written.is_none().then_some(())
+}
+
+/// The sequence of a packet that this end received.
+pub fn some_received(rng: &mut Rng, store: &[u8], end: &Channel) -> Option<u64> {
+    if end.is_unordered() {
+        return Some(pick_record(rng, store, RECEIPT, end.channel)?.1.sequence);
+    }
+    let sequence = some_taken(rng, end)?;
+    received(store, end, sequence).then_some(sequence)
+}
+
+/// A sequence below next receive.
+pub fn some_taken(rng: &mut Rng, end: &Channel) -> Option<u64> {
+    let last = end.next_sequence_recv.checked_sub(1).filter(|last| *last >= 1)?;
+    Some(rng.between(1, last))
 }
 
 /// Acknowledge and time out: both finish a packet whose commitment is there.
@@ -143,7 +183,8 @@ fn fill_finish(rng: &mut Rng, draft: &mut Draft, end: &Channel) -> Option<()> {
 
 /// A packet whose commitment is there, and for a time-out the claim that it was not received.
 fn fill_committed(rng: &mut Rng, draft: &mut Draft, end: &Channel) -> Option<()> {
-    let record = if end.is_ordered() && draft.kind == ACKNOWLEDGE {
+    let in_order = if draft.kind == ACKNOWLEDGE { !end.is_unordered() } else { end.counts_timeouts() };
+    let record = if in_order {
         record_at(&draft.store, find_record(&draft.store, COMMITMENT, end.channel, end.next_sequence_ack)?)
     } else {
         pick_record(rng, &draft.store, COMMITMENT, end.channel)?.1

@@ -1,6 +1,8 @@
 //! One call, how it came about and what it was made for.
 
+use crate::datagram::ALL_KINDS;
 use crate::refusal::Line;
+use crate::store::ORDERS;
 
 /// What is called, with the bytes that it is lent.
 #[derive(Clone, Debug)]
@@ -27,7 +29,14 @@ pub enum Task {
 #[derive(Clone, Copy, Debug, PartialEq, Eq, PartialOrd, Ord)]
 pub struct Row {
     pub kind: u16,
-    pub ordered: bool,
+    /// That of the end, or the one that a new end is to have.
+    pub order: u8,
+}
+
+impl Row {
+    pub fn all() -> impl Iterator<Item = Row> {
+        ALL_KINDS.into_iter().flat_map(|kind| ORDERS.map(|order| Row { kind, order }))
+    }
 }
 
 /// How a call came about.

@@ -19,7 +19,7 @@ pub fn converting(rng: &mut Rng, fit: &[u8], datagram: Vec<u8>) -> Call {
             let way = damage(rng, &mut store);
             let answer = converter_answer(way);
             // Any other damage may be met in any order.
-            if answer != 0 && store.len() >= PACKET_RECORDS && !rng.one_in(4) {
+            if answer != 0 && store.len() >= PACKET_RECORDS && !rng.one_in(3) {
                 scatter(rng, &mut store);
             }
             (Origin::Damaged(way), Some(answer))

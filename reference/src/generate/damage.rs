@@ -15,7 +15,7 @@ use crate::store::*;
 type Damage = fn(&mut Rng, &mut Vec<u8>) -> Option<()>;
 
 /// Each kind of damage with its name. A kind answers nothing when the store has no place for it.
-pub const KINDS: [(&str, Damage); 35] = [
+pub const KINDS: [(&str, Damage); 42] = [
     ("slice cut short", cut_short),
     ("slice too long", too_long),
     ("record too few or many", record_more_or_less),
@@ -29,7 +29,7 @@ pub const KINDS: [(&str, Damage); 35] = [
     ("header's zeros", |rng, store| flip(rng, store, header::ZEROS, HEADER - header::ZEROS)),
     ("channel kind", end::kind),
     ("channel state", |rng, store| end::byte(rng, store, channel::STATE, &[0, 5, 0x11, 0x83, 0xff])),
-    ("channel order", |rng, store| end::byte(rng, store, channel::ORDER, &[0, 3, 4, 0x11, 0xff])),
+    ("channel order", |rng, store| end::byte(rng, store, channel::ORDER, &[0, 4, 5, 0x11, 0xff])),
     ("INIT with a channel", end::init_with_channel),
     ("version not padded", end::version_not_padded),
     ("counter 0", end::counter_zero),
@@ -40,10 +40,17 @@ pub const KINDS: [(&str, Damage); 35] = [
     ("record without channel", record::without_channel),
     ("sequence 0", record::sequence_zero),
     ("commitment not sent", record::commitment_not_sent),
-    ("receipt on ordered", record::receipt_on_ordered),
-    ("receipt not plain", record::receipt_not_plain),
+    ("receipt on ordered", |rng, store| record::placed_on(rng, store, RECEIPT, ORDERED)),
+    ("receipt where timeouts are allowed", |rng, store| record::placed_on(rng, store, RECEIPT, ALLOW_TIMEOUT)),
+    ("receipt not plain", |rng, store| record::not_plain(rng, store, RECEIPT)),
+    ("timeout receipt on ordered", |rng, store| record::placed_on(rng, store, TIMEOUT_RECEIPT, ORDERED)),
+    ("timeout receipt on unordered", |rng, store| record::placed_on(rng, store, TIMEOUT_RECEIPT, UNORDERED)),
+    ("timeout receipt not taken", |rng, store| record::not_taken(rng, store, TIMEOUT_RECEIPT, ALLOW_TIMEOUT)),
+    ("timeout receipt not plain", |rng, store| record::not_plain(rng, store, TIMEOUT_RECEIPT)),
+    ("acknowledged and lapsed", record::acknowledged_and_lapsed),
     ("acknowledgement with timeout", record::acknowledgement_with_timeout),
-    ("not received, ordered", record::not_received_ordered),
+    ("not received, ordered", |rng, store| record::not_taken(rng, store, ACKNOWLEDGEMENT, ORDERED)),
+    ("not received, timeouts allowed", |rng, store| record::not_taken(rng, store, ACKNOWLEDGEMENT, ALLOW_TIMEOUT)),
     ("not received, unordered", record::not_received_unordered),
     ("free record not zero", record::free_not_zero),
     ("two of one key", record::twice),

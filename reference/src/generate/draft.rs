@@ -5,6 +5,7 @@ use super::step::Step;
 use crate::bytes::*;
 use crate::datagram::*;
 use crate::places::{context, frame, packet, send, time_out_on_close, write};
+use crate::rules::reached;
 use crate::store::*;
 use crate::verdict::*;
 
@@ -21,7 +22,9 @@ pub struct Draft {
     pub packet: Packet,
     pub acknowledgement: Digest,
     pub verdict: Verdict,
-    /// What the packet's verdict of an ordered time-out says the next receive is.
+    /// By which claim a time-out of either sort says that the packet was not received.
+    pub absence: u16,
+    /// What the next receive is, where that is claimed.
     pub claimed: u64,
     pub step: Step,
 }
@@ -33,7 +36,13 @@ impl Draft {
 
     pub fn row(&self) -> Row {
         let order = if has_version(self.kind) { self.step.order } else { self.end().order };
-        Row { kind: self.kind, ordered: order == ORDERED }
+        Row { kind: self.kind, order }
+    }
+
+    /// Whether the packet of a receive comes late.
+    pub fn is_late(&self) -> bool {
+        let (Context { height, time, .. }, packet) = (self.context, &self.packet);
+        reached(height, packet.timeout_height) || reached(time, packet.timeout_timestamp)
     }
 
     pub fn set_end(&mut self, end: Channel) {
@@ -73,9 +82,11 @@ impl Draft {
         if is_step(self.kind) {
             return;
         }
-        let ordered = end.is_ordered();
         let Verdict { proof_height, proof_time, .. } = self.verdict;
-        self.verdict = needed_verdict(self.kind, ordered, &self.packet, self.acknowledgement, self.claimed);
+        self.verdict = match self.kind {
+            TIME_OUT | TIME_OUT_ON_CLOSE => absence_verdict(self.absence, &self.packet, self.claimed),
+            kind => needed_verdict(kind, &self.packet, self.acknowledgement),
+        };
         self.verdict.proof_height = proof_height;
         self.verdict.proof_time = proof_time;
     }
@@ -102,24 +113,42 @@ pub const NO_VERDICT: Verdict = Verdict {
     digest: NO_DIGEST,
 };
 
-/// The verdict about this packet that a receive, an acknowledge or a time-out of either sort needs.
-pub fn needed_verdict(kind: u16, ordered: bool, packet: &Packet, acknowledgement: Digest, claimed: u64) -> Verdict {
-    let about_destination =
-        Verdict { port: packet.dest_port, channel: packet.dest_channel, sequence: packet.sequence, ..NO_VERDICT };
+/// The claims by which a time-out of this kind can say that a packet was not received.
+pub fn absence_claims(kind: u16, order: u8) -> &'static [u16] {
+    match (order, kind) {
+        (ORDERED, _) => &[NEXT_RECV_EQUALS],
+        (UNORDERED, _) => &[RECEIPT_ABSENT],
+        (_, TIME_OUT_ON_CLOSE) => &[NEXT_RECV_EQUALS, TIMEOUT_RECEIPT_PRESENT],
+        _ => &[TIMEOUT_RECEIPT_PRESENT],
+    }
+}
+
+/// The verdict about this packet that a receive or an acknowledge needs.
+pub fn needed_verdict(kind: u16, packet: &Packet, acknowledgement: Digest) -> Verdict {
     match kind {
         RECEIVE => Verdict {
             claim: COMMITMENT_PRESENT,
             port: packet.source_port,
             channel: packet.source_channel,
+            sequence: packet.sequence,
             timeout_height: packet.timeout_height,
             timeout_timestamp: packet.timeout_timestamp,
             digest: packet.digest,
-            ..about_destination
+            ..NO_VERDICT
         },
-        ACKNOWLEDGE => Verdict { claim: ACKNOWLEDGEMENT_PRESENT, digest: acknowledgement, ..about_destination },
-        _ if ordered => Verdict { claim: NEXT_RECV_EQUALS, sequence: claimed, ..about_destination },
-        _ => Verdict { claim: RECEIPT_ABSENT, ..about_destination },
+        _ => Verdict { digest: acknowledgement, ..about_destination(ACKNOWLEDGEMENT_PRESENT, packet) },
     }
+}
+
+/// The verdict by which this claim says that the packet was not received, or that next receive is so much.
+pub fn absence_verdict(claim: u16, packet: &Packet, next: u64) -> Verdict {
+    let sequence = if claim == NEXT_RECV_EQUALS { next } else { packet.sequence };
+    Verdict { sequence, ..about_destination(claim, packet) }
+}
+
+fn about_destination(claim: u16, packet: &Packet) -> Verdict {
+    let (port, channel) = (packet.dest_port, packet.dest_channel);
+    Verdict { claim, port, channel, sequence: packet.sequence, ..NO_VERDICT }
 }
 
 /// The bytes of a datagram that is about a packet and has one verdict or none.

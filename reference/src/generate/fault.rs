@@ -1,11 +1,11 @@
 //! Spoils a call that would be accepted, so that one line of the table applies and none before it begins to.
 
 mod handshake;
+mod row;
 mod verdict;
 
-use super::accept::{come_short, pick_record};
-use super::call::Row;
-use super::draft::Draft;
+use super::accept::{come_late, come_short, pick_record};
+use super::draft::{absence_claims, Draft};
 use super::rng::Rng;
 use super::shape::{channels, fill, place};
 use crate::bytes::*;
@@ -13,54 +13,17 @@ use crate::datagram::*;
 use crate::places::header;
 use crate::refusal::*;
 use crate::store::*;
+use crate::verdict::NEXT_RECV_EQUALS;
+pub use row::{aims, never_given, never_together, numbers};
 pub use verdict::parts;
-
-/// The refusals from 4 that can be brought about in this row, but for those of the parts of verdicts.
-pub fn numbers(row: Row) -> &'static [u8] {
-    match (row.kind, row.ordered) {
-        (SEND, _) => &[4, 5, 6, 7, 10, 11, 19, 20],
-        (RECEIVE, true) => &[4, 5, 6, 7, 8, 9, 11, 15, 19],
-        (RECEIVE, false) => &[4, 5, 6, 7, 8, 9, 11, 16, 20],
-        (WRITE, _) => &[4, 5, 6, 7, 16, 17, 18, 20],
-        (ACKNOWLEDGE, true) => &[4, 5, 6, 7, 8, 9, 13, 15, 19],
-        (ACKNOWLEDGE, false) => &[4, 5, 6, 7, 8, 9, 13],
-        (OPEN_INIT, _) => &[4, 25, 27],
-        (OPEN_TRY, _) => &[4, 8, 25, 27],
-        (OPEN_ACKNOWLEDGE | OPEN_CONFIRM | CLOSE_CONFIRM, _) => &[4, 5, 7, 8, 26, 27],
-        (CLOSE_INIT, _) => &[4, 5, 7, 8, 26],
-        (TIME_OUT_ON_CLOSE, true) => &[4, 5, 7, 9, 13, 15, 27],
-        (TIME_OUT_ON_CLOSE, false) => &[4, 5, 7, 9, 13, 27],
-        (_, true) => &[4, 5, 7, 9, 12, 13, 15],
-        (_, false) => &[4, 5, 7, 9, 12, 13],
-    }
-}
-
-/// All lines that can be aimed at in this row, in their order: the first three, which any call can get, and those of
-/// its kind.
-pub fn aims(row: Row) -> Vec<Line> {
-    let first = [STORE_NOT_FIT, OUTPUT_SHORT, MALFORMED];
-    let numbers = first.iter().chain(numbers(row)).map(|number| Line::from(*number));
-    let mut lines: Vec<Line> = numbers.chain(parts(row).into_iter().map(Line::from)).collect();
-    lines.sort_unstable();
-    lines
-}
-
-/// Whether the refusal can apply without another one. No counter alone keeps an acknowledge out: see
-/// `counter_at_end`.
-pub fn alone_possible(row: Row, line: Line) -> bool {
-    row.kind != ACKNOWLEDGE || line.number() != COUNTER_AT_END
-}
-
-/// Whether two lines can apply together, the first one first. A send without timeouts has none to pass, and in a fit
-/// store only a received packet is acknowledged.
-pub fn pair_possible(first: Line, second: Line) -> bool {
-    let numbers = (first.number(), second.number());
-    first < second && !matches!(numbers, (NO_TIMEOUT, TIMEOUT_PASSED) | (ALREADY_THERE, NOT_RECEIVED))
-}
 
 /// Brings these lines about, which are in order and from 4 on. The verdicts are matched when all else is as it will be,
 /// and then spoiled. False when the dice or the store do not allow it.
 pub fn spoil(rng: &mut Rng, draft: &mut Draft, lines: &[Line]) -> bool {
+    if lines.contains(&Part::Sequence.into()) {
+        // Of two claims, the last is of this very sequence.
+        draft.absence = absence_claims(draft.kind, draft.end().order).last().copied().unwrap_or_default();
+    }
     let mut numbers = lines.iter().rev().filter(|line| line.part().is_none());
     if !numbers.all(|line| spoil_number(rng, draft, line.number())) {
         return false;
@@ -84,14 +47,14 @@ fn spoil_number(rng: &mut Rng, draft: &mut Draft, number: u8) -> bool {
         CONNECTION_NOT_OPEN => draft.context.connection = 0,
         WRONG_END => wrong_end(rng, draft),
         NO_TIMEOUT => (draft.packet.timeout_height, draft.packet.timeout_timestamp) = (0, 0),
-        TIMEOUT_PASSED => return pass(rng, draft),
+        TIMEOUT_PASSED => pass(rng, draft),
         TIMEOUT_NOT_PASSED => come_short(rng, &draft.packet, &mut draft.verdict),
         NO_COMMITMENT => other_commitment(rng, draft),
         OUT_OF_ORDER => return out_of_order(rng, draft),
         ALREADY_THERE => return already_there(rng, draft),
         NOT_RECEIVED => return not_received(rng, draft),
         EMPTY_ACKNOWLEDGEMENT => draft.acknowledgement = NO_DIGEST,
-        COUNTER_AT_END => counter_at_end(draft),
+        COUNTER_AT_END => return counter_at_end(draft),
         NO_FREE_CHANNEL => handshake::no_free_channel(rng, draft),
         NOT_PRIOR_STATE => handshake::not_prior_state(rng, draft),
         WRONG_VERSION => handshake::wrong_version(rng, draft),
@@ -123,18 +86,13 @@ fn wrong_end(rng: &mut Rng, draft: &mut Draft) {
     }
 }
 
-fn pass(rng: &mut Rng, draft: &mut Draft) -> bool {
+fn pass(rng: &mut Rng, draft: &mut Draft) {
     if draft.kind == SEND {
         draft.context.client_height = draft.context.client_height.max(1);
         draft.packet.timeout_height = rng.between(1, draft.context.client_height);
-        return true;
+        return;
     }
-    if draft.context.time >= 1 && rng.one_in(2) {
-        draft.packet.timeout_timestamp = rng.between(1, draft.context.time);
-    } else {
-        draft.packet.timeout_height = rng.between(1, draft.context.height);
-    }
-    true
+    come_late(rng, &draft.context, &mut draft.packet);
 }
 
 /// The commitment goes, or differs from the packet in one value.
@@ -171,26 +129,40 @@ fn other_sender(rng: &mut Rng, store: &[u8], record: &Record) -> Option<u32> {
 }
 
 fn out_of_order(rng: &mut Rng, draft: &mut Draft) -> bool {
-    let mut end = draft.end();
+    let end = draft.end();
     match draft.kind {
         RECEIVE => {
             draft.packet.sequence = rng.other_than(end.next_sequence_recv);
             draft.packet.sequence != 0
         }
-        // With the counter at its end, the packet is out of order already.
-        ACKNOWLEDGE if end.next_sequence_ack == u64::MAX => true,
-        ACKNOWLEDGE => {
-            end.next_sequence_ack = rng.other_than(draft.packet.sequence).max(1);
-            draft.set_end(end);
-            end.next_sequence_ack != draft.packet.sequence
-        }
+        ACKNOWLEDGE => not_its_turn(rng, draft),
         _ => {
-            let above = draft.packet.sequence.saturating_add(1);
-            let far = rng.pick(&[0, 1, 9, u64::MAX]);
-            draft.claimed = rng.between(above, above.saturating_add(far));
-            draft.claimed > draft.packet.sequence
+            let (by_claim, by_turn) = (draft.absence == NEXT_RECV_EQUALS, end.counts_timeouts());
+            // Where it can be both, it is one of the two, or both.
+            let which = rng.below(3);
+            let claims = by_claim && (!by_turn || which != 0);
+            let turns = by_turn && (!by_claim || which != 1);
+            (claims || turns) && (!claims || claim_taken(rng, draft)) && (!turns || not_its_turn(rng, draft))
         }
     }
+}
+
+/// The next receive that is claimed is above the sequence.
+fn claim_taken(rng: &mut Rng, draft: &mut Draft) -> bool {
+    let above = draft.packet.sequence.saturating_add(1);
+    let far = rng.pick(&[0, 1, 9, u64::MAX]);
+    draft.claimed = rng.between(above, above.saturating_add(far));
+    draft.claimed > draft.packet.sequence
+}
+
+/// Next acknowledge is another number. At its end it is one already.
+fn not_its_turn(rng: &mut Rng, draft: &mut Draft) -> bool {
+    let mut end = draft.end();
+    if end.next_sequence_ack != u64::MAX {
+        end.next_sequence_ack = rng.other_than(draft.packet.sequence).max(1);
+        draft.set_end(end);
+    }
+    end.next_sequence_ack != draft.packet.sequence
 }
 
 fn already_there(rng: &mut Rng, draft: &mut Draft) -> bool {
@@ -200,20 +172,25 @@ fn already_there(rng: &mut Rng, draft: &mut Draft) -> bool {
     place(rng, &mut draft.store, &record)
 }
 
+/// The packet was not taken, or it lapsed.
 fn not_received(rng: &mut Rng, draft: &mut Draft) -> bool {
     let end = draft.end();
-    draft.packet.sequence = if end.is_ordered() {
-        rng.between(end.next_sequence_recv, u64::MAX)
-    } else {
+    if end.allows_timeouts() && rng.one_in(2) {
+        let (channel, sequence) = (end.channel, draft.packet.sequence);
+        return place(rng, &mut draft.store, &Record { kind: TIMEOUT_RECEIPT, channel, sequence, ..Record::FREE });
+    }
+    draft.packet.sequence = if end.is_unordered() {
         // Next to a receipt, or anywhere.
         let near = pick_record(rng, &draft.store, RECEIPT, end.channel).map_or(1, |(_, record)| record.sequence);
         rng.other_than(near).max(1)
+    } else {
+        rng.between(end.next_sequence_recv, u64::MAX)
     };
     !received(&draft.store, &end, draft.packet.sequence)
 }
 
-/// On an ordered acknowledge the packet is then out of order too, as no commitment reaches the last sequence.
-fn counter_at_end(draft: &mut Draft) {
+/// Where packets are finished in order the packet is then out of order too, as no commitment has the last sequence.
+fn counter_at_end(draft: &mut Draft) -> bool {
     let mut end = draft.end();
     match draft.kind {
         SEND => end.next_sequence_send = u64::MAX,
@@ -221,14 +198,20 @@ fn counter_at_end(draft: &mut Draft) {
             end.next_sequence_recv = u64::MAX;
             draft.packet.sequence = u64::MAX;
         }
+        TIME_OUT | TIME_OUT_ON_CLOSE if !end.counts_timeouts() => return false,
         _ => end.next_sequence_ack = u64::MAX,
     }
     draft.set_end(end);
+    true
 }
 
-/// Commitments that are put in raise next send, but not to its end, where 19 would apply too.
+/// Commitments that are put in raise next send, but not to its end, where 19 would apply too. A packet that is taken in
+/// order needs a record only where it comes late.
 fn no_free_record(rng: &mut Rng, draft: &mut Draft) -> bool {
     let end = draft.end();
+    if draft.kind == RECEIVE && end.allows_timeouts() {
+        come_late(rng, &draft.context, &mut draft.packet);
+    }
     let filled = fill(rng, &mut draft.store, 0, Some((end.channel, draft.packet.sequence)));
     filled && (end.next_sequence_send == u64::MAX || draft.end().next_sequence_send < u64::MAX)
 }

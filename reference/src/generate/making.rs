@@ -4,7 +4,7 @@ use super::rng::Rng;
 use crate::bytes::*;
 use crate::places::{frame, opening, CHANNELS, HEADER, MAX_RECORDS, OPENING_KIND, PACKET_RECORDS, RECORD};
 use crate::refusal::*;
-use crate::store::{store_length, ORDERED, UNORDERED};
+use crate::store::{store_length, ORDERS};
 
 /// What the maker is lent, and the answer that it was made for.
 pub struct Making {
@@ -24,8 +24,13 @@ pub fn records(rng: &mut Rng) -> usize {
     1 + rng.index(most)
 }
 
-/// Well-formed openings with different channel numbers.
+/// Well-formed openings with different channel numbers, of all orders.
 pub fn openings(rng: &mut Rng, count: usize) -> Vec<u8> {
+    openings_of(rng, count, &ORDERS)
+}
+
+/// And of these orders alone.
+pub fn openings_of(rng: &mut Rng, count: usize, orders: &[u8]) -> Vec<u8> {
     let mut numbers: Vec<u32> = Vec::new();
     while numbers.len() < count {
         let number = if rng.one_in(8) { rng.draw() as u32 } else { rng.below(40) as u32 };
@@ -33,10 +38,10 @@ pub fn openings(rng: &mut Rng, count: usize) -> Vec<u8> {
             numbers.push(number);
         }
     }
-    numbers.into_iter().flat_map(|number| one_opening(rng, number)).collect()
+    numbers.into_iter().flat_map(|number| one_opening(rng, number, orders)).collect()
 }
 
-fn one_opening(rng: &mut Rng, number: u32) -> [u8; opening::LENGTH] {
+fn one_opening(rng: &mut Rng, number: u32, orders: &[u8]) -> [u8; opening::LENGTH] {
     let mut bytes = [0; opening::LENGTH];
     put_u32(&mut bytes, frame::LENGTH, opening::LENGTH as u32);
     put_u16(&mut bytes, frame::KIND, OPENING_KIND);
@@ -44,7 +49,7 @@ fn one_opening(rng: &mut Rng, number: u32) -> [u8; opening::LENGTH] {
     put_u32(&mut bytes, opening::CHANNEL, number);
     put_u16(&mut bytes, opening::COUNTERPARTY_PORT, port(rng));
     put_u32(&mut bytes, opening::COUNTERPARTY_CHANNEL, rng.number() as u32);
-    bytes[opening::ORDER] = rng.pick(&[ORDERED, UNORDERED]);
+    bytes[opening::ORDER] = rng.pick(orders);
     bytes
 }
 
@@ -113,7 +118,7 @@ fn malform_list(rng: &mut Rng, list: &mut Vec<u8>) {
     match rng.below(4) {
         0 => list[start + frame::LENGTH + rng.index(4)] ^= 1 << rng.below(8),
         1 => list[start + frame::KIND + rng.index(2)] ^= 1 << rng.below(8),
-        2 => list[start + opening::ORDER] = rng.pick(&[0, 3, 0x11, 0x82, 0xff]),
+        2 => list[start + opening::ORDER] = rng.pick(&[0, 4, 0x11, 0x82, 0xff]),
         _ => list[start + opening::ZERO] = 1 << rng.below(8),
     }
 }

@@ -7,24 +7,10 @@ use super::rng::Rng;
 use crate::bytes::*;
 use crate::datagram::*;
 use crate::places::{confirm, context, frame, open_acknowledge, open_init, open_try, packet, time_out_on_close, write};
-use crate::store::{ORDERED, UNORDERED};
+use crate::store::ORDERS;
 
 type Way = fn(&mut Rng, &mut Vec<u8>) -> Option<()>;
 
-const ALL_KINDS: &[u16] = &[
-    SEND,
-    RECEIVE,
-    WRITE,
-    ACKNOWLEDGE,
-    TIME_OUT,
-    OPEN_INIT,
-    OPEN_TRY,
-    OPEN_ACKNOWLEDGE,
-    OPEN_CONFIRM,
-    CLOSE_INIT,
-    CLOSE_CONFIRM,
-    TIME_OUT_ON_CLOSE,
-];
 const WITH_SEQUENCE: &[u16] = &[RECEIVE, WRITE, ACKNOWLEDGE, TIME_OUT, TIME_OUT_ON_CLOSE];
 const WITH_VERDICT: &[u16] =
     &[RECEIVE, ACKNOWLEDGE, TIME_OUT, OPEN_TRY, OPEN_ACKNOWLEDGE, OPEN_CONFIRM, CLOSE_CONFIRM, TIME_OUT_ON_CLOSE];
@@ -34,13 +20,13 @@ const WITH_ORDER: &[u16] = &[OPEN_INIT, OPEN_TRY];
 /// Each way with its name and the kinds of datagrams that have a place for it. A way answers nothing when the dice
 /// leave the datagram as it was.
 pub const WAYS: [(&str, &[u16], Way); 11] = [
-    ("under 6 bytes", ALL_KINDS, under_six),
-    ("length field", ALL_KINDS, length_field),
-    ("kind unknown", ALL_KINDS, kind_unknown),
-    ("length wrong for the kind", ALL_KINDS, wrong_length),
-    ("zero byte", ALL_KINDS, zero_byte),
-    ("connection", ALL_KINDS, connection),
-    ("own height 0", ALL_KINDS, |_, bytes| zero(bytes, frame::BODY + context::HEIGHT)),
+    ("under 6 bytes", &ALL_KINDS, under_six),
+    ("length field", &ALL_KINDS, length_field),
+    ("kind unknown", &ALL_KINDS, kind_unknown),
+    ("length wrong for the kind", &ALL_KINDS, wrong_length),
+    ("zero byte", &ALL_KINDS, zero_byte),
+    ("connection", &ALL_KINDS, connection),
+    ("own height 0", &ALL_KINDS, |_, bytes| zero(bytes, frame::BODY + context::HEIGHT)),
     ("sequence 0", WITH_SEQUENCE, sequence_zero),
     ("claim", WITH_VERDICT, claim),
     ("second claim", WITH_TWO_VERDICTS, |rng, bytes| unknown_claim(rng, bytes, time_out_on_close::VERDICT)),
@@ -116,7 +102,7 @@ fn wrong_length(rng: &mut Rng, bytes: &mut Vec<u8>) -> Option<()> {
             bytes.resize(length, 0);
         }
         _ => {
-            let other = rng.pick(ALL_KINDS);
+            let other = rng.pick(&ALL_KINDS);
             if can_have_length(other, bytes.len()) {
                 return None;
             }
@@ -163,13 +149,13 @@ fn claim(rng: &mut Rng, bytes: &mut Vec<u8>) -> Option<()> {
 
 /// In the verdict at this place behind the context.
 fn unknown_claim(rng: &mut Rng, bytes: &mut [u8], at: usize) -> Option<()> {
-    put_u16(bytes, frame::BODY + context::LENGTH + at, rng.pick(&[0, 6, 7, 0x0100, 0x0101, 0x0205, 0x8004, 0xffff]));
+    put_u16(bytes, frame::BODY + context::LENGTH + at, rng.pick(&[0, 7, 8, 0x0100, 0x0101, 0x0206, 0x8004, 0xffff]));
     Some(())
 }
 
 fn order(rng: &mut Rng, bytes: &mut Vec<u8>) -> Option<()> {
     let at = if get_u16(bytes, frame::KIND) == OPEN_INIT { open_init::ORDER } else { open_try::ORDER };
-    bytes[frame::BODY + context::LENGTH + at] = rng.pick(&[0, 3, 4, 0x11, 0x82, 0xff]);
+    bytes[frame::BODY + context::LENGTH + at] = rng.pick(&[0, 4, 5, 0x11, 0x82, 0xff]);
     Some(())
 }
 
@@ -192,7 +178,7 @@ pub fn garbage(rng: &mut Rng) -> Vec<u8> {
     }
     let order = frame::BODY + context::LENGTH + open_init::ORDER;
     if kind == OPEN_INIT && length > order && rng.one_in(2) {
-        bytes[order] = rng.pick(&[ORDERED, UNORDERED]);
+        bytes[order] = rng.pick(&ORDERS);
     }
     bytes
 }

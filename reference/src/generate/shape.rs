@@ -1,11 +1,10 @@
 //! Changes that keep a store fit: records put in, and states that no short run of calls would reach.
 
-use super::accept::pick_record;
+use super::accept::{pick_record, some_received, some_taken};
 use super::making::port;
 use super::rng::Rng;
 use super::step::{padded, some_version};
 use crate::bytes::*;
-use crate::datagram::{OPEN_ACKNOWLEDGE, OPEN_CONFIRM};
 use crate::places::{header, CHANNELS, RECORD};
 use crate::store::*;
 
@@ -20,19 +19,26 @@ pub fn channels(store: &[u8]) -> Vec<(usize, Channel)> {
 /// Puts a record in, where none is free for it in place of a commitment of another key: nothing in a fit store leans on
 /// one.
 pub fn place(rng: &mut Rng, store: &mut [u8], record: &Record) -> bool {
-    if !has_room(store) {
-        let mut commitments: Vec<usize> = (0..record_count(store)).collect();
-        commitments.retain(|index| {
-            let other = record_at(store, *index);
-            other.kind == COMMITMENT && other.key() != record.key()
-        });
-        let Some(index) = rng.pick_any(&commitments) else {
-            return false;
-        };
-        remove(store, index);
+    let has_room = make_room(rng, store, record.key());
+    if has_room {
+        insert(store, record);
     }
-    insert(store, record);
-    true
+    has_room
+}
+
+/// Frees a commitment of another key than this, where no record is free.
+pub fn make_room(rng: &mut Rng, store: &mut [u8], key: u128) -> bool {
+    if has_room(store) {
+        return true;
+    }
+    let mut commitments: Vec<usize> = (0..record_count(store)).collect();
+    commitments.retain(|index| {
+        let other = record_at(store, *index);
+        other.kind == COMMITMENT && other.key() != key
+    });
+    let found = rng.pick_any(&commitments);
+    found.into_iter().for_each(|index| remove(store, index));
+    found.is_some()
 }
 
 /// Puts records in until `left` are free, never a receipt or acknowledgement of the packet to keep.
@@ -58,25 +64,31 @@ pub fn fill(rng: &mut Rng, store: &mut [u8], left: usize, keep: Option<(u32, u64
 pub fn fill_channels(rng: &mut Rng, store: &mut [u8], left: usize) {
     let free: Vec<usize> = (0..CHANNELS).filter(|index| channel_at(store, *index).is_none()).collect();
     for index in free.iter().skip(left) {
-        let number = unused_number(rng, store);
-        let next = next_channel(store).max(u64::from(number) + 1);
-        put_u64(store, header::NEXT_CHANNEL, next);
-        let state = rng.pick(&[INIT, TRYOPEN, OPEN, CLOSED]);
-        let counterparty_channel = if state == INIT { 0 } else { rng.number() as u32 };
-        let end = Channel {
-            state,
-            order: rng.pick(&[ORDERED, UNORDERED]),
-            channel: number,
-            port: port(rng),
-            counterparty_port: port(rng),
-            counterparty_channel,
-            next_sequence_send: rng.number_from_1(),
-            next_sequence_recv: rng.number_from_1(),
-            next_sequence_ack: rng.number_from_1(),
-            version: padded(&some_version(rng)),
-        };
-        end.write(&mut store[channel_place(*index)..]);
+        let order = rng.pick(&ORDERS);
+        add_end(rng, store, *index, order);
     }
+}
+
+/// An end of this order in any state takes the channel record of this index, which is free.
+pub fn add_end(rng: &mut Rng, store: &mut [u8], index: usize, order: u8) {
+    let number = unused_number(rng, store);
+    let next = next_channel(store).max(u64::from(number) + 1);
+    put_u64(store, header::NEXT_CHANNEL, next);
+    let state = rng.pick(&[INIT, TRYOPEN, OPEN, CLOSED]);
+    let counterparty_channel = if state == INIT { 0 } else { rng.number() as u32 };
+    let end = Channel {
+        state,
+        order,
+        channel: number,
+        port: port(rng),
+        counterparty_port: port(rng),
+        counterparty_channel,
+        next_sequence_send: rng.number_from_1(),
+        next_sequence_recv: rng.number_from_1(),
+        next_sequence_ack: rng.number_from_1(),
+        version: padded(&some_version(rng)),
+    };
+    end.write(&mut store[channel_place(index)..]);
 }
 
 /// Leaves no number for another end.
@@ -97,43 +109,35 @@ fn unused_number(rng: &mut Rng, store: &[u8]) -> u32 {
     }
 }
 
-/// A record that the end at this index may have; next send rises for a commitment when it has to.
+/// A record that the end at this index may have.
 fn some_record(rng: &mut Rng, store: &mut [u8], at: usize) -> Option<Record> {
-    let mut end = channel_at(store, at)?;
+    let end = channel_at(store, at)?;
     let blank = Record { channel: end.channel, ..Record::FREE };
     match rng.below(4) {
-        0 if !end.is_ordered() => Some(Record { kind: RECEIPT, sequence: rng.number_from_1(), ..blank }),
+        0 if end.is_unordered() => Some(Record { kind: RECEIPT, sequence: rng.number_from_1(), ..blank }),
+        0 if end.allows_timeouts() => {
+            let sequence = some_taken(rng, &end)?;
+            let written = find_record(store, ACKNOWLEDGEMENT, end.channel, sequence);
+            written.is_none().then_some(Record { kind: TIMEOUT_RECEIPT, sequence, ..blank })
+        }
         1 => {
-            let sequence = if end.is_ordered() {
-                rng.between(1, end.next_sequence_recv.checked_sub(1).filter(|last| *last >= 1)?)
-            } else {
-                pick_record(rng, store, RECEIPT, end.channel)?.1.sequence
-            };
+            let sequence = some_received(rng, store, &end)?;
             Some(Record { kind: ACKNOWLEDGEMENT, sequence, digest: rng.digest(), ..blank })
         }
-        _ => {
-            let sequence =
-                if rng.one_in(2) { end.next_sequence_send } else { rng.below(end.next_sequence_send).max(1) };
-            end.next_sequence_send = end.next_sequence_send.max(sequence.checked_add(1)?);
-            end.write(&mut store[channel_place(at)..]);
-            let (timeout_height, timeout_timestamp) = (rng.number(), rng.number());
-            let digest = rng.digest();
-            Some(Record { kind: COMMITMENT, sequence, timeout_height, timeout_timestamp, digest, ..blank })
-        }
+        _ => some_commitment(rng, store, at),
     }
 }
 
-/// Puts some end into the state in which this step of the handshake begins; other kinds need none.
-pub fn make_ready(rng: &mut Rng, store: &mut [u8], kind: u16) {
-    let Some((index, end)) = rng.pick_any(&channels(store)) else {
-        return;
-    };
-    let ready = match kind {
-        OPEN_ACKNOWLEDGE => Channel { state: INIT, counterparty_channel: 0, ..end },
-        OPEN_CONFIRM => Channel { state: TRYOPEN, ..end },
-        _ => return,
-    };
-    ready.write(&mut store[channel_place(index)..]);
+/// A commitment that the end at this index may have; next send rises when it has to.
+pub fn some_commitment(rng: &mut Rng, store: &mut [u8], at: usize) -> Option<Record> {
+    let mut end = channel_at(store, at)?;
+    let sequence = if rng.one_in(2) { end.next_sequence_send } else { rng.below(end.next_sequence_send).max(1) };
+    end.next_sequence_send = end.next_sequence_send.max(sequence.checked_add(1)?);
+    end.write(&mut store[channel_place(at)..]);
+    let none = rng.one_in(6);
+    let (timeout_height, timeout_timestamp) = if none { (0, 0) } else { (rng.number(), rng.number()) };
+    let digest = rng.digest();
+    Some(Record { kind: COMMITMENT, channel: end.channel, sequence, timeout_height, timeout_timestamp, digest })
 }
 
 /// One random change after which a fit store is still fit.
@@ -212,10 +216,10 @@ fn other_counters(rng: &mut Rng, store: &mut [u8]) {
         1 => end.next_sequence_send = rng.between(end.next_sequence_send, u64::MAX),
         2 => end.next_sequence_recv = rng.between(end.next_sequence_recv, u64::MAX),
         3 | 4 => end.next_sequence_recv = end.next_sequence_recv.max(rng.below(9)),
-        5 if !end.is_ordered() => end.next_sequence_recv = rng.number_from_1(),
+        5 if end.is_unordered() => end.next_sequence_recv = rng.number_from_1(),
         6 => end.next_sequence_ack = rng.number_from_1(),
         _ => {
-            // So that an ordered acknowledge finds its commitment.
+            // So that what finishes packets in order finds its commitment.
             let found = pick_record(rng, store, COMMITMENT, end.channel);
             end.next_sequence_ack = found.map_or(end.next_sequence_ack, |(_, record)| record.sequence);
         }

@@ -103,6 +103,10 @@ impl Step {
     }
 }
 
+pub fn other_order(rng: &mut Rng, order: u8) -> u8 {
+    1 + (order + rng.below(2) as u8) % 3
+}
+
 /// The version with zeros behind it; what is beyond the room for one is left out.
 pub fn padded(version: &[u8]) -> Version {
     let mut padded = NO_VERSION;

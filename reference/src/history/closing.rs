@@ -1,7 +1,7 @@
 //! Closes and time-outs on close, for a history.
 
-use super::ledger::Shown;
-use super::packets::{absence, unfinished};
+use super::ledger::{Ledger, Shown};
+use super::packets::{absence, is_in_turn, is_lapsed, unfinished};
 use super::History;
 use crate::datagram::*;
 use crate::generate::draft::encode_on_close;
@@ -38,16 +38,24 @@ impl History {
     /// Mostly of a packet to a CLOSED end, with two verdicts that are good and of one block, if there are such; else
     /// they may be of two blocks, or of a packet that was received.
     fn time_out_on_close(&mut self, at: usize) -> Option<Vec<u8>> {
-        let packet = self.some_sent(at, |ledgers, packet| {
-            unfinished(&ledgers[at], packet) && is_closed(&ledgers[1 - at].store, packet.dest_channel)
-        })?;
+        let to_closed = |ledgers: &[Ledger; 2], packet: &Packet| {
+            let closed = is_closed(&ledgers[1 - at].store, packet.dest_channel);
+            closed && unfinished(&ledgers[at], packet) && is_in_turn(&ledgers[at], packet, Channel::counts_timeouts)
+        };
+        // Few have lapsed.
+        let lapsed =
+            self.some_sent(at, |ledgers, packet| to_closed(ledgers, packet) && is_lapsed(&ledgers[1 - at], packet));
+        let packet = lapsed.or_else(|| self.some_sent(at, to_closed))?;
         let (_, end) = find_channel(&self.ledgers[at].store, packet.source_channel)?;
         let shown = self.closed_other(at, &end)?;
         let moments = self.ledgers[1 - at].moments(&mut self.rng);
         let closed: Vec<EndVerdict> = moments.iter().filter_map(|moment| self.shown_at(at, shown, *moment)).collect();
+        // Where timeouts are allowed, a claim that holds at one moment may not at another.
+        let claims: Vec<u16> = moments.iter().map(|_| self.absence_claim(TIME_OUT_ON_CLOSE, &end, false)).collect();
         let absent: Vec<Verdict> = moments
             .iter()
-            .map(|moment| absence(&self.ledgers[1 - at], self.truth, &packet, end.is_ordered(), *moment))
+            .zip(claims)
+            .map(|(moment, claim)| absence(&self.ledgers[1 - at], self.truth, claim, &packet, *moment))
             .filter(|absence| self.may_show(at, Shown::Packet(*absence)))
             .collect();
         let good = |absence: &&Verdict| absence.sequence <= packet.sequence;

@@ -36,8 +36,9 @@ impl Ends {
         ends
     }
 
-    pub fn is_ordered(&self, end: &End) -> bool {
-        self.last.get(end).is_some_and(Channel::is_ordered)
+    /// The end as it was last.
+    pub fn get(&self, at: &End) -> Option<&Channel> {
+        self.last.get(at)
     }
 
     pub fn is_closed(&self, end: &End) -> bool {

@@ -2,10 +2,11 @@
 //! for the same two ports, and several ends answer one.
 
 use super::ledger::Shown;
+use super::opening;
 use super::History;
 use crate::datagram::*;
 use crate::generate::shape::channels;
-use crate::generate::step::{padded, Step};
+use crate::generate::step::{other_order, padded, Step};
 use crate::store::*;
 
 const VERSIONS: [&[u8]; 4] = [b"", b"v1", b"v2", b"twenty-four bytes of it."];
@@ -27,7 +28,7 @@ impl History {
     fn open_init(&mut self, at: usize) -> Option<Vec<u8>> {
         let step = Step {
             counterparty_port: self.port(),
-            order: self.rng.pick(&[ORDERED, UNORDERED]),
+            order: self.rng.pick(&opening::ORDERS),
             version: self.version(),
             ..Step::default()
         };
@@ -49,7 +50,7 @@ impl History {
         };
         let mut caller = initiator.counterparty_port;
         match self.rng.below(16) {
-            0 => step.order ^= ORDERED ^ UNORDERED,
+            0 => step.order = other_order(&mut self.rng, step.order),
             1 => step.version = self.version(),
             2 => caller = self.port(),
             3 => step.counterparty_channel = step.counterparty_channel.wrapping_add(1),

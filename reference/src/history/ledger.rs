@@ -182,6 +182,7 @@ fn holds(store: &[u8], verdict: &Verdict) -> bool {
         ACKNOWLEDGEMENT_PRESENT => found(ACKNOWLEDGEMENT).is_some_and(same),
         RECEIPT_ABSENT => found(RECEIPT).is_none(),
         NEXT_RECV_EQUALS => end.next_sequence_recv == verdict.sequence,
+        TIMEOUT_RECEIPT_PRESENT => found(TIMEOUT_RECEIPT).is_some(),
         _ => false,
     }
 }

@@ -5,8 +5,12 @@ use std::collections::BTreeSet;
 use super::ends::End;
 use crate::bytes::*;
 use crate::generate::rng::Rng;
+use crate::generate::step::other_order;
 use crate::places::{frame, opening, OPENING_KIND};
-use crate::store::{ORDERED, UNORDERED};
+use crate::store::{ALLOW_TIMEOUT, ORDERED, UNORDERED};
+
+/// The orders of a history: where timeouts are allowed there is most to count.
+pub const ORDERS: [u8; 4] = [ORDERED, UNORDERED, ALLOW_TIMEOUT, ALLOW_TIMEOUT];
 
 /// A list of openings for each ledger, and the ends that name an end which names them, with the same order.
 pub fn two_lists(rng: &mut Rng) -> ([Vec<u8>; 2], BTreeSet<End>) {
@@ -18,7 +22,7 @@ pub fn two_lists(rng: &mut Rng) -> ([Vec<u8>; 2], BTreeSet<End>) {
     for number in 0..1 + rng.below(3) as u32 {
         let (one, other) = (10 + number, 20 + rng.below(2) as u32 * 50 + number);
         let ports = [rng.below(3) as u16, rng.below(3) as u16];
-        let order = rng.pick(&[ORDERED, UNORDERED]);
+        let order = rng.pick(&ORDERS);
         lists[0].extend(one_opening(ports[0], one, ports[1], other, order));
         lists[1].extend(one_opening(ports[1], other, ports[0], one, order));
         paired.extend([(0, one), (1, other)]);
@@ -31,8 +35,9 @@ pub fn two_lists(rng: &mut Rng) -> ([Vec<u8>; 2], BTreeSet<End>) {
     }
     if rng.one_in(3) {
         // Two that name each other and do not agree on the order.
-        lists[0].extend(one_opening(1, 80, 2, 81, ORDERED));
-        lists[1].extend(one_opening(2, 81, 1, 80, UNORDERED));
+        let order = rng.pick(&ORDERS);
+        lists[0].extend(one_opening(1, 80, 2, 81, order));
+        lists[1].extend(one_opening(2, 81, 1, 80, other_order(rng, order)));
     }
     (lists, paired)
 }

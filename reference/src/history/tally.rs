@@ -3,9 +3,11 @@
 use std::collections::{BTreeMap, BTreeSet};
 
 use super::ends::{Broken, End, Ends};
+use super::sequences::{Fault, Sequences};
 use super::Truth;
 use crate::bytes::*;
-use crate::datagram::{Packet, TIME_OUT_ON_CLOSE};
+use crate::datagram::{Packet, TIME_OUT, TIME_OUT_ON_CLOSE};
+use crate::generate::shape::channels;
 use crate::places::{frame, packet};
 use crate::store::*;
 
@@ -21,7 +23,7 @@ struct Sums {
 }
 
 /// What is counted, besides the promises.
-pub const TOTALS: [&str; 16] = [
+pub const TOTALS: [&str; 24] = [
     "packets sent",
     "delivered at paired ends",
     "of them at ends of the handshake",
@@ -38,6 +40,14 @@ pub const TOTALS: [&str; 16] = [
     "by confirm",
     "packets timed out on close",
     "delivered packets stranded on a closed end",
+    "packets that lapsed",
+    "of them timed out",
+    "of them timed out on close",
+    "timed out on close and not lapsed, where timeouts are allowed",
+    "acknowledged there",
+    "timed out there by the same counter",
+    "and on an end that was not OPEN",
+    "ends that did both by one counter",
 ];
 
 #[derive(Default)]
@@ -56,7 +66,10 @@ pub struct Tally {
     on_closed: u64,
     /// Deliveries at ends that a handshake has opened.
     at_handshake: u64,
-    last_delivered: BTreeMap<End, u64>,
+    lapsed: BTreeSet<Name>,
+    /// Time-outs on close of packets that had not lapsed, where timeouts are allowed.
+    not_taken: u64,
+    sequences: Sequences,
     /// Each fault is told once.
     told: BTreeSet<String>,
     pub broken: Vec<String>,
@@ -77,7 +90,9 @@ impl Tally {
         let [inits, tries, by_acknowledge, by_confirm] = self.ends.steps();
         let (twice, crossing) = (self.ends.answered_twice(), self.ends.crossing());
         let [by_close_init, by_close_confirm] = self.ends.closes();
-        let on_close = self.timed_out.values().filter(|kind| **kind == TIME_OUT_ON_CLOSE).count() as u64;
+        let of_kind = |kind: u16| self.timed_out.iter().filter(move |(_, by)| **by == kind).map(|(name, _)| name);
+        let lapsed = |kind: u16| of_kind(kind).filter(|name| self.lapsed.contains(name)).count() as u64;
+        let [acknowledged_there, timed_out_there, not_open, by_one_counter] = self.sequences.totals();
         [
             sent,
             delivered,
@@ -93,8 +108,16 @@ impl Tally {
             crossing,
             by_close_init,
             by_close_confirm,
-            on_close,
+            of_kind(TIME_OUT_ON_CLOSE).count() as u64,
             self.stranded(),
+            self.lapsed.len() as u64,
+            lapsed(TIME_OUT),
+            lapsed(TIME_OUT_ON_CLOSE),
+            self.not_taken,
+            acknowledged_there,
+            timed_out_there,
+            not_open,
+            by_one_counter,
         ]
     }
 
@@ -118,11 +141,13 @@ impl Tally {
             0x0102 => self.take_delivered(ledger, get(bytes, 0)),
             0x0104 => self.take_finished(ledger, &Packet::read(bytes), None),
             0x0105 => self.take_finished(ledger, &Packet::read(bytes), Some(datagram)),
+            0x0106 => self.take_lapsed(ledger, &Packet::read(bytes)),
             _ => {}
         }
         let broken = self.ends.take(ledger, datagram, store, made);
         self.note(broken);
         self.check_sums(ledger, store);
+        self.check_missing(ledger, store);
     }
 
     fn take_sent(&mut self, ledger: usize, bytes: [u8; packet::LENGTH]) {
@@ -137,9 +162,10 @@ impl Tally {
         let packet = Packet::read(&bytes);
         let end = (ledger, packet.dest_channel);
         let name = (1 - ledger, packet.source_channel, packet.sequence);
-        let last = self.last_delivered.insert(end, packet.sequence).unwrap_or(0);
-        let early = self.ends.is_ordered(&end) && packet.sequence != last + 1;
-        self.note_packet(name, &[(Truth::Nothing, early, "delivered out of order")]);
+        if let Some(before) = self.ends.get(&end) {
+            let faults = self.sequences.deliver(end, before, packet.sequence);
+            self.note_packet(name, &faults);
+        }
         // At another end a second delivery of the packet breaks nothing.
         if !self.ends.is_joined(&end) {
             return;
@@ -159,6 +185,12 @@ impl Tally {
         self.note_packet(name, &faults);
     }
 
+    fn take_lapsed(&mut self, ledger: usize, packet: &Packet) {
+        if self.ends.is_joined(&(ledger, packet.dest_channel)) {
+            self.lapsed.insert((1 - ledger, packet.source_channel, packet.sequence));
+        }
+    }
+
     /// By a time-out, with the kind of its datagram, or by an acknowledgement.
     fn take_finished(&mut self, ledger: usize, packet: &Packet, by_timeout: Option<u16>) {
         let name = (ledger, packet.source_channel, packet.sequence);
@@ -176,6 +208,12 @@ impl Tally {
             _ => "timed out after its delivery",
         };
         let delivered = by_timeout.is_some() && self.delivered.contains(&name);
+        if let Some(before) = self.ends.get(&end) {
+            let on_close = by_timeout == Some(TIME_OUT_ON_CLOSE) && before.allows_timeouts();
+            self.not_taken += u64::from(on_close && !self.lapsed.contains(&name));
+            let fault = self.sequences.finish(end, before, packet.sequence, by_timeout.is_some());
+            self.note_packet(name, &[fault]);
+        }
         let faults = [
             (Truth::Nothing, !self.finished.insert(name), "finished twice"),
             (Truth::Nothing, !self.sent.contains_key(&name), "finished and never sent"),
@@ -184,7 +222,7 @@ impl Tally {
         self.note_packet(name, &faults);
     }
 
-    fn note_packet(&mut self, name: Name, faults: &[(Truth, bool, &'static str)]) {
+    fn note_packet(&mut self, name: Name, faults: &[Fault]) {
         let broken = faults.iter().filter(|(_, broken, _)| *broken);
         self.note(broken.map(|(needs, _, fault)| (*needs, *fault, format!("packet {name:?}"))).collect());
     }
@@ -201,6 +239,16 @@ impl Tally {
             } else {
                 *self.excused.entry(name).or_default() += 1;
             }
+        }
+    }
+
+    /// For each end: what was taken was delivered or lapsed, and what was finished was counted.
+    fn check_missing(&mut self, ledger: usize, store: &[u8]) {
+        for (_, end) in channels(store) {
+            let at = (ledger, end.channel);
+            let faults = self.sequences.missing(at, &end, store).into_iter();
+            let broken = faults.chain([self.sequences.uncounted(at, &end)]).filter(|(_, broken, _)| *broken);
+            self.note(broken.map(|(needs, _, fault)| (needs, fault, format!("{at:?}"))).collect());
         }
     }
 

@@ -1,9 +1,9 @@
 //! The two steps that close an end, and the time-out on close.
 
 use super::handshake::other_end;
-use super::Call;
+use super::{not_received, Call};
 use crate::datagram::Packet;
-use crate::effect::Effect;
+use crate::effect::{Change, Effect, Emitted};
 use crate::refusal::*;
 use crate::store::*;
 use crate::verdict::*;
@@ -25,12 +25,14 @@ impl Call<'_> {
         refuse_if(!self.sent_here(&packet), WRONG_END)?;
         let index = self.commitment(&packet).ok_or(NO_COMMITMENT)?;
         closed.compare(&self.closed_other())?;
-        verdict.compare(&self.not_received(&packet, &verdict))?;
+        // Where timeouts are allowed the packet lapsed or was not taken: which of the two, the verdict says itself.
+        let claim = self.absence_claim(verdict.claim == TIMEOUT_RECEIPT_PRESENT);
+        verdict.compare(&not_received(claim, &packet, &verdict))?;
         let one_block = closed.proof_height == verdict.proof_height && closed.proof_time == verdict.proof_time;
         refuse_if(!one_block, OTHER_BLOCK)?;
-        refuse_if(self.says_taken(&verdict, &packet), OUT_OF_ORDER)?;
+        let end = self.given_back(&packet, &verdict)?;
         refuse_if(!closed.has_version(&self.end.version), WRONG_VERSION)?;
-        Ok(self.given_back(index, packet))
+        Ok(self.effect(end, Some(Change::Remove(index)), Emitted::TimedOut(packet)))
     }
 
     fn closed_other(&self) -> Channel {

@@ -6,6 +6,7 @@ use super::handshake::{compares_nothing, takes_version, verdict_place};
 use super::tools::{before_parts, change_where, emits_end, end_of, refuse_where, remove_all, tell};
 use crate::bytes::*;
 use crate::datagram::*;
+use crate::generate::draft::{absence_claims, absence_verdict};
 use crate::places::{channel, context, frame, time_out_on_close, verdict};
 use crate::refusal::*;
 use crate::rules::reached;
@@ -116,9 +117,8 @@ behind_c!(other_not_closed, |store, output, datagram| compares_nothing(store, ou
 behind_c!(other_packet, |store, output, datagram| {
     change_where(store, output, datagram, (&[TIME_OUT_ON_CLOSE], OTHER_CLAIM), |bytes, end| {
         if let Some(Body::TimeOutOnClose { packet, verdict, .. }) = read(bytes).map(|read| read.body) {
-            let ordered = end.is_ordered();
-            let needed = crate::generate::draft::needed_verdict(TIME_OUT, ordered, &packet, [0; 32], verdict.sequence);
-            let Verdict { proof_height, proof_time, .. } = verdict;
+            let Verdict { proof_height, proof_time, sequence, .. } = verdict;
+            let needed = absence_verdict(absence_claims(TIME_OUT_ON_CLOSE, end.order)[0], &packet, sequence);
             Verdict { proof_height, proof_time, ..needed }.write(&mut bytes[PACKET_VERDICT..]);
         }
     })

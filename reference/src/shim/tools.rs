@@ -2,7 +2,7 @@
 
 use crate::bytes::*;
 use crate::datagram::*;
-use crate::places::frame;
+use crate::places::{context, frame};
 use crate::refusal::*;
 use crate::store::*;
 use crate::table::{applying, own_channel};
@@ -16,6 +16,19 @@ pub fn kind_of(datagram: &[u8]) -> u16 {
 pub fn end_of(store: &[u8], datagram: &[u8], kinds: &[u16], answer: (u8, u32), number: u8) -> Option<(usize, Channel)> {
     let is_so = place(answer.0) == place(number) && kinds.contains(&kind_of(datagram));
     find_channel(store, own_channel(&read(datagram).filter(|_| is_so)?.body)?)
+}
+
+/// The end where timeouts are allowed that a datagram of one of these kinds, which begin with a packet, is about, where
+/// it got this answer; and the packet.
+pub fn allowing(
+    store: &[u8],
+    datagram: &[u8],
+    kinds: &[u16],
+    answer: (u8, u32),
+    number: u8,
+) -> Option<(usize, Channel, Packet)> {
+    let (index, end) = end_of(store, datagram, kinds, answer, number).filter(|(_, end)| end.allows_timeouts())?;
+    Some((index, end, Packet::read(&datagram[frame::BODY + context::LENGTH..])))
 }
 
 /// Tells another of the refusals that apply where one of these kinds is refused behind 3: each line has a key and a

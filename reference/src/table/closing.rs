@@ -1,6 +1,6 @@
 //! The lines of closing.
 
-use super::{is_committed, says_taken, sent_here};
+use super::{counts_time_outs, is_committed, out_of_order, sent_here};
 use crate::datagram::*;
 use crate::refusal::*;
 use crate::store::*;
@@ -25,7 +25,8 @@ pub fn of_time_out_on_close(
     vec![
         (WRONG_END, !sent_here(end, packet)),
         (NO_COMMITMENT, !is_committed(store, end, packet)),
-        (OUT_OF_ORDER, says_taken(end, packet, verdict)),
+        (OUT_OF_ORDER, out_of_order(end, packet, verdict)),
+        (COUNTER_AT_END, counts_time_outs(end) && end.next_sequence_ack == u64::MAX),
         (WRONG_VERSION, other_version(end_verdict, end)),
     ]
 }

@@ -47,14 +47,19 @@ pub fn of_end(datagram: &Datagram, end: &Channel) -> Vec<(Part, bool)> {
         Body::Acknowledge { packet, acknowledgement, verdict } => {
             of_packet(verdict, acknowledged(packet, *acknowledgement))
         }
-        Body::TimeOut { packet, verdict } => of_packet(verdict, not_received(packet, end)),
+        Body::TimeOut { packet, verdict } => of_packet(verdict, not_received(packet, lapsed_or_absent(end))),
         Body::OpenAcknowledge { counterparty_channel, verdict, .. } => {
             of_shown(verdict, Shown { own: (end.counterparty_port, *counterparty_channel), ..other(TRYOPEN) })
         }
         Body::OpenConfirm { verdict, .. } => of_shown(verdict, other(OPEN)),
         Body::CloseConfirm { verdict, .. } => of_shown(verdict, other(CLOSED)),
         Body::TimeOutOnClose { packet, end_verdict, verdict } => {
-            let of_packet = of_packet(verdict, not_received(packet, end));
+            // Where timeouts are allowed a claim that is neither 4 nor 6 is compared with 4.
+            let claim = match (end.order, verdict.claim) {
+                (ALLOW_TIMEOUT, claim) if claim != TIMEOUT_RECEIPT_PRESENT => NEXT_RECV_EQUALS,
+                _ => lapsed_or_absent(end),
+            };
+            let of_packet = of_packet(verdict, not_received(packet, claim));
             [of_shown(end_verdict, other(CLOSED)), of_packet, of_blocks(end_verdict, verdict)].concat()
         }
         _ => Vec::new(),
@@ -76,12 +81,18 @@ fn acknowledged(packet: &Packet, digest: Digest) -> Needed {
     Needed { claim: ACKNOWLEDGEMENT_PRESENT, about, sequence: Some(packet.sequence), timeouts: (0, 0), digest }
 }
 
-/// The next receive that is claimed of an ordered channel may be any: above the sequence it is out of order.
-fn not_received(packet: &Packet, end: &Channel) -> Needed {
-    let (claim, sequence) = match end.order {
-        ORDERED => (NEXT_RECV_EQUALS, None),
-        _ => (RECEIPT_ABSENT, Some(packet.sequence)),
-    };
+/// What a time-out needs to be claimed, by the order.
+fn lapsed_or_absent(end: &Channel) -> u16 {
+    match end.order {
+        ORDERED => NEXT_RECV_EQUALS,
+        UNORDERED => RECEIPT_ABSENT,
+        _ => TIMEOUT_RECEIPT_PRESENT,
+    }
+}
+
+/// The next receive that is claimed may be any: above the sequence it is out of order.
+fn not_received(packet: &Packet, claim: u16) -> Needed {
+    let sequence = (claim != NEXT_RECV_EQUALS).then_some(packet.sequence);
     Needed { claim, about: (packet.dest_port, packet.dest_channel), sequence, timeouts: (0, 0), digest: NO_DIGEST }
 }
 

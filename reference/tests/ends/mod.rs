@@ -27,6 +27,9 @@ pub struct End {
 
 pub const ORDERED: End = End { index: 0, own: 7, other: 9, order: 1 };
 pub const UNORDERED: End = End { index: 1, own: 8, other: 10, order: 2 };
+/// Ordered, with timeouts allowed.
+pub const ALLOWED: End = End { index: 2, own: 6, other: 11, order: 3 };
+pub const ENDS: [End; 3] = [ORDERED, UNORDERED, ALLOWED];
 
 impl End {
     /// Its record with this next send; the version is at its end.
@@ -47,9 +50,13 @@ impl End {
         front.digest(0xd1).0
     }
 
-    /// A verdict of the same block that the packet was not received: claim 3 with its sequence, or claim 4.
+    /// A verdict of the same block that the packet was not received: claim 3 with its sequence, claim 4 with any, or
+    /// claim 6 with its own.
     pub fn absent(self, sequence: u64) -> Vec<u8> {
-        let claim = if self.order == 1 { 4 } else { 3 };
+        self.claims([4, 3, 6][usize::from(self.order) - 1], sequence)
+    }
+
+    pub fn claims(self, claim: u16, sequence: u64) -> Vec<u8> {
         let front = Bytes::default().n16(claim).n64(51).n64(777).n16(6).n32(self.other);
         front.n64(sequence).n64(0).n64(0).digest(0).0
     }
@@ -108,9 +115,9 @@ impl End {
 
 pub fn fresh() -> Vec<u8> {
     let mut store = vec![0xee; 1088 + 2 * 64];
-    let openings = [opening(5, 7, 6, 9, 1), opening(5, 8, 6, 10, 2)].concat();
+    let openings = [opening(5, 7, 6, 9, 1), opening(5, 8, 6, 10, 2), opening(5, 6, 6, 11, 3)].concat();
     assert_eq!(reference::make_store(&mut store, &openings), 0);
-    for place in [64 + 40, 128 + 40] {
+    for place in [64 + 40, 128 + 40, 192 + 40] {
         store[place..place + 2].copy_from_slice(VERSION);
     }
     store

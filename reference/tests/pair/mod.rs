@@ -8,7 +8,7 @@ use reference::store::*;
 /// How many packets each ledger sends at most.
 pub const PACKETS: u64 = 2;
 const ENDS: [(u16, u32); 2] = [(5, 7), (6, 9)];
-/// Enough for the commitments, receipts and acknowledgements of all packets.
+/// Enough for the commitments of all packets, and their receipts or timeout receipts and acknowledgements.
 const RECORDS: usize = 6;
 const DATA: u8 = 0xd1;
 const ACKNOWLEDGED: u8 = 0xac;
@@ -104,12 +104,12 @@ impl Pair {
                 let packet = begun(218).text(&self.packet(at, sequence)?).digest(ACKNOWLEDGED);
                 packet.text(&self.acknowledgement(at, sequence)?)
             }
-            TIME_OUT => begun(186).text(&self.packet(at, sequence)?).text(&self.absence(at, sequence)?),
+            TIME_OUT => begun(186).text(&self.packet(at, sequence)?).text(&self.absence(at, sequence, kind)?),
             CLOSE_INIT => begun(42).n32(own),
             CLOSE_CONFIRM => begun(124).n32(own).text(&self.shown(other)),
             _ => {
                 let packet = begun(268).text(&self.packet(at, sequence)?);
-                packet.text(&self.shown(other)).text(&self.absence(at, sequence)?)
+                packet.text(&self.shown(other)).text(&self.absence(at, sequence, kind)?)
             }
         };
         Some(bytes.0)
@@ -148,11 +148,18 @@ impl Pair {
         self.written(at, sequence).then_some(verdict)
     }
 
-    /// That a packet of this ledger was not received. On an ordered channel the number of the next one is always told.
-    fn absence(&self, at: usize, sequence: u64) -> Option<Vec<u8>> {
-        let (ordered, next) = (self.is_ordered(), self.end(1 - at).next_sequence_recv);
-        let front = if ordered { self.verdict(4, 1 - at, next) } else { self.verdict(3, 1 - at, sequence) };
-        (ordered || !self.received(at, sequence)).then_some(front.n64(0).n64(0).digest(0).0)
+    /// That a packet of this ledger was not received. On an ordered channel the number of the next one is always told;
+    /// where timeouts are allowed, on close, and else that the packet has lapsed.
+    fn absence(&self, at: usize, sequence: u64, kind: u16) -> Option<Vec<u8>> {
+        let lapsed = find_record(&self.stores[1 - at], TIMEOUT_RECEIPT, ENDS[1 - at].1, sequence).is_some();
+        let front = match self.end(at).order {
+            UNORDERED if self.received(at, sequence) => return None,
+            UNORDERED => self.verdict(3, 1 - at, sequence),
+            ALLOW_TIMEOUT if lapsed => self.verdict(6, 1 - at, sequence),
+            ALLOW_TIMEOUT if kind == TIME_OUT => return None,
+            _ => self.verdict(4, 1 - at, self.end(1 - at).next_sequence_recv),
+        };
+        Some(front.n64(0).n64(0).digest(0).0)
     }
 
     /// The end verdict about an end: its record with the three counters zero.

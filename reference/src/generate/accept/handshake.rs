@@ -7,15 +7,15 @@ use crate::generate::rng::Rng;
 use crate::generate::step::{padded, some_version};
 use crate::store::*;
 
-/// An open init or an open try, if the store has a record and a number left.
-pub fn making_an_end(rng: &mut Rng, store: &[u8], kind: u16) -> Option<Draft> {
+/// An open init or an open try for an end of one of these orders, if the store has a record and a number left.
+pub fn making_an_end(rng: &mut Rng, store: &[u8], kind: u16, orders: &[u8]) -> Option<Draft> {
     let index = first_free_channel(store)?;
     u32::try_from(next_channel(store)).ok()?;
     let mut draft = blank(rng, store, index, kind);
     draft.context.port = port(rng);
     draft.step.counterparty_port = port(rng);
     draft.step.counterparty_channel = rng.number() as u32;
-    draft.step.order = rng.pick(&[ORDERED, UNORDERED]);
+    draft.step.order = rng.pick(orders);
     draft.step.version = some_version(rng);
     let version = padded(&draft.step.version);
     show(rng, &mut draft, version);

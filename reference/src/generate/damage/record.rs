@@ -6,9 +6,9 @@
 use super::end::some_channel;
 use super::flip;
 use crate::bytes::*;
-use crate::generate::accept::pick_record;
+use crate::generate::accept::{pick_record, some_taken};
 use crate::generate::rng::Rng;
-use crate::generate::shape::place;
+use crate::generate::shape::{channels, place};
 use crate::places::{record, RECORD};
 use crate::store::*;
 
@@ -31,7 +31,7 @@ pub fn zeros(rng: &mut Rng, store: &mut Vec<u8>) -> Option<()> {
 
 pub fn kind(rng: &mut Rng, store: &mut Vec<u8>) -> Option<()> {
     let index = some_record(rng, store)?;
-    put_u16(store, record_place(index) + record::KIND, rng.pick(&[0, 4, 5, 0x0100, 0x0101, 0x0201, 0xffff]));
+    put_u16(store, record_place(index) + record::KIND, rng.pick(&[0, 5, 6, 0x0100, 0x0101, 0x0201, 0xffff]));
     settle(store)
 }
 
@@ -55,7 +55,7 @@ pub fn sequence_zero(rng: &mut Rng, store: &mut Vec<u8>) -> Option<()> {
 pub fn twice(rng: &mut Rng, store: &mut Vec<u8>) -> Option<()> {
     let index = some_record(rng, store)?;
     let mut twin = record_at(store, index);
-    if twin.kind != RECEIPT && rng.one_in(2) {
+    if matches!(twin.kind, COMMITMENT | ACKNOWLEDGEMENT) && rng.one_in(2) {
         twin.digest = rng.digest();
     }
     if !place(rng, store, &twin) {
@@ -82,20 +82,42 @@ pub fn commitment_not_sent(rng: &mut Rng, store: &mut Vec<u8>) -> Option<()> {
     settle(store)
 }
 
-pub fn receipt_on_ordered(rng: &mut Rng, store: &mut Vec<u8>) -> Option<()> {
-    let (_, end) = some_channel(rng, store)?;
-    if !end.is_ordered() {
-        return None;
-    }
-    let sequence = rng.between(1, end.next_sequence_recv);
-    let receipt = Record { kind: RECEIPT, channel: end.channel, sequence, ..Record::FREE };
-    place(rng, store, &receipt).then_some(())
+/// Some end of this order.
+fn some_end(rng: &mut Rng, store: &[u8], order: u8) -> Option<Channel> {
+    let mut ends = channels(store);
+    ends.retain(|(_, end)| end.order == order);
+    Some(rng.pick_any(&ends)?.1)
 }
 
-pub fn receipt_not_plain(rng: &mut Rng, store: &mut Vec<u8>) -> Option<()> {
+/// A receipt or a timeout receipt, plain and of a packet that was taken and not acknowledged, on an end of this order.
+pub fn placed_on(rng: &mut Rng, store: &mut [u8], kind: u16, order: u8) -> Option<()> {
+    let end = some_end(rng, store, order)?;
+    // Unordered ends do not count what they take.
+    let sequence = if end.is_unordered() { rng.number_from_1() } else { some_taken(rng, &end)? };
+    if find_record(store, ACKNOWLEDGEMENT, end.channel, sequence).is_some() {
+        return None;
+    }
+    let record = Record { kind, channel: end.channel, sequence, ..Record::FREE };
+    place(rng, store, &record).then_some(())
+}
+
+/// A receipt or a timeout receipt with something in it.
+pub fn not_plain(rng: &mut Rng, store: &mut [u8], kind: u16) -> Option<()> {
     let (_, end) = some_channel(rng, store)?;
-    let (index, _) = pick_record(rng, store, RECEIPT, end.channel)?;
+    let (index, _) = pick_record(rng, store, kind, end.channel)?;
     flip(rng, store, record_place(index) + record::TIMEOUT_HEIGHT, RECORD - record::TIMEOUT_HEIGHT)
+}
+
+/// A packet whose acknowledgement is written has a timeout receipt too.
+pub fn acknowledged_and_lapsed(rng: &mut Rng, store: &mut Vec<u8>) -> Option<()> {
+    let end = some_end(rng, store, ALLOW_TIMEOUT)?;
+    let (there, beside) = if rng.one_in(2) {
+        (ACKNOWLEDGEMENT, Record { kind: TIMEOUT_RECEIPT, ..Record::FREE })
+    } else {
+        (TIMEOUT_RECEIPT, Record { kind: ACKNOWLEDGEMENT, digest: rng.digest(), ..Record::FREE })
+    };
+    let (_, Record { channel, sequence, .. }) = pick_record(rng, store, there, end.channel)?;
+    place(rng, store, &Record { channel, sequence, ..beside }).then_some(())
 }
 
 pub fn acknowledgement_with_timeout(rng: &mut Rng, store: &mut Vec<u8>) -> Option<()> {
@@ -104,14 +126,12 @@ pub fn acknowledgement_with_timeout(rng: &mut Rng, store: &mut Vec<u8>) -> Optio
     flip(rng, store, record_place(index) + record::TIMEOUT_HEIGHT, record::DIGEST - record::TIMEOUT_HEIGHT)
 }
 
-pub fn not_received_ordered(rng: &mut Rng, store: &mut Vec<u8>) -> Option<()> {
-    let (_, end) = some_channel(rng, store)?;
-    if !end.is_ordered() {
-        return None;
-    }
+/// An acknowledgement or a timeout receipt at next receive or above it, on an end of this order.
+pub fn not_taken(rng: &mut Rng, store: &mut [u8], kind: u16, order: u8) -> Option<()> {
+    let end = some_end(rng, store, order)?;
     let sequence = rng.between(end.next_sequence_recv, u64::MAX);
-    let early = Record { kind: ACKNOWLEDGEMENT, channel: end.channel, sequence, digest: rng.digest(), ..Record::FREE };
-    place(rng, store, &early).then_some(())
+    let digest = if kind == ACKNOWLEDGEMENT { rng.digest() } else { NO_DIGEST };
+    place(rng, store, &Record { kind, channel: end.channel, sequence, digest, ..Record::FREE }).then_some(())
 }
 
 /// An acknowledgement loses its receipt to nothing or to another channel, or gets the sequence next to it.
@@ -122,7 +142,7 @@ pub fn not_received_unordered(rng: &mut Rng, store: &mut Vec<u8>) -> Option<()> 
     if rng.one_in(2) {
         let (_, other) = some_channel(rng, store)?;
         let moved = Record { channel: other.channel, ..record_at(store, receipt) };
-        let may_have_it = !other.is_ordered() && !received(store, &other, moved.sequence);
+        let may_have_it = other.is_unordered() && !received(store, &other, moved.sequence);
         remove(store, receipt);
         if may_have_it {
             insert(store, &moved);
