@@ -61,6 +61,7 @@ extern "C" {
 #define ROUTE_WRITTEN_LENGTH 52
 #define ROUTE_ACKNOWLEDGED_LENGTH 106
 #define ROUTE_TIMED_OUT_LENGTH 74
+#define ROUTE_LAPSED_LENGTH 74
 #define ROUTE_NEW_END_LENGTH 12
 
 /* Kinds of datagrams. */
@@ -87,6 +88,8 @@ enum route_emitted {
     ROUTE_WRITTEN = 0x0103,
     ROUTE_ACKNOWLEDGED = 0x0104,
     ROUTE_TIMED_OUT = 0x0105,
+    ROUTE_LAPSED = 0x0106, /* a receive wrote a timeout receipt: nothing is delivered, and the application must not act
+                              on the packet; its sender times it out */
     ROUTE_NEW_END = 0x0107 /* port and channel of the end that an open init or an open try made */
 };
 
@@ -95,7 +98,35 @@ enum route_state {
     ROUTE_STATE_INIT = 1,    /* an open init made it; it waits for its open acknowledge */
     ROUTE_STATE_TRYOPEN = 2, /* an open try made it; it waits for its open confirm */
     ROUTE_STATE_OPEN = 3,
-    ROUTE_STATE_CLOSED = 4   /* by a close, or by a time-out on an ordered channel; it takes time-outs only */
+    ROUTE_STATE_CLOSED = 4   /* by a close, or by a time-out on a channel of order 1; it takes time-outs only */
+};
+
+/* Orders of a channel: of an opening at offset 18, of an open init at 40, of an open try at 44, of a channel record at
+ * offset 3. Both ends have the same one, and it never changes. */
+enum route_order {
+    ROUTE_ORDERED = 1,              /* packets are received and acknowledged in order; a time-out closes the end */
+    ROUTE_UNORDERED = 2,            /* packets are received in any order; a receipt tells which were */
+    ROUTE_ORDERED_ALLOW_TIMEOUT = 3 /* packets are received in order; one that comes late lapses. They are acknowledged
+                                       and timed out in order while the end is OPEN; a time-out closes nothing */
+};
+
+/* Kinds of packet records, at offset 0 of each. They stand behind the channel records, from offset 1088 of a store on,
+ * 64 bytes each. */
+enum route_record {
+    ROUTE_RECORD_COMMITMENT = 1,
+    ROUTE_RECORD_RECEIPT = 2,         /* on an unordered channel: the packet was delivered */
+    ROUTE_RECORD_ACKNOWLEDGEMENT = 3,
+    ROUTE_RECORD_TIMEOUT_RECEIPT = 4  /* where timeouts are allowed: the packet came late and lapsed. Never freed */
+};
+
+/* Claims of a verdict. Which one a datagram needs is in docs/DATAGRAMS.md. */
+enum route_claim {
+    ROUTE_CLAIM_COMMITMENT_PRESENT = 1,
+    ROUTE_CLAIM_ACKNOWLEDGEMENT_PRESENT = 2,
+    ROUTE_CLAIM_RECEIPT_ABSENT = 3,
+    ROUTE_CLAIM_NEXT_RECEIVE = 4,           /* next receive equals the verdict's sequence */
+    ROUTE_CLAIM_END_SHOWN = 5,              /* of an end verdict: the end has this record, its counters zero */
+    ROUTE_CLAIM_TIMEOUT_RECEIPT_PRESENT = 6 /* the packet lapsed: what a time-out needs where timeouts are allowed */
 };
 
 /* Answers. Where several refusals apply, the first by place is given; none is given otherwise. The places are those of
@@ -115,23 +146,26 @@ enum route_answer {
     ROUTE_NO_CONNECTION = 8,         /* 2, 4, 7 to 11: the connection is not open */
     ROUTE_WRONG_END = 9,             /* 2, 4, 5, 12: the packet's ports and other channel do not fit this end */
     ROUTE_NO_TIMEOUT = 10,           /* 1: both timeouts are zero */
-    ROUTE_TIMEOUT_PASSED = 11,       /* 1, 2: the timeout has passed */
+    ROUTE_TIMEOUT_PASSED = 11,       /* 1, 2: the timeout has passed; never 2 on order 3, where the packet lapses */
     ROUTE_TIMEOUT_NOT_PASSED = 12,   /* 5: the timeout has not passed */
     ROUTE_NO_COMMITMENT = 13,        /* 4, 5, 12: no commitment with this sequence, timeouts and digest */
     ROUTE_VERDICT_CLAIM = 140,       /* 2, 4, 5, 7, 8, 9, 11, 12: the verdict has another claim */
     ROUTE_VERDICT_PORT = 141,        /* 2, 4, 5, 12: the verdict has another port */
     ROUTE_VERDICT_CHANNEL = 142,     /* 2, 4, 5, 12: the verdict has another channel */
-    ROUTE_VERDICT_SEQUENCE = 143,    /* 2, 4; 5 and 12 on an unordered channel: the verdict has another sequence */
+    ROUTE_VERDICT_SEQUENCE = 143,    /* 2, 4; 5 and 12 but with claim 4: the verdict has another sequence */
     ROUTE_VERDICT_TIMEOUTS = 144,    /* 2, 4, 5, 12: the verdict has another timeout height or timeout time */
     ROUTE_VERDICT_DIGEST = 145,      /* 2, 4, 5, 12: the verdict has another digest;
                                         7, 8, 9, 11, 12: the end verdict has another record, its version left out */
     ROUTE_VERDICT_BLOCKS = 146,      /* 12: the two verdicts are of different blocks, by height or time */
-    ROUTE_OUT_OF_ORDER = 15,         /* on an ordered channel, 2, 4: another packet's turn; 5, 12: it was received */
+    ROUTE_OUT_OF_ORDER = 15,         /* on orders 1 and 3, 2, 4: another packet's turn; 5, 12: by claim 4 it was
+                                        received or lapsed, or, on an OPEN end of order 3, another packet's turn */
     ROUTE_ALREADY_THERE = 16,        /* 2 on an unordered channel: the receipt; 3: the acknowledgement */
-    ROUTE_NOT_RECEIVED = 17,         /* 3: the packet was not received */
+    ROUTE_NOT_RECEIVED = 17,         /* 3: the packet was not received: it has not come, or it lapsed */
     ROUTE_EMPTY_ACKNOWLEDGEMENT = 18, /* 3: the digest is all zero */
-    ROUTE_COUNTER_AT_END = 19,       /* 1; 2 and 4 on an ordered channel: the counter to be raised is 2^64 - 1 */
-    ROUTE_NO_FREE_RECORD = 20,       /* 1, 3; 2 on an unordered channel: all packet records are in use */
+    ROUTE_COUNTER_AT_END = 19,       /* 1; 2 and 4 on orders 1 and 3; 5 and 12 on an OPEN end of order 3: the counter
+                                        to be raised is 2^64 - 1 */
+    ROUTE_NO_FREE_RECORD = 20,       /* 1, 3; 2 on order 2, and on order 3 where the packet lapses: all packet records
+                                        are in use */
     ROUTE_LENGTH_UNFIT = 21,         /* maker: no store has the length of the slice */
     ROUTE_OPENINGS_MALFORMED = 22,   /* maker: the list of openings is malformed */
     ROUTE_TOO_MANY_OPENINGS = 23,    /* maker: more than ROUTE_MAX_CHANNELS openings */
@@ -152,7 +186,11 @@ enum route_answer {
  * With ROUTE_ACCEPTED the store is changed, the emitted record stands at the front of the output, *size is its length,
  * and the bytes of the output behind it are as they were. Kinds 8 to 11 emit nothing: *size is 0, and no byte of the
  * output has changed. With any other answer no byte of store or output has changed. *size is written in every case, and
- * what it was before has no effect. */
+ * what it was before has no effect.
+ *
+ * An accepted receive does not always deliver. On a channel of order 3 a packet that comes late is accepted and lapses:
+ * the record's kind is then ROUTE_LAPSED and not ROUTE_DELIVERED. So the host looks at the kind before it hands the
+ * packet to its application. */
 uint8_t route_handle(uint8_t *store, size_t store_len, uint8_t *output, size_t output_len, const uint8_t *datagram,
                      size_t datagram_len, uint32_t *size);
 

@@ -51,10 +51,24 @@ static uint8_t call(const uint8_t *datagram, size_t length)
     return number;
 }
 
+/* A fresh store whose channel has this order. */
+static void fresh_with(uint8_t order)
+{
+    uint8_t opening[ROUTE_OPENING_LENGTH];
+    memcpy(opening, OPENING, sizeof opening);
+    opening[18] = order;
+    memset(store, FILL, STORE);
+    EXPECT(route_make_store(store, STORE, opening, sizeof opening) == ROUTE_ACCEPTED);
+}
+
 static void fresh(void)
 {
-    memset(store, FILL, STORE);
-    EXPECT(route_make_store(store, STORE, OPENING, sizeof OPENING) == ROUTE_ACCEPTED);
+    fresh_with(ROUTE_ORDERED);
+}
+
+static int emitted_packet(uint16_t kind, const uint8_t *packet)
+{
+    return output[4] == (kind & 0xff) && output[5] == kind >> 8 && memcmp(output + 6, packet, 68) == 0;
 }
 
 #endif

@@ -16,7 +16,8 @@ static void put(uint8_t *at, uint64_t value, int width)
 }
 
 /* Port 5 owns channel 7, ordered, to port 6 and channel 9. */
-static const uint8_t OPENING[ROUTE_OPENING_LENGTH] = {20, 0, 0, 0, 0x10, 0, 5, 0, 7, 0, 0, 0, 6, 0, 9, 0, 0, 0, 1, 0};
+static const uint8_t OPENING[ROUTE_OPENING_LENGTH] = {20, 0, 0, 0, 0x10, 0, 5, 0, 7, 0, 0, 0, 6, 0, 9, 0, 0, 0,
+                                                      ROUTE_ORDERED, 0};
 
 static void start(uint8_t *datagram, uint32_t length, uint16_t kind)
 {
@@ -62,17 +63,33 @@ static void make_receive(uint8_t *datagram, uint64_t sequence)
     put(packet + 30, 5, 2);
     put(packet + 32, 7, 4);
     packet[36] = 1; /* digest */
-    put(verdict, 1, 2); /* claim 1: the commitment is there */
+    put(verdict, ROUTE_CLAIM_COMMITMENT_PRESENT, 2);
     put(verdict + 2, 50, 8);
     memcpy(verdict + 18, packet + 24, 6);  /* its source */
     memcpy(verdict + 24, packet, 24);      /* its sequence and timeouts */
     memcpy(verdict + 48, packet + 36, 32); /* its digest */
 }
 
+/* The same, with another timeout height. At the height 100 the packet comes late. */
+static void make_late_receive(uint8_t *datagram, uint64_t sequence)
+{
+    make_receive(datagram, sequence);
+    put(datagram + 46, 100, 8);
+    put(datagram + 138, 100, 8);
+}
+
+static void make_write(uint8_t *datagram, uint64_t sequence)
+{
+    start(datagram, ROUTE_WRITE_LENGTH, ROUTE_WRITE);
+    put(datagram + 38, 7, 4);
+    put(datagram + 42, sequence, 8);
+    datagram[50] = 2; /* digest */
+}
+
 /* What a verdict says: the other end waits for the first packet. */
 static void put_not_received(uint8_t *at, uint64_t proof_height)
 {
-    put(at, 4, 2); /* claim 4: next receive equals the verdict's sequence */
+    put(at, ROUTE_CLAIM_NEXT_RECEIVE, 2);
     put(at + 2, proof_height, 8);
     put(at + 18, 6, 2);
     put(at + 20, 9, 4);
@@ -86,12 +103,20 @@ static void make_time_out(uint8_t *datagram, uint64_t sequence, uint64_t proof_h
     put_not_received(datagram + 106, proof_height);
 }
 
+/* What a verdict says: the packet lapsed at the other end. */
+static void put_lapsed(uint8_t *at, uint64_t sequence, uint64_t proof_height)
+{
+    put_not_received(at, proof_height);
+    put(at, ROUTE_CLAIM_TIMEOUT_RECEIPT_PRESENT, 2);
+    put(at + 24, sequence, 8);
+}
+
 /* Port 5 opens a channel with port 6, ordered, with the version "v1". */
 static void make_open_init(uint8_t *datagram)
 {
     start(datagram, ROUTE_OPEN_INIT_LENGTH + 2, ROUTE_OPEN_INIT);
     put(datagram + 38, 6, 2);
-    datagram[40] = 1;
+    datagram[40] = ROUTE_ORDERED;
     memcpy(datagram + 41, "v1", 2);
 }
 
@@ -99,12 +124,12 @@ static void make_open_init(uint8_t *datagram)
  * this version. */
 static void put_end_verdict(uint8_t *at, uint8_t state, uint32_t counterparty, const char *version)
 {
-    put(at, 5, 2); /* claim 5: the other end has this record, once its counters are set to zero */
+    put(at, ROUTE_CLAIM_END_SHOWN, 2);
     put(at + 2, 50, 8);
     uint8_t *record = at + 18;
     put(record, 1, 2);
     record[2] = state;
-    record[3] = 1;
+    record[3] = ROUTE_ORDERED;
     put(record + 4, 9, 4);
     put(record + 8, 6, 2);
     put(record + 10, 5, 2);
@@ -117,7 +142,7 @@ static void make_open_try(uint8_t *datagram)
     start(datagram, ROUTE_OPEN_TRY_LENGTH + 2, ROUTE_OPEN_TRY);
     put(datagram + 38, 6, 2);
     put(datagram + 40, 9, 4);
-    datagram[44] = 1;
+    datagram[44] = ROUTE_ORDERED;
     put_end_verdict(datagram + 45, ROUTE_STATE_INIT, 0, "v1");
     memcpy(datagram + 127, "v1", 2);
 }

@@ -1,8 +1,10 @@
 /* The library through its header, from C: a fresh store, sends, a receive, a time-out, the steps that open and close a
- * channel, a time-out on close, packet records put in order, refusals, lengths that are wrong. */
+ * channel, a time-out on close, packets that lapse (lapsing.h), packet records put in order, refusals, lengths that are
+ * wrong. */
 
 #include "calls.h"
 #include "datagrams.h"
+#include "lapsing.h"
 #include "route.h"
 
 #include <stdio.h>
@@ -99,6 +101,7 @@ static void test_verdict(void)
     EXPECT(call(receive, sizeof receive) == ROUTE_VERDICT_DIGEST);
     make_receive(receive, 1);
     EXPECT(call(receive, sizeof receive) == ROUTE_ACCEPTED && size == ROUTE_DELIVERED_LENGTH);
+    EXPECT(emitted_packet(ROUTE_DELIVERED, receive + 38));
 }
 
 /* An ordered channel is closed by a time-out. It then takes no send, but the time-out of a packet behind it. */
@@ -114,8 +117,7 @@ static void test_time_out(void)
     make_time_out(time_out, 1, 60);
     memcpy(behind, store + 1152, 64);
     EXPECT(call(time_out, sizeof time_out) == ROUTE_ACCEPTED && size == ROUTE_TIMED_OUT_LENGTH);
-    EXPECT(output[4] == (ROUTE_TIMED_OUT & 0xff) && output[5] == ROUTE_TIMED_OUT >> 8);
-    EXPECT(memcmp(output + 6, time_out + 38, 68) == 0);
+    EXPECT(emitted_packet(ROUTE_TIMED_OUT, time_out + 38));
     EXPECT(store[66] == 4 && memcmp(store + 1088, behind, 64) == 0 && all_are(store + 1152, 64, 0));
     EXPECT(call(time_out, sizeof time_out) == ROUTE_NO_COMMITMENT);
     EXPECT(call(send, sizeof send) == ROUTE_NOT_OPEN);
@@ -205,11 +207,11 @@ static void test_time_out_on_close(void)
     EXPECT(call(send, sizeof send) == ROUTE_ACCEPTED);
     EXPECT(call(send, sizeof send) == ROUTE_ACCEPTED);
     make_time_out_on_close(time_out, 2, ROUTE_STATE_OPEN, 51); /* the end verdict is of height 50 */
-    time_out[188] = 3;                                         /* the claim for an unordered channel */
+    time_out[188] = ROUTE_CLAIM_RECEIPT_ABSENT;
     EXPECT(call(time_out, sizeof time_out) == ROUTE_VERDICT_DIGEST);
     time_out[126] = ROUTE_STATE_CLOSED;
     EXPECT(call(time_out, sizeof time_out) == ROUTE_VERDICT_CLAIM);
-    time_out[188] = 4;
+    time_out[188] = ROUTE_CLAIM_NEXT_RECEIVE;
     EXPECT(call(time_out, sizeof time_out) == ROUTE_VERDICT_BLOCKS);
     make_time_out_on_close(time_out, 2, ROUTE_STATE_CLOSED, 50);
     put(time_out + 212, 3, 8); /* the other end waits for the third one */
@@ -217,8 +219,7 @@ static void test_time_out_on_close(void)
     for (uint64_t sequence = 2; sequence >= 1; sequence--) {
         make_time_out_on_close(time_out, sequence, ROUTE_STATE_CLOSED, 50);
         EXPECT(call(time_out, sizeof time_out) == ROUTE_ACCEPTED && size == ROUTE_TIMED_OUT_LENGTH);
-        EXPECT(output[4] == (ROUTE_TIMED_OUT & 0xff) && output[5] == ROUTE_TIMED_OUT >> 8);
-        EXPECT(memcmp(output + 6, time_out + 38, 68) == 0 && store[66] == ROUTE_STATE_CLOSED);
+        EXPECT(emitted_packet(ROUTE_TIMED_OUT, time_out + 38) && store[66] == ROUTE_STATE_CLOSED);
         EXPECT(call(time_out, sizeof time_out) == ROUTE_NO_COMMITMENT);
     }
     EXPECT(all_are(store + 1088, 128, 0));
@@ -272,6 +273,8 @@ int main(void)
     test_open_try();
     test_close();
     test_time_out_on_close();
+    test_lapsing();
+    test_time_out_of_lapsed();
     test_convert();
     test_lengths();
     printf(failed ? "%d of the C test's expectations failed\n" : "the C test passed\n", failed);

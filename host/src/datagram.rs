@@ -32,7 +32,9 @@ impl Datagram {
         Datagram::new(1, context, 52, |to| to.u32(channel).u64(height).u64(time).bytes(&digest))
     }
 
-    /// Receives a packet that the other ledger sent. The verdict needed is [`Verdict::commitment_present`].
+    /// Receives a packet that the other ledger sent. The verdict needed is [`Verdict::commitment_present`]. One that
+    /// comes late is refused, but with [`Order::OrderedAllowTimeout`] it lapses, and
+    /// [`Emitted::Lapsed`](crate::Emitted::Lapsed) tells it from a delivery.
     pub fn receive(context: &Context, packet: &Packet, verdict: &Verdict) -> Datagram {
         Datagram::new(2, context, 148, |to| verdict.write(packet.write(to)))
     }
@@ -49,7 +51,9 @@ impl Datagram {
     }
 
     /// Times out a packet that this ledger sent and the other did not receive. The verdict needed is
-    /// [`Verdict::receipt_absent`] on an unordered channel, [`Verdict::next_receive`] on an ordered one.
+    /// [`Verdict::receipt_absent`] on an unordered channel, [`Verdict::next_receive`] on an ordered one, and
+    /// [`Verdict::timeout_receipt_present`] with [`Order::OrderedAllowTimeout`], where a packet first has to come late
+    /// and lapse.
     pub fn time_out(context: &Context, packet: &Packet, verdict: &Verdict) -> Datagram {
         Datagram::new(5, context, 148, |to| verdict.write(packet.write(to)))
     }
@@ -114,7 +118,8 @@ impl Datagram {
     /// Times out a packet that this ledger sent and the other did not receive before its end was closed. No timeout has
     /// to have passed. Two verdicts of one block are needed: the first shows the counterparty's end as
     /// [`Closed`](crate::State::Closed), and that it names this one; the second is that of a
-    /// [`time_out`](Datagram::time_out).
+    /// [`time_out`](Datagram::time_out). With [`Order::OrderedAllowTimeout`] it is [`Verdict::next_receive`], or
+    /// [`Verdict::timeout_receipt_present`] of a packet that lapsed.
     pub fn time_out_on_close(context: &Context, packet: &Packet, end: &EndVerdict, verdict: &Verdict) -> Datagram {
         let body = |to: Writer| verdict.write(end.write(packet.write(to)));
         Datagram::new(12, context, 148 + EndVerdict::LENGTH, body)

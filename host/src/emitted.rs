@@ -11,7 +11,8 @@ use crate::{Digest, End, Packet};
 pub enum Emitted {
     /// A packet was sent. It is to be brought to the other ledger.
     Sent(Packet),
-    /// A packet was delivered. It is to be given to the application.
+    /// A packet was delivered. It is to be given to the application. A receive may also let it lapse
+    /// ([`Emitted::Lapsed`]).
     Delivered(Packet),
     /// An acknowledgement was written.
     Written {
@@ -32,6 +33,10 @@ pub enum Emitted {
     /// A packet is finished: it was not received in time, or not before the other end was closed. What it carried is to
     /// be given back.
     TimedOut(Packet),
+    /// A packet came late at a receive, on a channel with [`Order::OrderedAllowTimeout`](crate::Order), and lapsed: its
+    /// timeout receipt was written. Nothing is delivered, and the application must not act on it. Its sender times it
+    /// out with [`Verdict::timeout_receipt_present`](crate::Verdict::timeout_receipt_present).
+    Lapsed(Packet),
     /// A channel end was made, with a new number, by an open init or an open try.
     NewEnd(End),
 }
@@ -70,6 +75,7 @@ impl Emitted {
                 Emitted::Acknowledged { packet: Packet::read(&mut from), acknowledgement: from.take() }
             }
             (0x0105, Emitted::OF_PACKET) => Emitted::TimedOut(Packet::read(&mut from)),
+            (0x0106, Emitted::OF_PACKET) => Emitted::Lapsed(Packet::read(&mut from)),
             (0x0107, Emitted::OF_NEW_END) => Emitted::NewEnd(End { port: from.u16(), channel: from.u32() }),
             _ => return None,
         })
@@ -78,7 +84,8 @@ impl Emitted {
     /// The packet that it is about, if it holds one. A written acknowledgement and a new end do not.
     pub fn packet(&self) -> Option<Packet> {
         match self {
-            Emitted::Sent(packet) | Emitted::Delivered(packet) | Emitted::TimedOut(packet) => Some(*packet),
+            Emitted::Sent(packet) | Emitted::Delivered(packet) => Some(*packet),
+            Emitted::TimedOut(packet) | Emitted::Lapsed(packet) => Some(*packet),
             Emitted::Acknowledged { packet, .. } => Some(*packet),
             Emitted::Written { .. } | Emitted::NewEnd(_) => None,
         }
@@ -96,6 +103,7 @@ impl fmt::Display for Emitted {
             }
             Emitted::Acknowledged { packet, .. } => write!(out, "acknowledged {packet}"),
             Emitted::TimedOut(packet) => write!(out, "timed out {packet}"),
+            Emitted::Lapsed(packet) => write!(out, "lapsed {packet}"),
             Emitted::NewEnd(end) => write!(out, "new channel end {end}"),
         }
     }
@@ -124,6 +132,7 @@ mod tests {
         assert_eq!(Emitted::from_bytes(&framed(74, 0x0101)), Some(Emitted::Sent(PACKET)));
         assert_eq!(Emitted::from_bytes(&framed(74, 0x0102)), Some(Emitted::Delivered(PACKET)));
         assert_eq!(Emitted::from_bytes(&framed(74, 0x0105)), Some(Emitted::TimedOut(PACKET)));
+        assert_eq!(Emitted::from_bytes(&framed(74, 0x0106)), Some(Emitted::Lapsed(PACKET)));
         let acknowledged = [framed(106, 0x0104), vec![8; 32]].concat();
         let expected = Emitted::Acknowledged { packet: PACKET, acknowledgement: [8; 32] };
         assert_eq!(Emitted::from_bytes(&acknowledged), Some(expected));
@@ -142,17 +151,20 @@ mod tests {
         }
         assert_eq!(Emitted::from_bytes(&[good, vec![0]].concat()), None);
         assert_eq!(Emitted::from_bytes(&framed(74, 0x0104)), None);
-        assert_eq!(Emitted::from_bytes(&framed(74, 0x0106)), None);
         assert_eq!(Emitted::from_bytes(&framed(106, 0x0101)), None);
+        assert_eq!(Emitted::from_bytes(&framed(106, 0x0106)), None);
         assert_eq!(Emitted::from_bytes(&framed(74, 0x0107)), None);
+        assert_eq!(Emitted::from_bytes(&framed(74, 0x0108)), None);
     }
 
     #[test]
     fn each_tells_its_packet() {
         assert_eq!(Emitted::TimedOut(PACKET).packet(), Some(PACKET));
+        assert_eq!(Emitted::Lapsed(PACKET).packet(), Some(PACKET));
         assert_eq!(Emitted::Written { end: PACKET.source, sequence: 3, acknowledgement: [8; 32] }.packet(), None);
         assert_eq!(Emitted::NewEnd(PACKET.source).packet(), None);
         assert_eq!(Emitted::Sent(PACKET).to_string(), "sent packet 3 from 5/7 to 6/9");
+        assert_eq!(Emitted::Lapsed(PACKET).to_string(), "lapsed packet 3 from 5/7 to 6/9");
         assert_eq!(Emitted::NewEnd(PACKET.source).to_string(), "new channel end 5/7");
     }
 }

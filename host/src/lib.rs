@@ -11,7 +11,9 @@
 //!   [`open_confirm`](Datagram::open_confirm) open a channel: the first and the third on one ledger, the others on the
 //!   other one. The first two give out the number of a new channel end.
 //! - [`Datagram::send`] takes a packet's digest and timeout, and gives out the packet.
-//! - [`Datagram::receive`] delivers a packet of the other ledger, and [`Datagram::write`] answers it.
+//! - [`Datagram::receive`] delivers a packet of the other ledger, and [`Datagram::write`] answers it. On a channel with
+//!   timeouts allowed ([`Order::OrderedAllowTimeout`]) a late packet lapses instead: [`Emitted::Lapsed`] tells it, and
+//!   the application must not act on it.
 //! - [`Datagram::acknowledge`] and [`Datagram::time_out`] finish a packet that was sent.
 //! - [`Datagram::close_init`] closes a channel end, [`close_confirm`](Datagram::close_confirm) the other end of the
 //!   channel, and [`time_out_on_close`](Datagram::time_out_on_close) finishes a packet that a closed end has not
@@ -26,7 +28,7 @@
 //!
 //! Packet records stand in order. Bytes that were kept before this was asked for are taken by [`Store::convert`].
 //!
-//! `examples/two_ledgers.rs` has two ledgers in one program.
+//! `examples/two_ledgers/` has two ledgers in one program.
 
 #![deny(missing_docs)]
 #![deny(unsafe_op_in_unsafe_fn)]

@@ -24,7 +24,8 @@ impl fmt::Display for End {
     }
 }
 
-/// Whether the packets of a channel are taken in the order in which they were sent.
+/// Whether the packets of a channel are taken in the order in which they were sent, and what becomes of one that comes
+/// late.
 #[derive(Clone, Copy, Debug, PartialEq, Eq, Hash)]
 #[non_exhaustive]
 pub enum Order {
@@ -33,6 +34,11 @@ pub enum Order {
     Ordered,
     /// Packets are received in any order; a receipt tells which were.
     Unordered,
+    /// Packets are received one after the other, but one that comes late *lapses*: a timeout receipt is written in the
+    /// place of its delivery ([`Emitted::Lapsed`](crate::Emitted::Lapsed)), and the next one can come. Its sender times
+    /// it out. While an end is open its packets are acknowledged and timed out one after the other; no time-out closes
+    /// the channel.
+    OrderedAllowTimeout,
 }
 
 impl Order {
@@ -40,6 +46,16 @@ impl Order {
         match self {
             Order::Ordered => 1,
             Order::Unordered => 2,
+            Order::OrderedAllowTimeout => 3,
+        }
+    }
+
+    /// The order of this number, in a fit store.
+    pub(crate) fn from_number(number: u8) -> Order {
+        match number {
+            1 => Order::Ordered,
+            2 => Order::Unordered,
+            _ => Order::OrderedAllowTimeout,
         }
     }
 }

@@ -19,8 +19,8 @@ pub enum VerdictPart {
     Port = 141,
     /// The channel: at the same ones.
     Channel = 142,
-    /// The sequence: at a receive and an acknowledge, and at both time-outs on an unordered channel. On an ordered one
-    /// they need the other end's next receive, which may be any number; above the packet's sequence it is
+    /// The sequence: at a receive, an acknowledge and both time-outs. But in [`Claim::NextReceive`](crate::Claim) it is
+    /// the other end's next receive, which may be any number; above the packet's sequence it is
     /// [`Refusal::OutOfOrder`].
     Sequence = 143,
     /// The timeout height or the timeout time: at a receive, an acknowledge and both time-outs.
@@ -84,7 +84,8 @@ pub enum Refusal {
     WrongEnd,
     /// A send has neither timeout.
     NoTimeout,
-    /// The timeout has passed.
+    /// The timeout has passed. With [`Order::OrderedAllowTimeout`](crate::Order) no receive is refused so: the packet
+    /// lapses.
     TimeoutPassed,
     /// The timeout has not passed.
     TimeoutNotPassed,
@@ -92,11 +93,12 @@ pub enum Refusal {
     NoCommitment,
     /// A verdict is not the one needed, and this is the first part in which it differs.
     Verdict(VerdictPart),
-    /// It is another packet's turn on this ordered channel; or, at either time-out, the packet was received.
+    /// It is another packet's turn on this channel, which is not unordered; or, at either time-out with
+    /// [`Claim::NextReceive`](crate::Claim), the packet was received or lapsed.
     OutOfOrder,
     /// The receipt, or the acknowledgement, is already there.
     AlreadyThere,
-    /// The packet was not received.
+    /// The packet was not received: it has not come, or it lapsed.
     NotReceived,
     /// The digest is all zero, which stands for an empty acknowledgement.
     EmptyAcknowledgement,

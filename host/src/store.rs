@@ -10,7 +10,7 @@ pub struct Opening {
     pub own: End,
     /// The end on the other ledger, which should name this one.
     pub counterparty: End,
-    /// Whether its packets are taken in order. Both ends should say the same.
+    /// Whether its packets are taken in order, and what becomes of a late one. Both ends should say the same.
     pub order: Order,
 }
 
@@ -243,6 +243,9 @@ impl Store {
             Claim::AcknowledgementPresent => has(RecordKind::Acknowledgement),
             Claim::ReceiptAbsent => self.record(RecordKind::Receipt, verdict.end.channel, verdict.sequence).is_none(),
             Claim::NextReceive => end.next_receive == verdict.sequence,
+            Claim::TimeoutReceiptPresent => {
+                self.record(RecordKind::TimeoutReceipt, verdict.end.channel, verdict.sequence).is_some()
+            }
             Claim::EndShown => false,
         }
     }

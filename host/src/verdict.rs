@@ -19,10 +19,12 @@ pub enum Claim {
     NextReceive,
     /// The end's whole record is that of the [`EndVerdict`], once its counters are set to zero.
     EndShown,
+    /// A timeout receipt with the verdict's sequence is there: the packet lapsed.
+    TimeoutReceiptPresent,
 }
 
 impl Claim {
-    /// Its number, 1 to 5.
+    /// Its number, 1 to 6.
     pub fn number(self) -> u16 {
         match self {
             Claim::CommitmentPresent => 1,
@@ -30,13 +32,14 @@ impl Claim {
             Claim::ReceiptAbsent => 3,
             Claim::NextReceive => 4,
             Claim::EndShown => 5,
+            Claim::TimeoutReceiptPresent => 6,
         }
     }
 }
 
 /// What the light client found, at a block of the other ledger to which no more calls are added.
 ///
-/// The four functions make the verdicts that packets need. Whether a verdict is true is the light client's to
+/// The five functions make the verdicts that packets need. Whether a verdict is true is the light client's to
 /// say; [`Store::holds`](crate::Store::holds) tells it of a store that is at hand.
 #[derive(Clone, Copy, Debug, PartialEq, Eq, Hash)]
 pub struct Verdict {
@@ -79,9 +82,16 @@ impl Verdict {
     }
 
     /// The receiver's next receive is this: what either time-out on an ordered channel needs, with a number that is not
-    /// above the packet's sequence.
+    /// above the packet's sequence. With [`Order::OrderedAllowTimeout`](crate::Order) a time-out on close needs it, of
+    /// a packet that neither was received nor lapsed before the close.
     pub fn next_receive(packet: &Packet, next: u64, block: Block) -> Verdict {
         Verdict { claim: Claim::NextReceive, sequence: next, ..Verdict::of_receiver(packet, block) }
+    }
+
+    /// The receiver has a timeout receipt, since the packet lapsed there: what a time-out needs on a channel with
+    /// [`Order::OrderedAllowTimeout`](crate::Order), and a time-out on close of a packet that lapsed before the close.
+    pub fn timeout_receipt_present(packet: &Packet, block: Block) -> Verdict {
+        Verdict { claim: Claim::TimeoutReceiptPresent, ..Verdict::of_receiver(packet, block) }
     }
 
     fn of_receiver(packet: &Packet, block: Block) -> Verdict {

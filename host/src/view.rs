@@ -13,7 +13,7 @@ pub enum State {
     TryOpen,
     /// It takes packets.
     Open,
-    /// It takes time-outs only. A close closed it, or a time-out on an ordered channel, and nothing opens it again.
+    /// It takes time-outs only. A close closed it, or a time-out on a channel of order 1, and nothing opens it again.
     Closed,
 }
 
@@ -43,7 +43,7 @@ impl State {
 pub struct Channel {
     /// How far it is opened, and whether it is closed.
     pub state: State,
-    /// Whether its packets are taken in order.
+    /// Whether its packets are taken in order, and what becomes of a late one.
     pub order: Order,
     /// The port that owns it, and its number.
     pub own: End,
@@ -51,9 +51,10 @@ pub struct Channel {
     pub counterparty: End,
     /// The sequence of the next packet that is sent.
     pub next_send: u64,
-    /// On an ordered channel, the sequence of the next packet that is received.
+    /// The sequence of the next packet that is received here or lapses. On an unordered channel it stays 1.
     pub next_receive: u64,
-    /// On an ordered channel, the sequence of the next packet that is acknowledged.
+    /// The sequence of the next packet that is acknowledged; with [`Order::OrderedAllowTimeout`], of the next one that
+    /// is acknowledged or timed out while the end is open. On an unordered channel it stays 1.
     pub next_acknowledge: u64,
     /// The version, which never changes. Both ends of an open channel have the same one.
     pub version: Version,
@@ -67,7 +68,7 @@ impl Channel {
             return None;
         }
         let state = State::from_number(from.u8());
-        let order = if from.u8() == 1 { Order::Ordered } else { Order::Unordered };
+        let order = Order::from_number(from.u8());
         let channel = from.u32();
         let own = End { port: from.u16(), channel };
         let counterparty = End { port: from.u16(), channel: from.u32() };
@@ -107,6 +108,9 @@ pub enum RecordKind {
     Receipt,
     /// The answer to a packet that was received here.
     Acknowledgement,
+    /// A packet came late here and lapsed, on a channel with [`Order::OrderedAllowTimeout`]. It was not received, and
+    /// is not answered.
+    TimeoutReceipt,
 }
 
 /// A packet record. Kind, channel and sequence tell it from all others of the store, and give it its place among them.
@@ -120,7 +124,7 @@ pub struct Record {
     pub sequence: u64,
     /// The packet's timeouts if it is a commitment, else none.
     pub timeout: Timeout,
-    /// The digest of the packet's data or of the acknowledgement; zero in a receipt.
+    /// The digest of the packet's data or of the acknowledgement; zero in a receipt and in a timeout receipt.
     pub digest: Digest,
 }
 
@@ -132,7 +136,8 @@ impl Record {
             0 => return None,
             1 => RecordKind::Commitment,
             2 => RecordKind::Receipt,
-            _ => RecordKind::Acknowledgement,
+            3 => RecordKind::Acknowledgement,
+            _ => RecordKind::TimeoutReceipt,
         };
         from.u16();
         let (channel, sequence) = (from.u32(), from.u64());

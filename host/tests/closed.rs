@@ -22,20 +22,7 @@ fn all_packets_come_back() {
     }
 }
 
-fn received(at: &mut Store, context: &Context, packet: &Packet) -> Result<Option<Emitted>, Refusal> {
-    at.handle(Datagram::receive(context, packet, &Verdict::commitment_present(packet, block(50))))
-}
-
-fn written(at: &mut Store, context: &Context, packet: &Packet) -> Result<Option<Emitted>, Refusal> {
-    at.handle(Datagram::write(context, packet.destination.channel, packet.sequence, DIGEST))
-}
-
-fn acknowledged(at: &mut Store, context: &Context, packet: &Packet) -> Result<Option<Emitted>, Refusal> {
-    let verdict = Verdict::acknowledgement_present(packet, DIGEST, block(50));
-    at.handle(Datagram::acknowledge(context, packet, DIGEST, &verdict))
-}
-
-/// A time-out with what the other store shows now, in the block of this height. Where it has the receipt there is none.
+/// A time-out with what the other store shows now, in the block of this height. Where it can't be shown there is none.
 fn timed_out(
     at: &mut Store,
     context: &Context,
@@ -102,11 +89,12 @@ fn stranded() {
             assert_eq!(south.handle(confirm), Ok(None));
         }
         // What south can truly show does not give the packet back.
-        if opening.order == Order::Ordered {
-            assert_eq!(north.handle(on_close(&CONTEXT, &packet, &south)), Err(Refusal::OutOfOrder));
-        } else {
+        if opening.order == Order::Unordered {
             assert!(!south.holds(&Verdict::receipt_absent(&packet, block(50))));
+        } else {
+            assert_eq!(north.handle(on_close(&CONTEXT, &packet, &south)), Err(Refusal::OutOfOrder));
         }
+        assert!(!south.holds(&Verdict::timeout_receipt_present(&packet, block(50))));
         assert_eq!(commitments(&north), 1);
     }
 }
@@ -152,7 +140,7 @@ fn stranded_by_a_time_out() {
     }
 }
 
-/// On an unordered channel the receipt may take the last record, on an ordered one there may be none before.
+/// On an unordered channel the receipt may take the last record, on the others there may be none before.
 #[test]
 fn stranded_without_a_free_record() {
     for opening in OPENINGS {
@@ -161,7 +149,7 @@ fn stranded_without_a_free_record() {
         let packets = [(); 2].map(|()| sent_on(&mut north, &CONTEXT, opening));
         received(&mut south, &SOUTH, &packets[0]).unwrap();
         let mut packet = packets[0];
-        if opening.order == Order::Ordered {
+        if opening.order != Order::Unordered {
             written(&mut south, &SOUTH, &packets[0]).unwrap();
             received(&mut south, &SOUTH, &packets[1]).unwrap();
             packet = packets[1];
@@ -188,7 +176,11 @@ fn answered(opening: Opening) -> (Store, Store, Packet) {
 /// What north does when south's end is CLOSED: one packet is acknowledged, the others come back, and the end is closed.
 fn follows(north: &mut Store, context: &Context, south: &Store, opening: Opening, out: Packet, others: &[Packet]) {
     acknowledged(north, context, &out).unwrap();
-    for packet in others.iter().rev() {
+    let mut others = others.to_vec();
+    if opening.order != Order::OrderedAllowTimeout {
+        others.reverse();
+    }
+    for packet in &others {
         assert_eq!(north.handle(on_close(context, packet, south)), emits(Emitted::TimedOut(*packet)));
     }
     let end = shown(south.channel(opening.counterparty.channel).unwrap());
@@ -232,8 +224,15 @@ fn none_stranded() {
 
         let late = Context { height: OwnHeight(1_001), ..CONTEXT };
         for packet in [waited_for, behind] {
-            assert_eq!(timed_out(&mut south, &SOUTH, &packet, &north, 1_000), given_back(packet));
-            assert_eq!(received(&mut north, &late, &packet), Err(Refusal::TimeoutPassed));
+            let mut again = Refusal::TimeoutPassed;
+            if opening.order == Order::OrderedAllowTimeout {
+                // It first has to come late, so that it lapses.
+                assert_eq!(timed_out(&mut south, &SOUTH, &packet, &north, 1_000), None);
+                assert_eq!(received(&mut north, &late, &packet), emits(Emitted::Lapsed(packet)));
+                again = Refusal::OutOfOrder;
+            }
+            assert_eq!(timed_out(&mut south, &SOUTH, &packet, &north, 1_001), given_back(packet));
+            assert_eq!(received(&mut north, &late, &packet), Err(again));
         }
         assert_eq!(commitments(&south), 0);
         // On an ordered channel the time-out has closed south's end.

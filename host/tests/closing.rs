@@ -9,7 +9,7 @@ use route::*;
 #[test]
 fn lengths_and_places() {
     let (end, packet) = (shown(closed_across(ORDERED)), sent());
-    let verdict = not_received(Order::Ordered, &packet, 1);
+    let verdict = not_taken(Order::Ordered, &packet, 1);
     let init = Datagram::close_init(&CONTEXT, 7);
     let confirm = Datagram::close_confirm(&CONTEXT, 7, &end);
     let time_out = Datagram::time_out_on_close(&CONTEXT, &packet, &end, &verdict);
@@ -48,7 +48,7 @@ fn close_init() {
 #[test]
 fn close_confirm() {
     for opening in OPENINGS {
-        let mut store = fresh();
+        let (mut store, _) = ledgers();
         let end = store.channel(opening.own.channel).unwrap();
         step_refused(&mut store, CONTEXT, shown(closed_across(opening)), Datagram::close_confirm);
         assert_eq!(store.channel(opening.own.channel), Some(Channel { state: State::Closed, ..end }));
@@ -68,14 +68,13 @@ fn an_end_that_is_not_open_is_not_closed() {
 
 #[test]
 fn malformed() {
-    let verdict = not_received(Order::Ordered, &sent(), 1);
+    let verdict = not_taken(Order::Ordered, &sent(), 1);
     let end = shown(closed_across(ORDERED));
     let good = Datagram::time_out_on_close(&CONTEXT, &sent(), &end, &verdict);
     let confirm = Datagram::close_confirm(&CONTEXT, 7, &end);
     // Sequence 0, an unknown claim in either verdict, a connection that is neither open nor closed.
-    for (datagram, at, value) in
-        [(&good, 38, 0), (&good, 106, 99), (&good, 188, 99), (&confirm, 42, 99), (&confirm, 32, 2)]
-    {
+    let claims = [0, 7].map(|claim| [(&good, 106, claim), (&good, 188, claim), (&confirm, 42, claim)]);
+    for (datagram, at, value) in claims.into_iter().flatten().chain([(&good, 38, 0), (&confirm, 32, 2)]) {
         let mut bytes = datagram.as_bytes().to_vec();
         bytes[at] = value;
         assert_eq!(fresh().handle(&bytes), Err(Refusal::Malformed), "{at}");
@@ -112,12 +111,14 @@ fn time_out_on_close_of_another_packet() {
 
 #[test]
 fn time_out_on_close_of_a_received_packet() {
-    let (mut north, packet, end, _) = sent_with_verdicts(ORDERED);
-    let received = not_received(Order::Ordered, &packet, 2);
-    let unlike = EndVerdict { end: Channel { version: Version::new("v2").unwrap(), ..end.end }, ..end };
-    for end in [end, unlike] {
-        let datagram = Datagram::time_out_on_close(&CONTEXT, &packet, &end, &received);
-        assert_eq!(north.handle(datagram), Err(Refusal::OutOfOrder));
+    for opening in [ORDERED, ALLOW_TIMEOUT] {
+        let (mut north, packet, end, _) = sent_with_verdicts(opening);
+        let received = Verdict::next_receive(&packet, 2, block(50));
+        let unlike = EndVerdict { end: Channel { version: Version::new("v2").unwrap(), ..end.end }, ..end };
+        for end in [end, unlike] {
+            let datagram = Datagram::time_out_on_close(&CONTEXT, &packet, &end, &received);
+            assert_eq!(north.handle(datagram), Err(Refusal::OutOfOrder));
+        }
     }
 }
 
@@ -125,7 +126,7 @@ fn time_out_on_close_of_a_received_packet() {
 #[test]
 fn time_out_on_close() {
     let unconnected = Context { connected: false, ..CONTEXT };
-    for (opening, left) in [(ORDERED, State::Closed), (UNORDERED, State::Open)] {
+    for (opening, left) in [(ORDERED, State::Closed), (UNORDERED, State::Open), (ALLOW_TIMEOUT, State::Open)] {
         let (mut north, mut south) = ledgers();
         let packet = sent_on(&mut north, &CONTEXT, opening);
         assert_eq!(north.handle(on_close(&unconnected, &packet, &south)), refused(VerdictPart::Digest));

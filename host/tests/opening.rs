@@ -114,9 +114,13 @@ fn open_init_refused() {
     // The connection is not asked for.
     let unconnected = Context { connected: false, ..NORTH };
     assert_eq!(empty().handle(Datagram::open_init(&unconnected, 6, Order::Ordered, "v1")), new_end(5, 1));
-    let mut bytes = init().into_bytes();
-    bytes[40] = 3;
-    assert_eq!(empty().handle(&bytes), Err(Refusal::Malformed));
+    let with_order = |order: u8| {
+        let mut bytes = init().into_bytes();
+        bytes[40] = order;
+        empty().handle(&bytes)
+    };
+    assert_eq!([0, 4].map(with_order), [Err(Refusal::Malformed); 2]);
+    assert_eq!([1, 2, 3].map(with_order), [new_end(5, 1); 3]);
     let mut short = [&[40, 0, 0, 0], &init().as_bytes()[4..40]].concat();
     assert_eq!(empty().handle(&short), Err(Refusal::Malformed));
     short.push(2);

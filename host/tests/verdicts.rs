@@ -6,20 +6,27 @@ use common::ledgers::*;
 use common::*;
 use route::{VerdictPart as Part, *};
 
-type Answer = Result<Option<Emitted>, Refusal>;
-
-/// The parts of a packet's verdict, in the order in which they are compared; and without the sequence, as at a time-out
-/// on an ordered channel.
+/// The parts of a packet's verdict, in the order in which they are compared; and without the sequence, which is free
+/// where the other end's next receive is claimed.
 const PARTS: [Part; 6] = [Part::Claim, Part::Port, Part::Channel, Part::Sequence, Part::Timeouts, Part::Digest];
 const BUT_SEQUENCE: [Part; 5] = [Part::Claim, Part::Port, Part::Channel, Part::Timeouts, Part::Digest];
 
-fn parts_of_a_time_out(order: Order) -> &'static [Part] {
-    if order == Order::Ordered {
+fn parts_of(needed: Verdict) -> &'static [Part] {
+    if needed.claim == Claim::NextReceive {
         &BUT_SEQUENCE
     } else {
         &PARTS
     }
 }
+
+const CLAIMS: [Claim; 6] = [
+    Claim::CommitmentPresent,
+    Claim::AcknowledgementPresent,
+    Claim::ReceiptAbsent,
+    Claim::NextReceive,
+    Claim::EndShown,
+    Claim::TimeoutReceiptPresent,
+];
 
 /// The verdicts that differ from this one in this part alone.
 fn differing(from: Verdict, part: Part) -> Vec<Verdict> {
@@ -31,9 +38,8 @@ fn differing(from: Verdict, part: Part) -> Vec<Verdict> {
     let late = from.timeout.height_at_sender().unwrap_or_default().0;
     match part {
         Part::Claim => {
-            let claims = [Claim::CommitmentPresent, Claim::AcknowledgementPresent, Claim::ReceiptAbsent];
-            let claims = claims.into_iter().chain([Claim::NextReceive, Claim::EndShown]);
-            claims.filter(|claim| *claim != from.claim).map(|claim| Verdict { claim, ..from }).collect()
+            let claims = CLAIMS.into_iter().filter(|claim| *claim != from.claim);
+            claims.map(|claim| Verdict { claim, ..from }).collect()
         }
         Part::Port => vec![end(port + 1, channel)],
         Part::Channel => vec![end(port, channel + 1)],
@@ -67,7 +73,7 @@ fn receive() {
                 south.handle(Datagram::receive(&SOUTH, &packet, verdict))
             });
         };
-        if opening.order == Order::Ordered {
+        if opening.order != Order::Unordered {
             told(second, Err(Refusal::OutOfOrder));
         }
         told(first, emits(Emitted::Delivered(first)));
@@ -86,7 +92,7 @@ fn acknowledge() {
                 north.handle(Datagram::acknowledge(&CONTEXT, &packet, acknowledgement, verdict))
             });
         };
-        if opening.order == Order::Ordered {
+        if opening.order != Order::Unordered {
             told(second, Err(Refusal::OutOfOrder));
         }
         told(first, emits(Emitted::Acknowledged { packet: first, acknowledgement }));
@@ -97,35 +103,63 @@ fn acknowledge() {
 fn time_out() {
     for opening in OPENINGS {
         let (mut north, _) = ledgers();
-        let packet = sent_until(60, &mut north, &CONTEXT, opening);
-        let mut told = |next, answer| {
+        let [packet, behind] = [(); 2].map(|()| sent_until(60, &mut north, &CONTEXT, opening));
+        let mut told = |packet, next, answer| {
             let needed = Verdict { block: block(60), ..not_received(opening.order, &packet, next) };
-            first_is_told(needed, parts_of_a_time_out(opening.order), answer, |verdict| {
+            first_is_told(needed, parts_of(needed), answer, |verdict| {
                 north.handle(Datagram::time_out(&CONTEXT, &packet, verdict))
             });
         };
-        if opening.order == Order::Ordered {
-            told(2, Err(Refusal::OutOfOrder));
+        match opening.order {
+            Order::Ordered => told(packet, 2, Err(Refusal::OutOfOrder)),
+            Order::OrderedAllowTimeout => told(behind, 0, Err(Refusal::OutOfOrder)),
+            _ => {}
         }
         // On the ordered channel any next receive up to the packet's sequence is as good.
-        told(0, emits(Emitted::TimedOut(packet)));
+        told(packet, 0, emits(Emitted::TimedOut(packet)));
     }
 }
 
 #[test]
 fn time_out_on_close() {
-    for opening in OPENINGS {
+    for opening in [ORDERED, UNORDERED] {
         let (mut north, packet, end, verdict) = sent_with_verdicts(opening);
-        let parts = [parts_of_a_time_out(opening.order), &[Part::Blocks]].concat();
+        let parts = [parts_of(verdict), &[Part::Blocks]].concat();
         let mut told = |needed, answer| {
             first_is_told(needed, &parts, answer, |verdict| {
                 north.handle(Datagram::time_out_on_close(&CONTEXT, &packet, &end, verdict))
             });
         };
         if opening.order == Order::Ordered {
-            told(not_received(Order::Ordered, &packet, 2), Err(Refusal::OutOfOrder));
+            told(not_taken(Order::Ordered, &packet, 2), Err(Refusal::OutOfOrder));
         }
         told(verdict, emits(Emitted::TimedOut(packet)));
+    }
+}
+
+/// Where timeouts are allowed, the verdict's own claim says which of two is meant: that the packet lapsed, or else the
+/// other end's next receive. So each is compared as the one needed, and the claims beside them are not.
+#[test]
+fn either_claim_on_close() {
+    let (north, packet, end, _) = sent_with_verdicts(ALLOW_TIMEOUT);
+    let call = |verdict: &Verdict| {
+        let mut north = north.clone();
+        north.handle(Datagram::time_out_on_close(&CONTEXT, &packet, &end, verdict))
+    };
+    let lapsed = Verdict::timeout_receipt_present(&packet, block(50));
+    let next = |next| Verdict::next_receive(&packet, next, block(50));
+    let timed_out = emits(Emitted::TimedOut(packet));
+    let taken = Err(Refusal::OutOfOrder);
+    for (needed, answer) in [(lapsed, timed_out), (next(1), timed_out), (next(0), timed_out), (next(2), taken)] {
+        let parts = [&parts_of(needed)[1..], &[Part::Blocks]].concat();
+        first_is_told(needed, &parts, answer, call);
+        for claim in CLAIMS.into_iter().filter(|claim| ![lapsed.claim, Claim::NextReceive].contains(claim)) {
+            let other = Verdict { claim, ..needed };
+            assert_eq!(call(&other), refused(Part::Claim), "{other:?}");
+            for verdict in parts.iter().flat_map(|part| differing(other, *part)) {
+                assert_eq!(call(&verdict), refused(Part::Claim), "{verdict:?}");
+            }
+        }
     }
 }
 
@@ -136,7 +170,10 @@ fn the_end_verdict_first() {
         let (mut north, packet, end, verdict) = sent_with_verdicts(opening);
         let before = north.clone();
         let mut call = |end, verdict| north.handle(Datagram::time_out_on_close(&CONTEXT, &packet, &end, &verdict));
-        let parts = [parts_of_a_time_out(opening.order), &[Part::Blocks]].concat();
+        let mut parts = [parts_of(verdict), &[Part::Blocks]].concat();
+        if opening.order == Order::OrderedAllowTimeout {
+            parts.remove(0); // with another claim the verdict may be as good
+        }
         for (other, refusal) in wrong_verdicts(end) {
             assert_eq!(call(other, verdict), Err(refusal), "{other:?}");
             for part in &parts {

@@ -10,6 +10,12 @@ pub const ORDERED: Opening =
     Opening { own: End { port: 5, channel: 7 }, counterparty: End { port: 6, channel: 9 }, order: Order::Ordered };
 pub const UNORDERED: Opening =
     Opening { own: End { port: 5, channel: 8 }, counterparty: End { port: 6, channel: 10 }, order: Order::Unordered };
+pub const ALLOW_TIMEOUT: Opening = Opening {
+    own: End { port: 5, channel: 11 },
+    counterparty: End { port: 6, channel: 12 },
+    order: Order::OrderedAllowTimeout,
+};
+pub const ORDERS: [Order; 3] = [Order::Ordered, Order::Unordered, Order::OrderedAllowTimeout];
 
 pub const CONTEXT: Context =
     Context { height: OwnHeight(100), time: 1000, client: OtherHeight(50), port: 5, connected: true };
@@ -67,12 +73,10 @@ pub fn shown(end: Channel) -> EndVerdict {
 /// An end that differs in one field, other than its version.
 pub fn others(end: Channel) -> Vec<Channel> {
     let state = if end.state == State::Closed { State::Open } else { State::Closed };
-    let order = if end.order == Order::Ordered { Order::Unordered } else { Order::Ordered };
     let own = |port, channel| Channel { own: End { port, channel }, ..end };
     let counterparty = |port, channel| Channel { counterparty: End { port, channel }, ..end };
-    vec![
+    let mut others = vec![
         Channel { state, ..end },
-        Channel { order, ..end },
         own(end.own.port + 1, end.own.channel),
         own(end.own.port, end.own.channel + 1),
         counterparty(end.counterparty.port + 1, end.counterparty.channel),
@@ -80,7 +84,10 @@ pub fn others(end: Channel) -> Vec<Channel> {
         Channel { next_send: 1, ..end },
         Channel { next_receive: 1, ..end },
         Channel { next_acknowledge: 1, ..end },
-    ]
+    ];
+    let orders = ORDERS.into_iter().filter(|order| *order != end.order);
+    others.extend(orders.map(|order| Channel { order, ..end }));
+    others
 }
 
 /// The verdicts that differ from one that is needed, each with its refusal.
