@@ -8,6 +8,7 @@ import unittest
 
 TRACE = os.path.join(os.path.dirname(os.path.abspath(__file__)), "trace")
 OPEN = "open 2\nchannel 7 port 5 ordered to 6/9\nchannel 8 port 5 unordered to 6/10\n"
+OPEN += "channel 11 port 5 ordered-allow-timeout to 6/12\n"
 
 # The opening and the send of docs/REPLAY.md, byte for byte.
 OPENING = "14000000 1000 0500 07000000 0600 09000000 01 00"
@@ -66,7 +67,8 @@ class Bytes(unittest.TestCase):
 
     def test_needed_verdicts(self):
         lines = "receive 7 height 60\nacknowledge 7 height 60\ntimeout 7 sequence 4 height 60\ntimeout 8 height 60\n"
-        receive, acknowledge, ordered, unordered = records(OPEN + lines)
+        lines += "timeout 11 sequence 4 height 60\n"
+        receive, acknowledge, ordered, unordered, allowed = records(OPEN + lines)
         self.assertEqual(receive[106], 1)
         # Source, sequence, timeouts and digest are the packet's.
         self.assertEqual(receive[124:130], receive[62:68])
@@ -74,16 +76,17 @@ class Bytes(unittest.TestCase):
         self.assertEqual(acknowledge[138], 2)
         self.assertEqual(acknowledge[156:162], acknowledge[68:74])
         self.assertEqual(acknowledge[162:218], acknowledge[38:46] + bytes(16) + acknowledge[106:138])
-        self.assertEqual((ordered[106], unordered[106]), (4, 3))
-        self.assertEqual(ordered[124:186], ordered[68:74] + ordered[38:46] + bytes(48))
+        self.assertEqual((ordered[106], unordered[106], allowed[106]), (4, 3, 6))
+        for timeout in (ordered, unordered, allowed):
+            self.assertEqual(timeout[124:186], timeout[68:74] + timeout[38:46] + bytes(48))
 
     def test_verdicts_of_a_timeout_on_close(self):
         """The packet and its verdict are those of a time-out, with the end verdict of a close-confirm between them."""
-        for own in (7, 8):
+        for own, claim in ((7, 4), (8, 3), (11, 4)):
             packet = f"{own} sequence 4 height 60 digest 05"
             lines = f"at client 50 time 9\ntimeout {packet}\nclose-confirm {own}\ntimeout-on-close {packet}\n"
             timeout, confirm, on_close = records(OPEN + lines)
-            self.assertEqual(on_close[38:], timeout[38:106] + confirm[42:] + timeout[106:])
+            self.assertEqual(on_close[38:], timeout[38:106] + confirm[42:] + bytes([claim, 0]) + timeout[108:])
             self.assertEqual((on_close[108:124], confirm[62]), (on_close[190:206], 4))
             told = " end-verdict claim 4 at 51 state open verdict claim 2 at 52/8 sequence 3"
             (other,) = records(OPEN + f"at client 50 time 9\ntimeout-on-close {packet}{told}\n")
@@ -110,12 +113,19 @@ class Bytes(unittest.TestCase):
 
     def test_every_part_of_an_end_verdict_can_be_told(self):
         told = " verdict claim 1 at 10/11 on 12/13 to 14/15 state closed order ordered version 0x6100"
-        steps = [("try 1 port 5 unordered to 6/9", 45), ("open-acknowledge 8 to 9", 46), ("open-confirm 8", 42)]
-        steps += [("close-confirm 8", 42), ("timeout-on-close 8", 106)]
+        steps = [("try 1 port 5 ordered-allow-timeout to 6/9", 45), ("open-acknowledge 8 to 9", 46)]
+        steps += [("open-confirm 8", 42), ("close-confirm 8", 42), ("timeout-on-close 8", 106)]
         for line, at in steps:
             (record,) = records(OPEN + line + (told if at != 106 else told.replace("verdict", "end-verdict")))
             expected = "0100 0a00000000000000 0b00000000000000 0100 04 01 0d000000 0c00 0e00 0f000000"
             self.assertEqual(record[at : at + 82].hex(), bytes.fromhex(expected + "00" * 24 + "61" + "00" * 23).hex())
+
+    def test_orders(self):
+        for number, order in enumerate(["ordered", "unordered", "ordered-allow-timeout"], 1):
+            lines = f"channel 9 port 5 {order} to 6/9\ninit 1 port 5 {order} to 6\ntry 1 port 5 {order} to 6/9\n"
+            data = run("open 2\n" + lines + f"close-confirm 7 verdict order {order}\n").stdout
+            # At its place in the opening, the init, the try with its verdict, and the record of an end verdict.
+            self.assertEqual([data[at] for at in (26, 68, 113, 135, 259)], [number] * 5)
 
     def test_versions(self):
         lines = "init 1 port 5 ordered to 6\ninit 1 port 5 ordered to 6 version 0x610062\n"
@@ -199,7 +209,7 @@ class BadLines(unittest.TestCase):
             ("raw 0", "is not hexadecimal"),
             ("open 2", "'open' comes once"),
             ("channel 9 port 5 to 6/9", "a channel needs"),
-            ("init 9 port 5 to 6", "init needs 'port PORT', 'ordered' or 'unordered', and 'to PORT'"),
+            ("init 9 port 5 to 6", "one of: ordered, unordered, ordered-allow-timeout, and 'to PORT'"),
             ("init 9 port 5 ordered to 6/9", "'6/9' is not a number"),
             ("init 9 port 5 ordered to 6 verdict claim 5", "'init' carries no verdict"),
             ("try 9 port 5 ordered", "and 'to PORT/CHANNEL'"),
@@ -209,6 +219,8 @@ class BadLines(unittest.TestCase):
             ("open-confirm 7 verdict state ajar", "is not one of: init, tryopen, open, closed"),
             ("open-confirm 7 verdict sequence 1", "is no part of an end verdict"),
             ("channel 9 port 5 ordered unordered to 6/9", "a channel needs"),
+            ("channel 9 port 5 allowed to 6/9", "'allowed' is no part of a channel"),
+            ("open-confirm 7 verdict order 3", "is not one of: ordered, unordered, ordered-allow-timeout"),
             ("close-init 7 verdict state closed", "'close-init' carries no verdict"),
             ("close-confirm 7 sequence 1", "'sequence' is no part of close-confirm, which has none"),
             ("timeout 7 end-verdict state closed", "'timeout' carries no end-verdict"),
@@ -217,12 +229,12 @@ class BadLines(unittest.TestCase):
             ("timeout-on-close 7 verdict claim 3 end-verdict claim 5", "'end-verdict' is no part of a verdict"),
         ]:
             with self.subTest(line):
-                self.refused(OPEN + "# a comment\n\n" + line + "\nsend 7\n", 6, words)
+                self.refused(OPEN + "# a comment\n\n" + line + "\nsend 7\n", 7, words)
 
     def test_order_of_lines(self):
         self.refused("send 7\n", 1, "'open' comes before")
         self.refused("channel 7 port 5 ordered to 6/9\n", 1, "'channel' comes behind")
-        self.refused(OPEN + "send 7\nchannel 9 port 5 ordered to 6/9\n", 5, "'channel' comes behind")
+        self.refused(OPEN + "send 7\nchannel 9 port 5 ordered to 6/9\n", 6, "'channel' comes behind")
 
     def test_no_trace(self):
         self.assertEqual(run("# nothing\n").returncode, 1)

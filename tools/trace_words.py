@@ -1,6 +1,6 @@
 """The words of a trace's text: numbers, digests, ends, versions, and the parts that each line has."""
 
-ORDERS = {"ordered": 1, "unordered": 2}
+ORDERS = {"ordered": 1, "unordered": 2, "ordered-allow-timeout": 3}
 # Those that open and close a channel; the others are about packets.
 STEPS = {"init": 6, "try": 7, "open-acknowledge": 8, "open-confirm": 9, "close-init": 10, "close-confirm": 11}
 KINDS = {"send": 1, "receive": 2, "write": 3, "acknowledge": 4, "timeout": 5, **STEPS, "timeout-on-close": 12}
@@ -8,6 +8,8 @@ STATES = {"init": 1, "tryopen": 2, "open": 3, "closed": 4}
 # The state of the other end that an end verdict has to show.
 STATES_SHOWN = {"try": "init", "open-acknowledge": "tryopen", "open-confirm": "open"}
 STATES_SHOWN |= {"close-confirm": "closed", "timeout-on-close": "closed"}
+# The claim that a time-out needs, by the order of its channel. On close a channel of order 3 takes 6 too.
+CLAIMS_NEEDED = {"timeout": {1: 4, 2: 3, 3: 6}, "timeout-on-close": {1: 4, 2: 3, 3: 4}}
 # The words for the answers from a number on, in the order of their places.
 ANSWERS = {
     0: "accepted|store not fit|output short|malformed|height or time goes back|channel not in the store|"
@@ -151,5 +153,5 @@ def take_end(words, table, of):
     parts = take_parts([word for word in words if word not in ORDERS], table, of)
     if len(orders) != 1 or not {"port", "to"} <= parts.keys():
         to = "PORT" if of == "init" else "PORT/CHANNEL"
-        raise BadLine(f"{of} needs 'port PORT', 'ordered' or 'unordered', and 'to {to}'")
+        raise BadLine(f"{of} needs 'port PORT', one of: {', '.join(ORDERS)}, and 'to {to}'")
     return ORDERS[orders[0]], parts
