@@ -149,7 +149,9 @@ pub record AllowTimeoutCases : Type 0 where
       map (λ p. told 0x0102 p (receiving 3 [])) (inTime 2)
   pub lapsed : map (called (receiving 2 []) anOutput) (receives (late 2)) ≡
       map (λ p. told 0x0106 p (receiving 3 (timeoutReceipt 2))) (late 2)
-  -- its record takes its place, behind acknowledgements
+  -- behind one that lapsed the next is delivered; the record takes its place, behind acknowledgements
+  pub deliveredBehind : called (receiving 3 bothTaken) anOutput (aReceive usual (incoming 3 101 0)) ≡
+      told 0x0102 (incoming 3 101 0) (receiving 4 bothTaken)
   pub lapsedBehind : map (λ rs. called (receiving 3 rs) anOutput (aReceive usual (incoming 3 100 0)))
       (timeoutReceipt 2 ∷ acknowledged 2 ∷ []) ≡
       map (λ rs. told 0x0106 (incoming 3 100 0) (receiving 4 (rs ++ timeoutReceipt 3)))
@@ -181,8 +183,8 @@ pub record AllowTimeoutCases : Type 0 where
   pub finishedOnTryOpen : map (called (sent 2) anOutput) (timeouts 3 3 unchanged) ≡ timedOut 2 2 3 2
   pub acknowledgedOnClosed : numbersFrom (sent 4) (finishing 3) ≡ 6 ∷ replicate 3 0
   -- at the top: a sequence that is committed is below it, so 15 while OPEN
-  pub finishedAtTop : map (λ s. numbersFrom (sending s top (committed 2)) (timeouts 2 2 unchanged)) (3 ∷ 4 ∷ []) ≡
-      replicate 3 15 ∷ replicate 3 0 ∷ []
+  pub finishedAtTop : map (λ s. numbersFrom (sending s top (committed 2)) (finishing 2)) (3 ∷ 4 ∷ []) ≡
+      replicate 4 15 ∷ (6 ∷ replicate 3 0) ∷ []
   pub finishedTwice : numbersFrom (sending 3 2 (committed 3)) (finishing 2) ≡ replicate 4 13
   -- before its timeout has passed, by any claim
   pub tooEarly : numbersFrom (sent 3) (map (λ k. timeoutOf 2 k 2 (byteAt 2 59)) (3 ∷ 4 ∷ 6 ∷ [])) ≡ replicate 3 12
