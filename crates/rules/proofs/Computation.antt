@@ -15,7 +15,7 @@ use Rattle.datagram.specs.Names.{verdictIn, endVerdictIn, packetFrom, verdictFr
 use Rattle.datagram.specs.Names.{digestFrom, endVerdictFrom, counterpartyFrom, orderFrom, versionFrom, channelFrom}
 use Rattle.datagram.specs.Names.{datagramIn, verdictsIn, isPartSound, arePartsSound, isContextSound, isSound, framed}
 use Rattle.datagram.specs.Names.{packetBytes}
-use Rattle.rules.specs.Names.{sliceOfFour, aSlice, openingsOn, openedStores, requests, stores, firstDifference, shown}
+use Rattle.rules.specs.Names.{sliceOfFour, aSlice, openingsOn, openedStores, requests, stores, firstDifference}
 use Rattle.rules.specs.Names.{sameCounters, sameButVersion, firstEndDifference, hasVersion, hasValues, isAsStated}
 use Rattle.rules.specs.Names.{holdsOn, endHolds, claimHolds, plainRecord, counted, moved, receivesInOrder}
 use Rattle.rules.specs.Names.{refusesLate, lapses, isReceiptThere, raisesReceive, receivedEnd, receivedEdit}
@@ -32,7 +32,7 @@ use Rattle.rules.specs.Names.{aContext, aDigest, anAnswer, aPacket, aBlo
 use Rattle.rules.specs.Names.{acknowledgeBy, timeoutBy, anOutput, fresh, atTop, calls, fold, empty, aVersion}
 use Rattle.rules.specs.Names.{endWith, anEndVerdict, anOpenInit, openTryBy, openAcknowledgeBy, openConfirmBy}
 use Rattle.rules.specs.Names.{storeOf, handshakes, transfers, closings, aCloseInit, closeConfirmBy}
-use Rattle.rules.specs.Names.{timeoutOnCloseBy, blockDifference, holding}
+use Rattle.rules.specs.Names.{timeoutOnCloseBy, blockDifference, holding, shown}
 
 unfoldable pub computation : Unit {0}
 unfolding _and_ _or_ withNumber same areZero little numberOf part field pieces isPast sameTimeout noneZero versionFits
@@ -53,7 +53,7 @@ unfolding _and_ _or_ withNumber same areZero little numberOf part field pieces i
     absenceDifference claimsTaken table sentPacket commitment sends receives writesAcknowledgement acknowledges timesOut
     makes moves effectOf effectFor placed numberAfter edited applied answerTo effectIn nextStore called aSlice anOpening
     openings aContext aDigest anAnswer aPacket aBlock aVerdict aSend receiveBy aWrite acknowledgeBy timeoutBy anOutput
-    fresh atTop openingsOn openedStores stores requests calls fold empty aVersion endWith anEndVerdict anOpenInit openTryBy
-    openAcknowledgeBy openConfirmBy storeOf handshakes transfers sliceOfFour closings aCloseInit closeConfirmBy
-    timeoutOnCloseBy blockDifference holding
+    fresh atTop openingsOn openedStores stores requests calls fold empty aVersion endWith anEndVerdict anOpenInit
+    openTryBy openAcknowledgeBy openConfirmBy storeOf handshakes transfers sliceOfFour closings aCloseInit
+    closeConfirmBy timeoutOnCloseBy blockDifference holding
 computation = tt

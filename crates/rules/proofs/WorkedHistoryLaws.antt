@@ -5,8 +5,8 @@ use Rattle.wire.specs.Names.{Bytes}
 use Rattle.wire.proofs.Laws.{every-map, same-eq}
 use Rattle.slots.specs.Names.{isNumbered, storeIn}
 use Rattle.slots.proofs.Laws.{each-find}
-use Rattle.rules.specs.Names.{Side, first, second, Made, aSlice, sliceOfFour, stores, requests, history, openingsOn}
-use Rattle.rules.specs.Names.{openedStores, WorkedHistory}
+use Rattle.rules.specs.Names.{Side, first, second, Made, aSlice, sliceOfFour, stores, requests, history}
+use Rattle.rules.specs.Names.{openingsOn, openedStores, WorkedHistory}
 use Rattle.rules.proofs.HonestLaws.{areAll, all-every, honest-seen}
 use Rattle.rules.proofs.Facts.{isByte, Peer, Opened}
 use Rattle.rules.proofs.CaseLaws.{facts}

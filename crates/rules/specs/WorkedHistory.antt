@@ -15,10 +15,10 @@ use Rattle.rules.specs.Calls.{isDelivery, isAcknowledgement, isTimeout}
 use Rattle.rules.specs.Ends.{endAt}
 use Rattle.rules.specs.Truth.{Honest}
 use Rattle.rules.specs.Statements.{Request, calls}
-use Rattle.rules.specs.Examples.{aSlice, anOpening, openings, aContext, aDigest, anAnswer, aPacket, aBlock, aVersion}
-use Rattle.rules.specs.Examples.{anEndVerdict, aSend, receiveOf, aWrite, acknowledgeOf, timeoutOf, anOpenInit}
-use Rattle.rules.specs.Examples.{openTryOf, openAcknowledgeOf, openConfirmBy, openConfirmOf, aCloseInit}
-use Rattle.rules.specs.Examples.{closeConfirmOf, timeoutOnCloseOf, anOutput}
+use Rattle.rules.specs.Examples.{aSlice, anOpening, openings, aContext, aDigest, anAnswer, aPacket, aBlock}
+use Rattle.rules.specs.Examples.{aVersion, anEndVerdict, aSend, receiveOf, aWrite, acknowledgeOf, timeoutOf}
+use Rattle.rules.specs.Examples.{anOpenInit, openTryOf, openAcknowledgeOf, openConfirmBy, openConfirmOf}
+use Rattle.rules.specs.Examples.{aCloseInit, closeConfirmOf, timeoutOnCloseOf, anOutput}
 
 -- THE STORES: each ledger starts with no channels, and has room for four packet records
 unfoldable pub sliceOfFour : List ℕ
