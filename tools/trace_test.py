@@ -178,6 +178,47 @@ class Beside(unittest.TestCase):
         self.assertEqual(lines[2:], ["2 0       accepted", "end 15"])
 
 
+# Lines that are no good, each with words of what is told.
+BAD_LINES = [
+    ("sned 7", "'sned' begins no line"),
+    ("send", "the channel is missing"),
+    ("send x", "'x' is not a number"),
+    ("send 7 heigth 60", "'heigth' is no part of send, which has: height, time, digest"),
+    ("send 7 height", "the value of height is missing"),
+    ("send 7 height 60 height 61", "'height' stands twice"),
+    ("send 7 height 18446744073709551616", "is not between 0 and 18446744073709551615"),
+    ("send 7 digest 0", "is not hexadecimal"),
+    ("send 7 digest " + "00" * 33, "1 to 32 bytes"),
+    ("send 7 verdict claim 1", "carries no verdict"),
+    ("receive 7 verdict cliam 1", "is no part of a verdict"),
+    ("receive 7 from 5", "is not PORT/CHANNEL"),
+    ("receive 7 from 70000/1", "70000 is not between 0 and 65535"),
+    ("at connection perhaps", "is not one of: open, closed"),
+    ("raw", "is missing"),
+    ("raw 0", "is not hexadecimal"),
+    ("open 2", "'open' comes once"),
+    ("channel 9 port 5 to 6/9", "a channel needs"),
+    ("init 9 port 5 to 6", "one of: ordered, unordered, ordered-allow-timeout, and 'to PORT'"),
+    ("init 9 port 5 ordered to 6/9", "'6/9' is not a number"),
+    ("init 9 port 5 ordered to 6 verdict claim 5", "'init' carries no verdict"),
+    ("try 9 port 5 ordered", "and 'to PORT/CHANNEL'"),
+    ("try 9 port 5 ordered to 6/9 version 0x6", "is not hexadecimal"),
+    ("open-acknowledge 7", "needs 'to CHANNEL'"),
+    ("open-confirm 7 to 9", "'to' is no part of open-confirm, which has none"),
+    ("open-confirm 7 verdict state ajar", "is not one of: init, tryopen, open, closed"),
+    ("open-confirm 7 verdict sequence 1", "is no part of an end verdict"),
+    ("channel 9 port 5 ordered unordered to 6/9", "a channel needs"),
+    ("channel 9 port 5 allowed to 6/9", "'allowed' is no part of a channel"),
+    ("open-confirm 7 verdict order 3", "is not one of: ordered, unordered, ordered-allow-timeout"),
+    ("close-init 7 verdict state closed", "'close-init' carries no verdict"),
+    ("close-confirm 7 sequence 1", "'sequence' is no part of close-confirm, which has none"),
+    ("timeout 7 end-verdict state closed", "'timeout' carries no end-verdict"),
+    ("timeout-on-close 7 end-verdict sequence 1", "'sequence' is no part of an end verdict"),
+    ("timeout-on-close 7 verdict state closed", "'state' is no part of a verdict"),
+    ("timeout-on-close 7 verdict claim 3 end-verdict claim 5", "'end-verdict' is no part of a verdict"),
+]
+
+
 class BadLines(unittest.TestCase):
     def refused(self, text, line, words):
         with tempfile.TemporaryDirectory() as folder:
@@ -190,44 +231,7 @@ class BadLines(unittest.TestCase):
             self.assertFalse(os.path.exists(out))
 
     def test_each_is_told(self):
-        for line, words in [
-            ("sned 7", "'sned' begins no line"),
-            ("send", "the channel is missing"),
-            ("send x", "'x' is not a number"),
-            ("send 7 heigth 60", "'heigth' is no part of send, which has: height, time, digest"),
-            ("send 7 height", "the value of height is missing"),
-            ("send 7 height 60 height 61", "'height' stands twice"),
-            ("send 7 height 18446744073709551616", "is not between 0 and 18446744073709551615"),
-            ("send 7 digest 0", "is not hexadecimal"),
-            ("send 7 digest " + "00" * 33, "1 to 32 bytes"),
-            ("send 7 verdict claim 1", "carries no verdict"),
-            ("receive 7 verdict cliam 1", "is no part of a verdict"),
-            ("receive 7 from 5", "is not PORT/CHANNEL"),
-            ("receive 7 from 70000/1", "70000 is not between 0 and 65535"),
-            ("at connection perhaps", "is not one of: open, closed"),
-            ("raw", "is missing"),
-            ("raw 0", "is not hexadecimal"),
-            ("open 2", "'open' comes once"),
-            ("channel 9 port 5 to 6/9", "a channel needs"),
-            ("init 9 port 5 to 6", "one of: ordered, unordered, ordered-allow-timeout, and 'to PORT'"),
-            ("init 9 port 5 ordered to 6/9", "'6/9' is not a number"),
-            ("init 9 port 5 ordered to 6 verdict claim 5", "'init' carries no verdict"),
-            ("try 9 port 5 ordered", "and 'to PORT/CHANNEL'"),
-            ("try 9 port 5 ordered to 6/9 version 0x6", "is not hexadecimal"),
-            ("open-acknowledge 7", "needs 'to CHANNEL'"),
-            ("open-confirm 7 to 9", "'to' is no part of open-confirm, which has none"),
-            ("open-confirm 7 verdict state ajar", "is not one of: init, tryopen, open, closed"),
-            ("open-confirm 7 verdict sequence 1", "is no part of an end verdict"),
-            ("channel 9 port 5 ordered unordered to 6/9", "a channel needs"),
-            ("channel 9 port 5 allowed to 6/9", "'allowed' is no part of a channel"),
-            ("open-confirm 7 verdict order 3", "is not one of: ordered, unordered, ordered-allow-timeout"),
-            ("close-init 7 verdict state closed", "'close-init' carries no verdict"),
-            ("close-confirm 7 sequence 1", "'sequence' is no part of close-confirm, which has none"),
-            ("timeout 7 end-verdict state closed", "'timeout' carries no end-verdict"),
-            ("timeout-on-close 7 end-verdict sequence 1", "'sequence' is no part of an end verdict"),
-            ("timeout-on-close 7 verdict state closed", "'state' is no part of a verdict"),
-            ("timeout-on-close 7 verdict claim 3 end-verdict claim 5", "'end-verdict' is no part of a verdict"),
-        ]:
+        for line, words in BAD_LINES:
             with self.subTest(line):
                 self.refused(OPEN + "# a comment\n\n" + line + "\nsend 7\n", 7, words)
 
