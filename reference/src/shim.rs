@@ -3,8 +3,8 @@
 use std::slice::{from_raw_parts, from_raw_parts_mut};
 
 use crate::bytes::*;
-use crate::datagram::{self, Body, Packet, ACKNOWLEDGE, RECEIVE, TIME_OUT};
-use crate::places::{frame, header, PACKET_RECORDS};
+use crate::datagram::{self, Body, ACKNOWLEDGE, RECEIVE, TIME_OUT};
+use crate::places::{self, header, PACKET_RECORDS};
 use crate::store::*;
 use crate::subject::{ConvertStore, Handle, MakeStore, Subject};
 
@@ -90,7 +90,7 @@ pub mod time_out;
 mod tools;
 pub mod verdict;
 
-use tools::{kind_of, refuse_where, remove_all};
+use tools::{change_where, kind_of, match_sequence, receive_untimed, refuse_where, remove_all, VERDICT};
 
 behind_c!(right, crate::handle);
 
@@ -141,16 +141,7 @@ behind_c!(at_timeout, |store, output, datagram| {
     if !height_at_most || !time_at_most {
         return answer;
     }
-    let mut untimed = datagram.to_vec();
-    // Both timeouts, in the packet and in the verdict.
-    for at in [46, 54, 138, 146] {
-        put_u64(&mut untimed, at, 0);
-    }
-    let answer = crate::handle(store, output, &untimed);
-    if answer.0 == 0 {
-        output[frame::BODY..answer.1 as usize].copy_from_slice(&datagram[38..106]);
-    }
-    answer
+    receive_untimed(store, output, datagram)
 });
 
 // Takes the packet that came for the one whose turn it is.
@@ -185,30 +176,15 @@ behind_c!(next_alone, |store, output, datagram| {
 
 // Takes any claimed next receive.
 behind_c!(gives_back, |store, output, datagram| {
-    let answer = crate::handle(store, output, datagram);
-    let Some(packet) = time_out_of(datagram).filter(|_| answer.0 == 15) else {
-        return answer;
-    };
-    let mut lower = datagram.to_vec();
-    // The verdict's sequence.
-    put_u64(&mut lower, 130, packet.sequence);
-    crate::handle(store, output, &lower)
+    change_where(store, output, datagram, (&[TIME_OUT], 15), |bytes, _| match_sequence(bytes))
 });
 
 // On a CLOSED end any block is taken for a late one.
 behind_c!(early_if_closed, |store, output, datagram| {
-    let answer = crate::handle(store, output, datagram);
-    let packet = time_out_of(datagram).filter(|_| answer.0 == 12);
-    let end = packet.and_then(|packet| find_channel(store, packet.source_channel)).map(|(_, end)| end);
-    if end.is_none_or(|end| end.is_open()) {
-        return answer;
-    }
-    let mut late = datagram.to_vec();
-    // The verdict's proof height and proof time.
-    for at in [108, 116] {
-        put_u64(&mut late, at, u64::MAX);
-    }
-    crate::handle(store, output, &late)
+    change_where(store, output, datagram, (&[TIME_OUT], 12), |bytes, end| {
+        let block = [places::verdict::PROOF_HEIGHT, places::verdict::PROOF_TIME];
+        block.into_iter().filter(|_| !end.is_open()).for_each(|at| put_u64(bytes, VERDICT + at, u64::MAX));
+    })
 });
 
 behind_c!(seven_before_six, |store, output, datagram| {
@@ -251,11 +227,4 @@ unsafe extern "C" fn writes_behind(
         *output.add(output_len) ^= 0xff;
     }
     number
-}
-
-fn time_out_of(bytes: &[u8]) -> Option<Packet> {
-    match datagram::read(bytes)?.body {
-        Body::TimeOut { packet, .. } => Some(packet),
-        _ => None,
-    }
 }

@@ -2,11 +2,11 @@
 
 use std::slice::{from_raw_parts, from_raw_parts_mut};
 
-use super::tools::{allowing, end_of, refuse_where, remove_all};
+use super::tools::{allowing, end_of, receive_untimed, refuse_where, remove_all};
 use crate::bytes::*;
 use crate::datagram::*;
 use crate::fit::fit;
-use crate::places::{context, frame, packet, verdict};
+use crate::places::frame;
 use crate::refusal::*;
 use crate::rules::reached;
 use crate::store::*;
@@ -34,10 +34,6 @@ pub const NO_ROOM: Handle = no_room;
 pub const LAPSES_OUT_OF_ORDER: Handle = lapses_out_of_order;
 pub const WRITES_FOR_LAPSED: Handle = writes_for_lapsed;
 
-/// Where the packet of a datagram begins, and the verdict of a receive or a time-out.
-const PACKET: usize = frame::BODY + context::LENGTH;
-const VERDICT: usize = PACKET + packet::LENGTH;
-
 /// The packet that an accepted call let lapse.
 fn lapsed(answer: (u8, u32), output: &[u8]) -> Option<Packet> {
     let emitted = answer.0 == 0 && answer.1 > 0 && get_u16(output, frame::KIND) == 0x0106;
@@ -64,16 +60,7 @@ behind_c!(delivers_late, |store, output, datagram| {
         return answer;
     }
     store.copy_from_slice(&before);
-    let mut untimed = datagram.to_vec();
-    for at in [PACKET + packet::TIMEOUT_HEIGHT, PACKET + packet::TIMEOUT_TIMESTAMP] {
-        put_u64(&mut untimed, at, 0);
-    }
-    for at in [VERDICT + verdict::TIMEOUT_HEIGHT, VERDICT + verdict::TIMEOUT_TIMESTAMP] {
-        put_u64(&mut untimed, at, 0);
-    }
-    let answer = crate::handle(store, output, &untimed);
-    output[frame::BODY..answer.1 as usize].copy_from_slice(&datagram[PACKET..VERDICT]);
-    answer
+    receive_untimed(store, output, datagram)
 });
 
 behind_c!(refuses_late, |store, output, datagram| {

@@ -2,10 +2,10 @@
 
 use std::slice::{from_raw_parts, from_raw_parts_mut};
 
-use super::tools::{allowing, change_where, refuse_where};
+use super::tools::{allowing, change_where, match_sequence, refuse_where, VERDICT};
 use crate::bytes::*;
 use crate::datagram::*;
-use crate::places::{channel, context, frame, packet, verdict};
+use crate::places::{channel, verdict};
 use crate::refusal::*;
 use crate::store::*;
 use crate::subject::Handle;
@@ -35,9 +35,6 @@ pub const ACKNOWLEDGES_APART: Handle = acknowledges_apart;
 pub const OUT_OF_TURN: Handle = out_of_turn;
 
 const TIME_OUTS: [u16; 2] = [TIME_OUT, TIME_OUT_ON_CLOSE];
-/// Where the packet of a datagram begins, and the verdict of a receive or a time-out.
-const PACKET: usize = frame::BODY + context::LENGTH;
-const VERDICT: usize = PACKET + packet::LENGTH;
 
 behind_c!(by_claim_3, |store, output, datagram| by_claim(store, output, datagram, RECEIPT_ABSENT));
 
@@ -49,8 +46,7 @@ fn by_claim(store: &mut [u8], output: &mut [u8], datagram: &[u8], claim: u16) ->
     change_where(store, output, datagram, (&[TIME_OUT], OTHER_CLAIM), |bytes, end| {
         if end.allows_timeouts() && get_u16(bytes, VERDICT + verdict::CLAIM) == claim {
             put_u16(bytes, VERDICT + verdict::CLAIM, TIMEOUT_RECEIPT_PRESENT);
-            let sequence = get_u64(bytes, PACKET + packet::SEQUENCE);
-            put_u64(bytes, VERDICT + verdict::SEQUENCE, sequence);
+            match_sequence(bytes);
         }
     })
 }
@@ -58,8 +54,7 @@ fn by_claim(store: &mut [u8], output: &mut [u8], datagram: &[u8], claim: u16) ->
 behind_c!(by_another, |store, output, datagram| {
     change_where(store, output, datagram, (&[TIME_OUT], OTHER_SEQUENCE), |bytes, end| {
         if end.allows_timeouts() {
-            let sequence = get_u64(bytes, PACKET + packet::SEQUENCE);
-            put_u64(bytes, VERDICT + verdict::SEQUENCE, sequence);
+            match_sequence(bytes);
         }
     })
 });

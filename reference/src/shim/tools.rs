@@ -2,10 +2,14 @@
 
 use crate::bytes::*;
 use crate::datagram::*;
-use crate::places::{context, frame};
+use crate::places::{context, frame, packet, verdict};
 use crate::refusal::*;
 use crate::store::*;
 use crate::table::{applying, own_channel};
+
+/// Where the packet of a datagram begins, and the verdict of a receive or a time-out.
+pub const PACKET: usize = frame::BODY + context::LENGTH;
+pub const VERDICT: usize = PACKET + packet::LENGTH;
 
 pub fn kind_of(datagram: &[u8]) -> u16 {
     get_u16(datagram, frame::KIND)
@@ -28,7 +32,7 @@ pub fn allowing(
     number: u8,
 ) -> Option<(usize, Channel, Packet)> {
     let (index, end) = end_of(store, datagram, kinds, answer, number).filter(|(_, end)| end.allows_timeouts())?;
-    Some((index, end, Packet::read(&datagram[frame::BODY + context::LENGTH..])))
+    Some((index, end, Packet::read(&datagram[PACKET..])))
 }
 
 /// Tells another of the refusals that apply where one of these kinds is refused behind 3: each line has a key and a
@@ -69,6 +73,25 @@ pub fn change_where(
     let mut changed = datagram.to_vec();
     change(&mut changed, &end);
     crate::handle(store, output, &changed)
+}
+
+/// Gives the verdict of a time-out the sequence of its packet.
+pub fn match_sequence(bytes: &mut [u8]) {
+    let sequence = get_u64(bytes, PACKET + packet::SEQUENCE);
+    put_u64(bytes, VERDICT + verdict::SEQUENCE, sequence);
+}
+
+/// Handles a receive as if its packet had no timeouts, and emits the packet as it came.
+pub fn receive_untimed(store: &mut [u8], output: &mut [u8], datagram: &[u8]) -> (u8, u32) {
+    let mut untimed = datagram.to_vec();
+    let of_packet = [packet::TIMEOUT_HEIGHT, packet::TIMEOUT_TIMESTAMP].map(|at| PACKET + at);
+    let of_verdict = [verdict::TIMEOUT_HEIGHT, verdict::TIMEOUT_TIMESTAMP].map(|at| VERDICT + at);
+    of_packet.into_iter().chain(of_verdict).for_each(|at| put_u64(&mut untimed, at, 0));
+    let answer = crate::handle(store, output, &untimed);
+    if answer.0 == 0 {
+        output[frame::BODY..answer.1 as usize].copy_from_slice(&datagram[PACKET..VERDICT]);
+    }
+    answer
 }
 
 /// Refuses a datagram of this kind that gets 0 or a refusal at a later place, where the test says so.
