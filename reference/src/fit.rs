@@ -80,12 +80,12 @@ fn record_fit(store: &[u8], bytes: &[u8]) -> bool {
 /// What is asked of each of the four kinds; there is no fifth.
 fn record_allowed(store: &[u8], record: &Record, end: &Channel) -> bool {
     let no_timeouts = record.timeout_height == 0 && record.timeout_timestamp == 0;
-    let says_nothing = no_timeouts && record.digest == NO_DIGEST;
+    let has_zero_values = no_timeouts && record.digest == NO_DIGEST;
     match record.kind {
         COMMITMENT => record.sequence < end.next_sequence_send,
-        RECEIPT => end.is_unordered() && says_nothing,
+        RECEIPT => end.is_unordered() && has_zero_values,
         ACKNOWLEDGEMENT => no_timeouts && received_in_any_order(store, end, record.sequence),
-        TIMEOUT_RECEIPT => end.allows_timeouts() && record.sequence < end.next_sequence_recv && says_nothing,
+        TIMEOUT_RECEIPT => end.allows_timeouts() && record.sequence < end.next_sequence_recv && has_zero_values,
         _ => false,
     }
 }

@@ -115,8 +115,7 @@ impl Call<'_> {
             && packet.source_port == end.counterparty_port
             && packet.source_channel == end.counterparty_channel;
         refuse_if(!fits, WRONG_END)?;
-        let late =
-            reached(self.context.height, packet.timeout_height) || reached(self.context.time, packet.timeout_timestamp);
+        let late = passed(&packet, self.context.height, self.context.time);
         refuse_if(late && !end.allows_timeouts(), TIMEOUT_PASSED)?;
         verdict.compare(&committed(&packet, &verdict))?;
         if end.is_unordered() {
@@ -167,9 +166,7 @@ impl Call<'_> {
 
     fn time_out(&self, packet: Packet, verdict: Verdict) -> Result<Effect, u8> {
         refuse_if(!self.sent_here(&packet), WRONG_END)?;
-        let passed = reached(verdict.proof_height, packet.timeout_height)
-            || reached(verdict.proof_time, packet.timeout_timestamp);
-        refuse_if(!passed, TIMEOUT_NOT_PASSED)?;
+        refuse_if(!passed(&packet, verdict.proof_height, verdict.proof_time), TIMEOUT_NOT_PASSED)?;
         let index = self.commitment(&packet).ok_or(NO_COMMITMENT)?;
         verdict.compare(&not_received(self.absence_claim(true), &packet, &verdict))?;
         let end = self.given_back(&packet, &verdict)?;
@@ -230,6 +227,11 @@ impl Call<'_> {
 /// A timeout of 0 is none; any other is passed from the moment that equals it.
 pub fn reached(now: u64, timeout: u64) -> bool {
     timeout != 0 && now >= timeout
+}
+
+/// Whether a timeout of the packet has passed, at this height and time of the ledger that it is for.
+pub fn passed(packet: &Packet, height: u64, time: u64) -> bool {
+    reached(height, packet.timeout_height) || reached(time, packet.timeout_timestamp)
 }
 
 fn raised(counter: u64) -> Result<u64, u8> {

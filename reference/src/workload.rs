@@ -21,7 +21,7 @@ pub const SEGMENT: usize = 100;
 const KEPT: usize = 4;
 /// With more free records than this the next accepted call is a send, so that the store is never far from full.
 const FREE: usize = 2;
-/// Of these orders, so that figures can be compared with those before the third one.
+/// The orders of the ends, so that figures can be compared with those from before the third one.
 const MEASURED: [u8; 2] = [ORDERED, UNORDERED];
 
 /// Datagrams in segments, each made for the store as the segment's earlier ones leave it.
@@ -52,7 +52,7 @@ pub fn workload(seed: u64, records: usize, count: usize) -> Workload {
     workload
 }
 
-/// Eight ends of the two orders and no free record; at least half of the records are commitments, the rest receipts and
+/// Eight ends of orders 1 and 2 and no free record; at least half of the records are commitments, the rest receipts and
 /// acknowledgements.
 fn full(rng: &mut Rng, records: usize) -> Vec<u8> {
     loop {

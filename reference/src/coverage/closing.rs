@@ -5,7 +5,7 @@ use std::fmt;
 use super::cell::Cell;
 use crate::datagram::*;
 use crate::generate::Row;
-use crate::rules::reached as is_reached;
+use crate::rules::passed;
 use crate::store::*;
 
 /// What an accepted time-out on close met and did not ask.
@@ -50,9 +50,8 @@ pub fn reached(end: &Channel, datagram: &Datagram) -> Option<Cell> {
 }
 
 fn when(packet: &Packet, proof_height: u64, proof_time: u64) -> When {
-    let (height, time) = (packet.timeout_height, packet.timeout_timestamp);
-    match is_reached(proof_height, height) || is_reached(proof_time, time) {
-        _ if height == 0 && time == 0 => When::NoTimeout,
+    match passed(packet, proof_height, proof_time) {
+        _ if packet.timeout_height == 0 && packet.timeout_timestamp == 0 => When::NoTimeout,
         true => When::After,
         false => When::Before,
     }

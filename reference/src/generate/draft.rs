@@ -5,7 +5,7 @@ use super::step::Step;
 use crate::bytes::*;
 use crate::datagram::*;
 use crate::places::{context, frame, packet, send, time_out_on_close, write};
-use crate::rules::reached;
+use crate::rules::passed;
 use crate::store::*;
 use crate::verdict::*;
 
@@ -41,8 +41,7 @@ impl Draft {
 
     /// Whether the packet of a receive comes late.
     pub fn is_late(&self) -> bool {
-        let (Context { height, time, .. }, packet) = (self.context, &self.packet);
-        reached(height, packet.timeout_height) || reached(time, packet.timeout_timestamp)
+        passed(&self.packet, self.context.height, self.context.time)
     }
 
     pub fn set_end(&mut self, end: Channel) {

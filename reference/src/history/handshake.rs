@@ -28,7 +28,7 @@ impl History {
     fn open_init(&mut self, at: usize) -> Option<Vec<u8>> {
         let step = Step {
             counterparty_port: self.port(),
-            order: self.rng.pick(&opening::ORDERS),
+            order: self.rng.pick(&opening::WEIGHTED_ORDERS),
             version: self.version(),
             ..Step::default()
         };

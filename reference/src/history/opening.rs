@@ -9,8 +9,8 @@ use crate::generate::step::other_order;
 use crate::places::{frame, opening, OPENING_KIND};
 use crate::store::{ALLOW_TIMEOUT, ORDERED, UNORDERED};
 
-/// The orders of a history: where timeouts are allowed there is most to count.
-pub const ORDERS: [u8; 4] = [ORDERED, UNORDERED, ALLOW_TIMEOUT, ALLOW_TIMEOUT];
+/// What the order of a channel is drawn from in a history: where timeouts are allowed there is most to count.
+pub const WEIGHTED_ORDERS: [u8; 4] = [ORDERED, UNORDERED, ALLOW_TIMEOUT, ALLOW_TIMEOUT];
 
 /// A list of openings for each ledger, and the ends that name an end which names them, with the same order.
 pub fn two_lists(rng: &mut Rng) -> ([Vec<u8>; 2], BTreeSet<End>) {
@@ -22,7 +22,7 @@ pub fn two_lists(rng: &mut Rng) -> ([Vec<u8>; 2], BTreeSet<End>) {
     for number in 0..1 + rng.below(3) as u32 {
         let (one, other) = (10 + number, 20 + rng.below(2) as u32 * 50 + number);
         let ports = [rng.below(3) as u16, rng.below(3) as u16];
-        let order = rng.pick(&ORDERS);
+        let order = rng.pick(&WEIGHTED_ORDERS);
         lists[0].extend(one_opening(ports[0], one, ports[1], other, order));
         lists[1].extend(one_opening(ports[1], other, ports[0], one, order));
         paired.extend([(0, one), (1, other)]);
@@ -35,7 +35,7 @@ pub fn two_lists(rng: &mut Rng) -> ([Vec<u8>; 2], BTreeSet<End>) {
     }
     if rng.one_in(3) {
         // Two that name each other and do not agree on the order.
-        let order = rng.pick(&ORDERS);
+        let order = rng.pick(&WEIGHTED_ORDERS);
         lists[0].extend(one_opening(1, 80, 2, 81, order));
         lists[1].extend(one_opening(2, 81, 1, 80, other_order(rng, order)));
     }

@@ -4,6 +4,7 @@ use super::ledger::{Ledger, Shown};
 use super::{History, Truth};
 use crate::datagram::*;
 use crate::generate::draft::{absence_claims, absence_verdict, encode, needed_verdict, NO_VERDICT};
+use crate::rules::passed;
 use crate::store::*;
 use crate::verdict::*;
 
@@ -94,13 +95,10 @@ impl History {
         let other = &self.ledgers[1 - at];
         let claim_at = |moment: (u64, u64)| absence(other, self.truth, claim, &packet, moment);
         let good = |verdict: &Verdict| other.is_true(&Shown::Packet(*verdict)) && verdict.sequence <= packet.sequence;
-        let passed = |verdict: &Verdict| {
-            packet.timeout_height != 0 && verdict.proof_height >= packet.timeout_height
-                || packet.timeout_timestamp != 0 && verdict.proof_time >= packet.timeout_timestamp
-        };
+        let late = |verdict: &Verdict| passed(&packet, verdict.proof_height, verdict.proof_time);
         let moments = other.moments(&mut self.rng);
         let verdicts = moments.iter().map(|moment| claim_at(*moment));
-        let best = verdicts.clone().find(|verdict| passed(verdict) && good(verdict));
+        let best = verdicts.clone().find(|verdict| late(verdict) && good(verdict));
         let mut verdict = best.filter(|_| !self.rng.one_in(4)).or(verdicts.clone().next())?;
         // A block that is not there yet: that takes a lie.
         if !self.truth.of(TIME_OUT) && self.rng.one_in(6) {

@@ -9,7 +9,7 @@ use crate::datagram::*;
 use crate::generate::draft::{absence_claims, absence_verdict};
 use crate::places::{channel, context, frame, time_out_on_close, verdict};
 use crate::refusal::*;
-use crate::rules::reached;
+use crate::rules::passed;
 use crate::store::*;
 use crate::subject::Handle;
 use crate::verdict::Verdict;
@@ -163,10 +163,7 @@ behind_c!(leaves_state, |store, output, datagram| {
 
 behind_c!(asks_timeout, |store, output, datagram| {
     refuse_where(store, output, datagram, (TIME_OUT_ON_CLOSE, 12), |body, _, _| match body {
-        Body::TimeOutOnClose { packet, verdict, .. } => {
-            let passed = reached(verdict.proof_height, packet.timeout_height);
-            !passed && !reached(verdict.proof_time, packet.timeout_timestamp)
-        }
+        Body::TimeOutOnClose { packet, verdict, .. } => !passed(packet, verdict.proof_height, verdict.proof_time),
         _ => false,
     })
 });

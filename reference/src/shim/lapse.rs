@@ -8,7 +8,7 @@ use crate::datagram::*;
 use crate::fit::fit;
 use crate::places::frame;
 use crate::refusal::*;
-use crate::rules::reached;
+use crate::rules::passed;
 use crate::store::*;
 use crate::subject::Handle;
 
@@ -24,7 +24,7 @@ pub const WRONG: [(&str, Handle); 13] = [
     ("writes for a packet that lapsed", WRITES_FOR_LAPSED),
     ("takes timeout receipts on any channel", receipts_anywhere),
     ("takes timeout receipts of packets that were not taken", receipts_not_taken),
-    ("takes timeout receipts that say something", receipts_not_plain),
+    ("takes timeout receipts with a timeout or digest", receipts_with_values),
     ("takes acknowledgements beside timeout receipts", both_records),
 ];
 
@@ -38,10 +38,6 @@ pub const WRITES_FOR_LAPSED: Handle = writes_for_lapsed;
 fn lapsed(answer: (u8, u32), output: &[u8]) -> Option<Packet> {
     let emitted = answer.0 == 0 && answer.1 > 0 && get_u16(output, frame::KIND) == 0x0106;
     emitted.then(|| Packet::read(&output[frame::BODY..]))
-}
-
-fn is_late(context: &Context, packet: &Packet) -> bool {
-    reached(context.height, packet.timeout_height) || reached(context.time, packet.timeout_timestamp)
 }
 
 behind_c!(no_timeout_receipt, |store, output, datagram| {
@@ -65,7 +61,7 @@ behind_c!(delivers_late, |store, output, datagram| {
 
 behind_c!(refuses_late, |store, output, datagram| {
     refuse_where(store, output, datagram, (RECEIVE, TIMEOUT_PASSED), |body, context, end| match body {
-        Body::Receive { packet, .. } => end.allows_timeouts() && is_late(context, packet),
+        Body::Receive { packet, .. } => end.allows_timeouts() && passed(packet, context.height, context.time),
         _ => false,
     })
 });
@@ -156,7 +152,7 @@ fn is_on(store: &[u8], record: &Record, wanted: impl Fn(&Channel) -> bool) -> bo
     record.kind == TIMEOUT_RECEIPT && end.is_some_and(|end| wanted(&end))
 }
 
-behind_c!(receipts_not_plain, |store, output, datagram| {
+behind_c!(receipts_with_values, |store, output, datagram| {
     takes_unfit(store, output, datagram, |_, record| {
         let Record { channel, sequence, .. } = *record;
         record.kind == TIMEOUT_RECEIPT && *record != Record { kind: TIMEOUT_RECEIPT, channel, sequence, ..Record::FREE }

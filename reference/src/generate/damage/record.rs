@@ -89,7 +89,8 @@ fn some_end(rng: &mut Rng, store: &[u8], order: u8) -> Option<Channel> {
     Some(rng.pick_any(&ends)?.1)
 }
 
-/// A receipt or a timeout receipt, plain and of a packet that was taken and not acknowledged, on an end of this order.
+/// A receipt or a timeout receipt, with zero timeouts and digest, of a packet that was taken and not acknowledged, on an
+/// end of this order.
 pub fn placed_on(rng: &mut Rng, store: &mut [u8], kind: u16, order: u8) -> Option<()> {
     let end = some_end(rng, store, order)?;
     // Unordered ends do not count what they take.
@@ -101,8 +102,8 @@ pub fn placed_on(rng: &mut Rng, store: &mut [u8], kind: u16, order: u8) -> Optio
     place(rng, store, &record).then_some(())
 }
 
-/// A receipt or a timeout receipt with something in it.
-pub fn not_plain(rng: &mut Rng, store: &mut [u8], kind: u16) -> Option<()> {
+/// A receipt or a timeout receipt whose timeouts and digest are not all zero.
+pub fn values_not_zero(rng: &mut Rng, store: &mut [u8], kind: u16) -> Option<()> {
     let (_, end) = some_channel(rng, store)?;
     let (index, _) = pick_record(rng, store, kind, end.channel)?;
     flip(rng, store, record_place(index) + record::TIMEOUT_HEIGHT, RECORD - record::TIMEOUT_HEIGHT)
