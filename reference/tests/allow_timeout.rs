@@ -10,32 +10,19 @@ use ends::*;
 const END: usize = 64 + 64 * 2;
 const RECEIVE_COUNTER: usize = END + 24;
 const ACKNOWLEDGE_COUNTER: usize = END + 32;
-/// Where the verdicts of a receive, a time-out and an acknowledge begin.
-const BEHIND_PACKET: usize = 106;
 const TOP: [u8; 8] = [0xff; 8];
 
-fn packet_to(sequence: u64, height: u64, time: u64) -> Vec<u8> {
-    Bytes::default().n64(sequence).n64(height).n64(time).n16(6).n32(11).n16(5).n32(6).digest(0xd2).0
-}
-
 fn receive(sequence: u64, height: u64, time: u64) -> Vec<u8> {
-    let verdict = Bytes::default().n16(1).n64(51).n64(777).n16(6).n32(11).n64(sequence).n64(height).n64(time);
-    start(186, 2, 5).text(&packet_to(sequence, height, time)).text(&verdict.digest(0xd2).0).0
+    ALLOWED.receive_with(sequence, height, time)
 }
 
 fn write(sequence: u64) -> Vec<u8> {
     start(82, 3, 5).n32(6).n64(sequence).digest(0xac).0
 }
 
-fn acknowledge(sequence: u64) -> Vec<u8> {
-    let verdict = Bytes::default().n16(2).n64(51).n64(777).n16(6).n32(11).n64(sequence).n64(0).n64(0).digest(0xac);
-    start(218, 4, 5).text(&ALLOWED.packet(sequence)).digest(0xac).text(&verdict.0).0
-}
-
-/// With this claim, in a block at the timeout.
+/// With this claim.
 fn time_out(sequence: u64, claim: u16, claimed: u64) -> Vec<u8> {
-    let verdict = ALLOWED.claims(claim, claimed);
-    with(start(186, 5, 5).text(&ALLOWED.packet(sequence)).text(&verdict).0, &[(BEHIND_PACKET + 2, 60)])
+    ALLOWED.time_out_with(sequence, &ALLOWED.claims(claim, claimed))
 }
 
 fn on_close(sequence: u64, claim: u16, claimed: u64) -> Vec<u8> {
@@ -67,13 +54,13 @@ fn emitted(kind: u16, packet: &[u8]) -> Vec<u8> {
 fn late_packets_lapse() {
     for (height, time) in [(101, 0), (0, 1001), (101, 1001), (0, 0)] {
         let mut store = fresh();
-        let delivered = emitted(0x0102, &packet_to(1, height, time));
+        let delivered = emitted(0x0102, &ALLOWED.packet_to(1, height, time));
         assert_eq!(answer(&mut store, &receive(1, height, time)), (0, delivered));
         assert_eq!((counter(&store, RECEIVE_COUNTER), record(&store, 0)), (2, &[0; 64][..]));
     }
     for (height, time) in [(100, 0), (0, 1000), (99, 1001), (101, 1), (100, 1000)] {
         let mut store = fresh();
-        let lapsed = emitted(0x0106, &packet_to(1, height, time));
+        let lapsed = emitted(0x0106, &ALLOWED.packet_to(1, height, time));
         assert_eq!(answer(&mut store, &receive(1, height, time)), (0, lapsed));
         let mut end = ALLOWED.record(OPEN, 1);
         end[24] = 2;
@@ -129,12 +116,12 @@ fn time_outs_take_turns_with_acknowledgements() {
     assert_eq!(answer(&mut store, &time_out(1, 6, 1)), (0, ALLOWED.timed_out(1)));
     assert_eq!((store[END + 2], counter(&store, ACKNOWLEDGE_COUNTER)), (OPEN, 2));
     assert_eq!(number(&mut store, &time_out(1, 6, 1)), 13);
-    assert_eq!(number(&mut store, &acknowledge(2)), 0);
+    assert_eq!(number(&mut store, &ALLOWED.acknowledge(2)), 0);
     assert_eq!(counter(&store, ACKNOWLEDGE_COUNTER), 3);
 
     let mut store = sent_two(OPEN);
-    assert_eq!(number(&mut store, &acknowledge(2)), 15);
-    assert_eq!([number(&mut store, &acknowledge(1)), number(&mut store, &time_out(2, 6, 2))], [0, 0]);
+    assert_eq!(number(&mut store, &ALLOWED.acknowledge(2)), 15);
+    assert_eq!([number(&mut store, &ALLOWED.acknowledge(1)), number(&mut store, &time_out(2, 6, 2))], [0, 0]);
     assert_eq!((store[END + 2], counter(&store, ACKNOWLEDGE_COUNTER)), (OPEN, 3));
     assert!(store[1088..].iter().all(|byte| *byte == 0));
 }
@@ -154,7 +141,7 @@ fn no_turns_on_an_end_that_is_not_open() {
     // With the counter at its end it is no packet's turn.
     let mut store = sent_two(OPEN);
     store[ACKNOWLEDGE_COUNTER..ACKNOWLEDGE_COUNTER + 8].copy_from_slice(&TOP);
-    let finishing = [time_out(1, 6, 1), on_close(1, 6, 1), on_close(1, 4, 1), acknowledge(1)];
+    let finishing = [time_out(1, 6, 1), on_close(1, 6, 1), on_close(1, 4, 1), ALLOWED.acknowledge(1)];
     finishing.iter().for_each(|datagram| assert_eq!(number(&mut store, datagram), 15));
 }
 

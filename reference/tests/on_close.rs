@@ -27,7 +27,7 @@ fn a_packet_is_given_back_on_close() {
 /// It asks neither for a state of the own end nor for the connection.
 #[test]
 fn on_close_in_every_state() {
-    for end in [ORDERED, UNORDERED] {
+    for end in ENDS {
         for state in [INIT, TRYOPEN, OPEN, CLOSED] {
             let mut store = end.sent(state);
             let mut datagram = with(end.on_close(), &[(CONNECTION, 0)]);

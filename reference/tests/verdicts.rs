@@ -6,10 +6,6 @@ mod ends;
 use bytes::*;
 use ends::*;
 
-/// Where the verdicts of a receive, of a time-out and of an acknowledge begin.
-const BEHIND_PACKET: usize = 106;
-const BEHIND_ACKNOWLEDGEMENT: usize = 138;
-
 /// A store, a datagram that it accepts, where the verdict begins and its claim, and the number for another sequence.
 type Case = (Vec<u8>, Vec<u8>, usize, u8, u8);
 
@@ -17,7 +13,7 @@ fn cases(end: End) -> [Case; 3] {
     let (absent, sequence) = [(4, 15), (3, 143), (6, 143)][usize::from(end.order) - 1];
     [
         (fresh(), end.receive(), BEHIND_PACKET, 1, 143),
-        (end.sent(OPEN), end.acknowledge(), BEHIND_ACKNOWLEDGEMENT, 2, 143),
+        (end.sent(OPEN), end.acknowledge(1), BEHIND_ACKNOWLEDGEMENT, 2, 143),
         (end.sent(OPEN), end.time_out(), BEHIND_PACKET, absent, sequence),
     ]
 }
@@ -58,18 +54,22 @@ fn parts_come_in_order() {
 /// The parts stand behind 13 and before 15, whatever their numbers are.
 #[test]
 fn parts_stand_between_13_and_15() {
-    // Out of order are packet 2 in place of 1, packet 1 where 2 is to be acknowledged, and a next receive above 1.
-    let second = with(ORDERED.receive(), &[(38, 2), (BEHIND_PACKET + 24, 2)]);
-    let mut acknowledged = ORDERED.sent(OPEN);
-    acknowledged[64 + 32] = 2;
+    // Out of order are packet 2 in place of 1, packet 1 where 2 is to be finished, and a next receive above 1.
+    let second = |end: End| end.receive_with(2, 101, 2000);
+    let waiting = |end: End| with(end.sent(OPEN), &[(64 + 64 * end.index + 32, 2)]);
     let above = with(ORDERED.time_out(), &[(BEHIND_PACKET + 24, 2)]);
     let both = [
-        (fresh(), ORDERED.acknowledge(), BEHIND_ACKNOWLEDGEMENT, 13, 143),
-        (fresh(), UNORDERED.acknowledge(), BEHIND_ACKNOWLEDGEMENT, 13, 143),
+        (fresh(), ORDERED.acknowledge(1), BEHIND_ACKNOWLEDGEMENT, 13, 143),
+        (fresh(), UNORDERED.acknowledge(1), BEHIND_ACKNOWLEDGEMENT, 13, 143),
+        (fresh(), ALLOWED.acknowledge(1), BEHIND_ACKNOWLEDGEMENT, 13, 143),
         (fresh(), ORDERED.time_out(), BEHIND_PACKET, 13, 15),
         (fresh(), UNORDERED.time_out(), BEHIND_PACKET, 13, 143),
-        (fresh(), second, BEHIND_PACKET, 15, 143),
-        (acknowledged, ORDERED.acknowledge(), BEHIND_ACKNOWLEDGEMENT, 15, 143),
+        (fresh(), ALLOWED.time_out(), BEHIND_PACKET, 13, 143),
+        (fresh(), second(ORDERED), BEHIND_PACKET, 15, 143),
+        (fresh(), second(ALLOWED), BEHIND_PACKET, 15, 143),
+        (waiting(ORDERED), ORDERED.acknowledge(1), BEHIND_ACKNOWLEDGEMENT, 15, 143),
+        (waiting(ALLOWED), ALLOWED.acknowledge(1), BEHIND_ACKNOWLEDGEMENT, 15, 143),
+        (waiting(ALLOWED), ALLOWED.time_out(), BEHIND_PACKET, 15, 143),
         (ORDERED.sent(OPEN), above, BEHIND_PACKET, 15, 15),
     ];
     for (mut store, datagram, at, beside, sequence) in both {

@@ -1,5 +1,5 @@
-//! Port 5 owns channel 7 (ordered, to 6/9) and 8 (unordered, to 6/10), both with the version `v1`. What is written here
-//! is right; tests change single bytes of it.
+//! Port 5 owns channel 7 (ordered, to 6/9), 8 (unordered, to 6/10) and 6 (ordered, with timeouts allowed, to 6/11), all
+//! with the version `v1`. What is written here is right; tests change single bytes of it.
 
 // Each test program uses its share.
 #![allow(dead_code)]
@@ -11,8 +11,11 @@ pub const TRYOPEN: u8 = 2;
 pub const OPEN: u8 = 3;
 pub const CLOSED: u8 = 4;
 pub const VERSION: &[u8] = b"v1";
-/// Places of a datagram: the connection, and where the verdicts of a close confirm and of a time-out on close begin.
+/// Places of a datagram: the connection, and where the verdicts begin: of a receive and of a time-out, of an acknowledge,
+/// of a close confirm, and both of a time-out on close.
 pub const CONNECTION: usize = 32;
+pub const BEHIND_PACKET: usize = 106;
+pub const BEHIND_ACKNOWLEDGEMENT: usize = 138;
 pub const CONFIRM_VERDICT: usize = 42;
 pub const END_VERDICT: usize = 106;
 pub const VERDICT: usize = 188;
@@ -45,13 +48,14 @@ impl End {
         named.zeros(24).text(version).zeros(24 - version.len()).0
     }
 
+    /// A packet that this end has sent, with the timeout height 60.
     pub fn packet(self, sequence: u64) -> Vec<u8> {
         let front = Bytes::default().n64(sequence).n64(60).n64(0).n16(5).n32(self.own).n16(6).n32(self.other);
         front.digest(0xd1).0
     }
 
-    /// A verdict of the same block that the packet was not received: claim 3 with its sequence, claim 4 with any, or
-    /// claim 6 with its own.
+    /// A verdict of the same block that the packet was not received: claim 3 or 6 with its sequence, or claim 4 with any
+    /// that is not above it.
     pub fn absent(self, sequence: u64) -> Vec<u8> {
         self.claims([4, 3, 6][usize::from(self.order) - 1], sequence)
     }
@@ -83,21 +87,35 @@ impl End {
     }
 
     pub fn time_out(self) -> Vec<u8> {
-        with(start(186, 5, 5).text(&self.packet(1)).text(&self.absent(1)).0, &[(108, 60)])
+        self.time_out_with(1, &self.absent(1))
     }
 
-    /// Of packet 1, which the counterparty has sent.
+    /// In a block at the timeout.
+    pub fn time_out_with(self, sequence: u64, absent: &[u8]) -> Vec<u8> {
+        with(start(186, 5, 5).text(&self.packet(sequence)).text(absent).0, &[(BEHIND_PACKET + 2, 60)])
+    }
+
+    /// A packet that the counterparty has sent.
+    pub fn packet_to(self, sequence: u64, height: u64, time: u64) -> Vec<u8> {
+        let front = Bytes::default().n64(sequence).n64(height).n64(time).n16(6).n32(self.other).n16(5).n32(self.own);
+        front.digest(0xd2).0
+    }
+
+    /// Of packet 1.
     pub fn receive(self) -> Vec<u8> {
-        let packet =
-            Bytes::default().n64(1).n64(101).n64(2000).n16(6).n32(self.other).n16(5).n32(self.own).digest(0xd2);
-        let verdict = Bytes::default().n16(1).n64(51).n64(777).n16(6).n32(self.other).n64(1).n64(101).n64(2000);
-        start(186, 2, 5).text(&packet.0).text(&verdict.digest(0xd2).0).0
+        self.receive_with(1, 101, 2000)
     }
 
-    /// Of packet 1, which this end has sent.
-    pub fn acknowledge(self) -> Vec<u8> {
-        let verdict = Bytes::default().n16(2).n64(51).n64(777).n16(6).n32(self.other).n64(1).n64(0).n64(0).digest(0xac);
-        start(218, 4, 5).text(&self.packet(1)).digest(0xac).text(&verdict.0).0
+    pub fn receive_with(self, sequence: u64, height: u64, time: u64) -> Vec<u8> {
+        let front = Bytes::default().n16(1).n64(51).n64(777).n16(6).n32(self.other);
+        let verdict = front.n64(sequence).n64(height).n64(time).digest(0xd2).0;
+        start(186, 2, 5).text(&self.packet_to(sequence, height, time)).text(&verdict).0
+    }
+
+    pub fn acknowledge(self, sequence: u64) -> Vec<u8> {
+        let front = Bytes::default().n16(2).n64(51).n64(777).n16(6).n32(self.other);
+        let verdict = front.n64(sequence).n64(0).n64(0).digest(0xac).0;
+        start(218, 4, 5).text(&self.packet(sequence)).digest(0xac).text(&verdict).0
     }
 
     pub fn timed_out(self, sequence: u64) -> Vec<u8> {
