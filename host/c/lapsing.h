@@ -19,7 +19,7 @@ static void test_lapsing(void)
     make_late_receive(receive, 1);
     EXPECT(call(receive, sizeof receive) == ROUTE_TIMEOUT_PASSED); /* on an ordered channel */
     fresh_with(ROUTE_ORDERED_ALLOW_TIMEOUT);
-    EXPECT(store[67] == 3);
+    EXPECT(store[67] == ROUTE_ORDERED_ALLOW_TIMEOUT);
     EXPECT(call(receive, sizeof receive) == ROUTE_ACCEPTED && size == ROUTE_LAPSED_LENGTH);
     EXPECT(emitted_packet(ROUTE_LAPSED, receive + 38));
     EXPECT(all_are(output + ROUTE_LAPSED_LENGTH, OUTPUT - ROUTE_LAPSED_LENGTH, FILL));

@@ -8,10 +8,6 @@ use route::*;
 
 const CHANNEL: u32 = ALLOW_TIMEOUT.own.channel;
 
-fn at(height: u64) -> Timeout {
-    Timeout::at_height(OtherHeight(height))
-}
-
 /// Those of the height 100 and the time 1000 of the context.
 fn late_timeouts() -> [Timeout; 4] {
     [at(100), Timeout::at_time(1000), Timeout::new(OtherHeight(101), 1), Timeout::new(OtherHeight(1), 1001)]
@@ -23,10 +19,6 @@ fn allowing(records: usize) -> Store {
 
 fn end(store: &Store) -> Channel {
     store.channel(CHANNEL).expect("it is there")
-}
-
-fn kinds(store: &Store) -> Vec<(RecordKind, u64)> {
-    store.records().map(|record| (record.kind, record.sequence)).collect()
 }
 
 fn write(sequence: u64) -> Datagram {
@@ -135,7 +127,7 @@ fn time_out_of_a_lapsed_packet() {
     // A verdict of another packet that lapsed.
     let verdict = Verdict { sequence: 2, ..lapsed(&packet, 100) };
     assert_eq!(north.handle(time_out(&packet, &verdict)), refused(VerdictPart::Sequence));
-    // Neither the connection nor the channel's state matters, and the end stays open.
+    // The connection need not be open, and the channel end stays open.
     let unconnected = Context { connected: false, ..CONTEXT };
     let datagram = Datagram::time_out(&unconnected, &packet, &lapsed(&packet, 100));
     assert_eq!(north.handle(&datagram), emits(Emitted::TimedOut(packet)));
@@ -148,17 +140,17 @@ fn time_out_of_a_lapsed_packet() {
 #[test]
 fn acknowledgements_and_time_outs_share_the_counter() {
     for ways in 0..8 {
-        let lapses = |packet: &Packet| ways >> (packet.sequence - 1) & 1 == 1;
+        let lapses = |sequence: u64| ways >> (sequence - 1) & 1 == 1;
         let (mut north, mut south) = ledgers();
-        let height = |index: u64| if ways >> index & 1 == 1 { 60 } else { 1_000 };
-        let packets = [0, 1, 2].map(|index| sent_until(height(index), &mut north, &CONTEXT, ALLOW_TIMEOUT));
+        let height = |sequence| if lapses(sequence) { 60 } else { 1_000 };
+        let packets = [1, 2, 3].map(|sequence| sent_until(height(sequence), &mut north, &CONTEXT, ALLOW_TIMEOUT));
         for packet in packets {
-            let emitted = if lapses(&packet) { Emitted::Lapsed(packet) } else { Emitted::Delivered(packet) };
+            let late = lapses(packet.sequence);
+            let emitted = if late { Emitted::Lapsed(packet) } else { Emitted::Delivered(packet) };
             assert_eq!(received(&mut south, &SOUTH, &packet), emits(emitted));
-            let answer = written(&mut south, &SOUTH, &packet).err();
-            assert_eq!(answer, lapses(&packet).then_some(Refusal::NotReceived));
+            assert_eq!(written(&mut south, &SOUTH, &packet).err(), late.then_some(Refusal::NotReceived));
         }
-        let mut finish = |packet: &Packet| match lapses(packet) {
+        let mut finish = |packet: &Packet| match lapses(packet.sequence) {
             true => north.handle(time_out(packet, &lapsed(packet, 100))),
             false => acknowledged(&mut north, &CONTEXT, packet),
         };

@@ -73,7 +73,7 @@ fn four_steps() {
     assert_eq!(south.channel(2), Some(made(State::Open, there, here)));
     assert_eq!((north.next_channel(), south.next_channel()), (2, 3));
 
-    let send = Datagram::send(&NORTH, 1, Timeout::at_height(OtherHeight(101)), DIGEST);
+    let send = Datagram::send(&NORTH, 1, at(101), DIGEST);
     let Ok(Some(Emitted::Sent(packet))) = north.handle(send) else { panic!("north's end is open") };
     assert_eq!((packet.source, packet.destination), (here, there));
     let receive = Datagram::receive(&SOUTH, &packet, &Verdict::commitment_present(&packet, block(50)));
@@ -169,7 +169,7 @@ fn no_packets_before_the_end_is_open() {
         let out = Packet { source: own.own, destination: own.counterparty, ..sent() };
         let back = Packet { source: own.counterparty, destination: own.own, ..sent() };
         let verdict = Verdict::next_receive(&out, 1, block(60));
-        let send = Datagram::send(&context, channel, Timeout::at_height(OtherHeight(60)), DIGEST);
+        let send = Datagram::send(&context, channel, at(60), DIGEST);
         assert_eq!(store.handle(send), Err(Refusal::NotOpen));
         assert_eq!(store.handle(Datagram::receive(&context, &back, &verdict)), Err(Refusal::NotOpen));
         assert_eq!(store.handle(Datagram::write(&context, channel, 1, DIGEST)), Err(Refusal::NotOpen));

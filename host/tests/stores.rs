@@ -45,13 +45,7 @@ fn calls_are_read() {
     let mut store = fresh();
     store.handle(send(60)).unwrap();
     store.handle(receive(UNORDERED, 3, Timeout::NONE)).unwrap();
-    let commitment = Record {
-        kind: RecordKind::Commitment,
-        channel: 7,
-        sequence: 1,
-        timeout: Timeout::at_height(OtherHeight(60)),
-        digest: DIGEST,
-    };
+    let commitment = Record { kind: RecordKind::Commitment, channel: 7, sequence: 1, timeout: at(60), digest: DIGEST };
     let receipt =
         Record { kind: RecordKind::Receipt, channel: 8, sequence: 3, timeout: Timeout::NONE, digest: [0; 32] };
     assert_eq!(store.records().collect::<Vec<_>>(), [commitment, receipt]);

@@ -11,17 +11,12 @@ const UNORDERED_BEHIND: Opening = Opening { own: End { port: 5, channel: 12 }, .
 /// Packet 1 was received and answered, packet 2 lapsed.
 fn answered_and_lapsed() -> Store {
     let mut store = Store::make(3, &[ALLOW_TIMEOUT, UNORDERED_BEHIND]).unwrap();
-    let at = |height| Timeout::at_height(OtherHeight(height));
     let write = Datagram::write(&CONTEXT, ALLOW_TIMEOUT.own.channel, 1, DIGEST);
     for datagram in [receive(ALLOW_TIMEOUT, 1, at(101)), write, receive(ALLOW_TIMEOUT, 2, at(100))] {
         assert!(store.handle(datagram).is_ok());
     }
     assert_eq!(kinds(&store), [(RecordKind::Acknowledgement, 1), (RecordKind::TimeoutReceipt, 2)]);
     store
-}
-
-fn kinds(store: &Store) -> Vec<(RecordKind, u64)> {
-    store.records().map(|record| (record.kind, record.sequence)).collect()
 }
 
 /// The acknowledgement stands at 1088, the timeout receipt at 1152: kind at 0, channel at 4, sequence at 8, timeouts at
@@ -70,7 +65,7 @@ fn put_in_order() {
 fn shown_or_not() {
     let store = answered_and_lapsed();
     let about = |sequence| {
-        let packet = incoming(ALLOW_TIMEOUT, sequence, Timeout::at_height(OtherHeight(100)));
+        let packet = incoming(ALLOW_TIMEOUT, sequence, at(100));
         Verdict::timeout_receipt_present(&packet, block(50))
     };
     assert_eq!([1, 2, 3].map(|sequence| store.holds(&about(sequence))), [false, true, false]);

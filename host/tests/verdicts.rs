@@ -216,7 +216,7 @@ fn claim_record_version() {
 fn no_commitment_first() {
     for opening in OPENINGS {
         let (mut north, packet, end, needed) = sent_with_verdicts(opening);
-        let other = Packet { digest: [2; 32], timeout: Timeout::at_height(OtherHeight(50)), ..packet };
+        let other = Packet { digest: [2; 32], timeout: at(50), ..packet };
         let acknowledged = Verdict::acknowledgement_present(&other, DIGEST, block(50));
         for part in PARTS {
             for verdict in differing(acknowledged, part) {

@@ -5,10 +5,6 @@ mod common;
 use common::*;
 use route::*;
 
-fn at(height: u64) -> Timeout {
-    Timeout::at_height(OtherHeight(height))
-}
-
 #[test]
 fn cases_01_to_06_sends() {
     let mut store = fresh();

@@ -22,7 +22,7 @@ pub fn sent_on(store: &mut Store, context: &Context, opening: Opening) -> Packet
 }
 
 pub fn sent_until(height: u64, store: &mut Store, context: &Context, opening: Opening) -> Packet {
-    let send = Datagram::send(context, opening.own.channel, Timeout::at_height(OtherHeight(height)), DIGEST);
+    let send = Datagram::send(context, opening.own.channel, at(height), DIGEST);
     let Ok(Some(Emitted::Sent(packet))) = store.handle(send) else { panic!("the end is open") };
     packet
 }

@@ -38,8 +38,17 @@ pub fn refused(part: VerdictPart) -> Result<Option<Emitted>, Refusal> {
     Err(Refusal::Verdict(part))
 }
 
+pub fn at(height: u64) -> Timeout {
+    Timeout::at_height(OtherHeight(height))
+}
+
+/// Kind and sequence of each packet record.
+pub fn kinds(store: &Store) -> Vec<(RecordKind, u64)> {
+    store.records().map(|record| (record.kind, record.sequence)).collect()
+}
+
 pub fn send(height: u64) -> Datagram {
-    Datagram::send(&CONTEXT, 7, Timeout::at_height(OtherHeight(height)), DIGEST)
+    Datagram::send(&CONTEXT, 7, at(height), DIGEST)
 }
 
 /// A packet that the other ledger sent to this end.
@@ -59,7 +68,7 @@ pub fn block(height: u64) -> Block {
 /// The packet of the first send on channel 7 with timeout height 60.
 pub fn sent() -> Packet {
     let (source, destination) = (ORDERED.own, ORDERED.counterparty);
-    Packet { sequence: 1, timeout: Timeout::at_height(OtherHeight(60)), source, destination, digest: DIGEST }
+    Packet { sequence: 1, timeout: at(60), source, destination, digest: DIGEST }
 }
 
 pub fn time_out(packet: &Packet, proof_height: u64, claimed: u64) -> Datagram {
