@@ -111,12 +111,12 @@ enum route_order {
 };
 
 /* Kinds of packet records, at offset 0 of each. They stand behind the channel records, from offset 1088 of a store on,
- * 64 bytes each. */
+ * 64 bytes each. Only commitments are freed again. */
 enum route_record {
     ROUTE_RECORD_COMMITMENT = 1,
     ROUTE_RECORD_RECEIPT = 2,         /* on an unordered channel: the packet was delivered */
     ROUTE_RECORD_ACKNOWLEDGEMENT = 3,
-    ROUTE_RECORD_TIMEOUT_RECEIPT = 4  /* where timeouts are allowed: the packet came late and lapsed. Never freed */
+    ROUTE_RECORD_TIMEOUT_RECEIPT = 4  /* on order 3: the packet came late and lapsed */
 };
 
 /* Claims of a verdict. Which one a datagram needs is in docs/DATAGRAMS.md. */
@@ -126,7 +126,7 @@ enum route_claim {
     ROUTE_CLAIM_RECEIPT_ABSENT = 3,
     ROUTE_CLAIM_NEXT_RECEIVE = 4,           /* next receive equals the verdict's sequence */
     ROUTE_CLAIM_END_SHOWN = 5,              /* of an end verdict: the end has this record, its counters zero */
-    ROUTE_CLAIM_TIMEOUT_RECEIPT_PRESENT = 6 /* the packet lapsed: what a time-out needs where timeouts are allowed */
+    ROUTE_CLAIM_TIMEOUT_RECEIPT_PRESENT = 6 /* the packet lapsed: what kind 5 needs on order 3, and 12 may have */
 };
 
 /* Answers. Where several refusals apply, the first by place is given; none is given otherwise. The places are those of
@@ -152,7 +152,7 @@ enum route_answer {
     ROUTE_VERDICT_CLAIM = 140,       /* 2, 4, 5, 7, 8, 9, 11, 12: the verdict has another claim */
     ROUTE_VERDICT_PORT = 141,        /* 2, 4, 5, 12: the verdict has another port */
     ROUTE_VERDICT_CHANNEL = 142,     /* 2, 4, 5, 12: the verdict has another channel */
-    ROUTE_VERDICT_SEQUENCE = 143,    /* 2, 4; 5 and 12 but with claim 4: the verdict has another sequence */
+    ROUTE_VERDICT_SEQUENCE = 143,    /* 2, 4; 5 and 12 except with claim 4: the verdict has another sequence */
     ROUTE_VERDICT_TIMEOUTS = 144,    /* 2, 4, 5, 12: the verdict has another timeout height or timeout time */
     ROUTE_VERDICT_DIGEST = 145,      /* 2, 4, 5, 12: the verdict has another digest;
                                         7, 8, 9, 11, 12: the end verdict has another record, its version left out */

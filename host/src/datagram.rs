@@ -39,7 +39,7 @@ impl Datagram {
         Datagram::new(2, context, 148, |to| verdict.write(packet.write(to)))
     }
 
-    /// Writes the acknowledgement of a packet that was received on a channel of this ledger.
+    /// Writes the acknowledgement of a packet that was received on a channel of this ledger. One that lapsed was not.
     pub fn write(context: &Context, channel: u32, sequence: u64, acknowledgement: Digest) -> Datagram {
         Datagram::new(3, context, 44, |to| to.u32(channel).u64(sequence).bytes(&acknowledgement))
     }
@@ -51,7 +51,7 @@ impl Datagram {
     }
 
     /// Times out a packet that this ledger sent and the other did not receive. The verdict needed is
-    /// [`Verdict::receipt_absent`] on an unordered channel, [`Verdict::next_receive`] on an ordered one, and
+    /// [`Verdict::next_receive`] with [`Order::Ordered`], [`Verdict::receipt_absent`] with [`Order::Unordered`], and
     /// [`Verdict::timeout_receipt_present`] with [`Order::OrderedAllowTimeout`], where a packet first has to come late
     /// and lapse.
     pub fn time_out(context: &Context, packet: &Packet, verdict: &Verdict) -> Datagram {
@@ -118,8 +118,8 @@ impl Datagram {
     /// Times out a packet that this ledger sent and the other did not receive before its end was closed. No timeout has
     /// to have passed. Two verdicts of one block are needed: the first shows the counterparty's end as
     /// [`Closed`](crate::State::Closed), and that it names this one; the second is that of a
-    /// [`time_out`](Datagram::time_out). With [`Order::OrderedAllowTimeout`] it is [`Verdict::next_receive`], or
-    /// [`Verdict::timeout_receipt_present`] of a packet that lapsed.
+    /// [`time_out`](Datagram::time_out). With [`Order::OrderedAllowTimeout`] it may also be [`Verdict::next_receive`],
+    /// of a packet that did not come before the close.
     pub fn time_out_on_close(context: &Context, packet: &Packet, end: &EndVerdict, verdict: &Verdict) -> Datagram {
         let body = |to: Writer| verdict.write(end.write(packet.write(to)));
         Datagram::new(12, context, 148 + EndVerdict::LENGTH, body)

@@ -159,6 +159,9 @@ impl Store {
     /// Answers a datagram and carries it out: a [`Datagram`](crate::Datagram), or any bytes. Gives what is emitted; an
     /// open acknowledge, an open confirm and both closes emit nothing.
     ///
+    /// An accepted receive is not always a delivery: with [`Order::OrderedAllowTimeout`] it gives [`Emitted::Lapsed`]
+    /// for a packet that comes late, on which the application must not act.
+    ///
     /// # Errors
     ///
     /// The first [`Refusal`] by place that applies. The store is then as it was.

@@ -81,9 +81,10 @@ impl Verdict {
         Verdict::of_receiver(packet, block)
     }
 
-    /// The receiver's next receive is this: what either time-out on an ordered channel needs, with a number that is not
-    /// above the packet's sequence. With [`Order::OrderedAllowTimeout`](crate::Order) a time-out on close needs it, of
-    /// a packet that neither was received nor lapsed before the close.
+    /// The receiver's next receive is this, a number that is not above the packet's sequence. With
+    /// [`Order::Ordered`](crate::Order) either time-out needs it; with
+    /// [`Order::OrderedAllowTimeout`](crate::Order) a time-out on close does, of a packet that neither was received nor
+    /// lapsed before the close.
     pub fn next_receive(packet: &Packet, next: u64, block: Block) -> Verdict {
         Verdict { claim: Claim::NextReceive, sequence: next, ..Verdict::of_receiver(packet, block) }
     }

@@ -13,7 +13,7 @@ pub enum State {
     TryOpen,
     /// It takes packets.
     Open,
-    /// It takes time-outs only. A close closed it, or a time-out on a channel of order 1, and nothing opens it again.
+    /// It takes time-outs only. A close closed it, or a time-out with [`Order::Ordered`], and nothing opens it again.
     Closed,
 }
 
@@ -98,7 +98,7 @@ impl Channel {
     }
 }
 
-/// What a packet record is. A channel's records stand in the order of their kinds.
+/// What a packet record is. A channel's records stand in the order of their kinds. Only commitments are freed again.
 #[derive(Clone, Copy, Debug, PartialEq, Eq, PartialOrd, Ord, Hash)]
 #[non_exhaustive]
 pub enum RecordKind {
