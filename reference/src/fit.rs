@@ -44,7 +44,7 @@ fn channel_fit(bytes: &[u8], next: u64) -> bool {
     let end = Channel::read(bytes);
     get_u16(bytes, channel::KIND) == CHANNEL_KIND
         && matches!(end.state, INIT | TRYOPEN | OPEN | CLOSED)
-        && matches!(end.order, ORDERED | UNORDERED | ALLOW_TIMEOUT)
+        && ORDERS.contains(&end.order)
         && u64::from(end.channel) < next
         && (end.state != INIT || end.counterparty_channel == 0)
         && end.next_sequence_send >= 1

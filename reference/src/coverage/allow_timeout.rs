@@ -14,8 +14,8 @@ use crate::verdict::*;
 /// What a call met.
 #[derive(Clone, Copy, Debug, PartialEq, Eq, PartialOrd, Ord)]
 pub enum Allowed {
-    /// A packet lapsed, late by these, and just so or by more.
-    Lapsed { by: Late, just: bool },
+    /// A packet lapsed, late by these, and at the very timeout or later.
+    Lapsed { by: Late, at_timeout: bool },
     /// A packet came late, and was refused for this line alone.
     Late(Line),
     /// A write was refused for 17 alone, of a packet that lapsed or was not taken.
@@ -50,7 +50,7 @@ fn lines(kind: u16) -> impl Iterator<Item = Line> {
 pub fn possible() -> Vec<Cell> {
     let mut all = Vec::new();
     for by in [Late::Height, Late::Time, Late::Both] {
-        all.extend([true, false].map(|just| Allowed::Lapsed { by, just }));
+        all.extend([true, false].map(|at_timeout| Allowed::Lapsed { by, at_timeout }));
     }
     all.extend(lines(RECEIVE).map(Allowed::Late));
     all.extend([true, false].map(|lapsed| Allowed::NotReceived { lapsed }));
@@ -81,7 +81,7 @@ pub fn reached(end: &Channel, datagram: &Datagram, applying: &[Line]) -> Vec<Cel
         _ if !end.allows_timeouts() => {}
         Body::Receive { packet, .. } => {
             let late = late(&datagram.context, packet);
-            all.extend(late.map(|(by, just)| alone.map_or(Allowed::Lapsed { by, just }, Allowed::Late)));
+            all.extend(late.map(|(by, at_timeout)| alone.map_or(Allowed::Lapsed { by, at_timeout }, Allowed::Late)));
         }
         Body::Write { sequence, .. } if alone == Some(NOT_RECEIVED.into()) => {
             all.push(Allowed::NotReceived { lapsed: *sequence < end.next_sequence_recv });
@@ -101,6 +101,7 @@ pub fn reached(end: &Channel, datagram: &Datagram, applying: &[Line]) -> Vec<Cel
     all.into_iter().map(Cell::Allowed).collect()
 }
 
+/// Which timeouts have passed, and whether this is the very moment.
 fn late(context: &Context, packet: &Packet) -> Option<(Late, bool)> {
     let by_height = is_reached(context.height, packet.timeout_height);
     let by_time = is_reached(context.time, packet.timeout_timestamp);
@@ -110,9 +111,9 @@ fn late(context: &Context, packet: &Packet) -> Option<(Late, bool)> {
         (false, true) => Late::Time,
         (false, false) => return None,
     };
-    let by_more =
+    let later =
         by_height && context.height > packet.timeout_height || by_time && context.time > packet.timeout_timestamp;
-    Some((by, !by_more))
+    Some((by, !later))
 }
 
 fn not_its_turn(kind: u16, end: &Channel, packet: &Packet) -> Option<Allowed> {
@@ -122,13 +123,13 @@ fn not_its_turn(kind: u16, end: &Channel, packet: &Packet) -> Option<Allowed> {
 impl fmt::Display for Allowed {
     fn fmt(&self, out: &mut fmt::Formatter) -> fmt::Result {
         match self {
-            Allowed::Lapsed { by, just } => {
+            Allowed::Lapsed { by, at_timeout } => {
                 let by = match by {
                     Late::Height => "its height",
                     Late::Time => "its time",
                     Late::Both => "height and time",
                 };
-                write!(out, "a packet lapses by {by}, {}", if *just { "just so" } else { "by more" })
+                write!(out, "a packet lapses by {by}, {}", if *at_timeout { "at the very timeout" } else { "later" })
             }
             Allowed::Late(line) => write!(out, "a packet comes late, {line} alone"),
             Allowed::NotReceived { lapsed: true } => write!(out, "17 alone for a packet that lapsed"),

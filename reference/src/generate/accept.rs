@@ -135,11 +135,11 @@ fn fill_receive(rng: &mut Rng, draft: &mut Draft, end: &Channel) -> Option<()> {
     Some(())
 }
 
-/// Lets a packet that is to be received come late, by one of its timeouts or by both; often just so.
+/// Lets a packet that is to be received come late, by one of its timeouts or by both; often at the very timeout.
 pub fn come_late(rng: &mut Rng, context: &Context, packet: &mut Packet) {
     let by_time = context.time >= 1 && rng.one_in(2);
-    let (by_height, just) = (!by_time || rng.one_in(3), rng.one_in(3));
-    let mut passed = |now: u64| if just { now } else { rng.between(1, now) };
+    let (by_height, at_timeout) = (!by_time || rng.one_in(3), rng.one_in(3));
+    let mut passed = |now: u64| if at_timeout { now } else { rng.between(1, now) };
     if by_time {
         packet.timeout_timestamp = passed(context.time);
     }

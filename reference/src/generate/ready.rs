@@ -3,7 +3,7 @@
 use super::accept::{pick_record, some_received};
 use super::call::Row;
 use super::rng::Rng;
-use super::shape::{add_end, channels, make_room, place, some_commitment};
+use super::shape::{add_end, make_room, place, some_commitment, some_end};
 use crate::datagram::*;
 use crate::store::*;
 
@@ -31,10 +31,9 @@ pub fn make_ready(rng: &mut Rng, store: &mut [u8], row: Row) {
 }
 
 fn end_of_order(rng: &mut Rng, store: &mut [u8], order: u8) -> Option<(usize, Channel)> {
-    let mut ends = channels(store);
-    ends.retain(|(_, end)| end.order == order);
-    if let Some(found) = rng.pick_any(&ends) {
-        return Some(found);
+    let found = some_end(rng, store, order);
+    if found.is_some() {
+        return found;
     }
     let index = first_free_channel(store)?;
     add_end(rng, store, index, order);

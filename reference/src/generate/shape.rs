@@ -16,6 +16,13 @@ pub fn channels(store: &[u8]) -> Vec<(usize, Channel)> {
     (0..CHANNELS).filter_map(|index| Some((index, channel_at(store, index)?))).collect()
 }
 
+/// Some end of this order, with the index of its record.
+pub fn some_end(rng: &mut Rng, store: &[u8], order: u8) -> Option<(usize, Channel)> {
+    let mut ends = channels(store);
+    ends.retain(|(_, end)| end.order == order);
+    rng.pick_any(&ends)
+}
+
 /// Puts a record in, where none is free for it in place of a commitment of another key: nothing in a fit store leans on
 /// one.
 pub fn place(rng: &mut Rng, store: &mut [u8], record: &Record) -> bool {

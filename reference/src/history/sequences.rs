@@ -13,10 +13,10 @@ pub type Fault = (Truth, bool, &'static str);
 #[derive(Default)]
 pub struct Sequences {
     delivered: BTreeMap<End, BTreeSet<u64>>,
-    /// How many packets were acknowledged and how many timed out at an end, OPEN or not.
+    /// How many packets were acknowledged or timed out at an end, OPEN or not.
     finished: BTreeMap<End, u64>,
-    /// Of the ends where timeouts are allowed, those at which packets were acknowledged, and at which they were timed
-    /// out while the end was OPEN.
+    /// How many packets were acknowledged at an end where timeouts are allowed, and how many were timed out there while
+    /// it was OPEN.
     acknowledging: BTreeMap<End, u64>,
     timing_out: BTreeMap<End, u64>,
     /// Packets timed out at such an end that was not OPEN.

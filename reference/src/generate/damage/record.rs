@@ -8,7 +8,7 @@ use super::flip;
 use crate::bytes::*;
 use crate::generate::accept::{pick_record, some_taken};
 use crate::generate::rng::Rng;
-use crate::generate::shape::{channels, place};
+use crate::generate::shape::{place, some_end};
 use crate::places::{record, RECORD};
 use crate::store::*;
 
@@ -82,17 +82,10 @@ pub fn commitment_not_sent(rng: &mut Rng, store: &mut Vec<u8>) -> Option<()> {
     settle(store)
 }
 
-/// Some end of this order.
-fn some_end(rng: &mut Rng, store: &[u8], order: u8) -> Option<Channel> {
-    let mut ends = channels(store);
-    ends.retain(|(_, end)| end.order == order);
-    Some(rng.pick_any(&ends)?.1)
-}
-
 /// A receipt or a timeout receipt, with zero timeouts and digest, of a packet that was taken and not acknowledged, on an
 /// end of this order.
 pub fn placed_on(rng: &mut Rng, store: &mut [u8], kind: u16, order: u8) -> Option<()> {
-    let end = some_end(rng, store, order)?;
+    let (_, end) = some_end(rng, store, order)?;
     // Unordered ends do not count what they take.
     let sequence = if end.is_unordered() { rng.number_from_1() } else { some_taken(rng, &end)? };
     if find_record(store, ACKNOWLEDGEMENT, end.channel, sequence).is_some() {
@@ -111,7 +104,7 @@ pub fn values_not_zero(rng: &mut Rng, store: &mut [u8], kind: u16) -> Option<()>
 
 /// A packet whose acknowledgement is written has a timeout receipt too.
 pub fn acknowledged_and_lapsed(rng: &mut Rng, store: &mut Vec<u8>) -> Option<()> {
-    let end = some_end(rng, store, ALLOW_TIMEOUT)?;
+    let (_, end) = some_end(rng, store, ALLOW_TIMEOUT)?;
     let (there, beside) = if rng.one_in(2) {
         (ACKNOWLEDGEMENT, Record { kind: TIMEOUT_RECEIPT, ..Record::FREE })
     } else {
@@ -129,7 +122,7 @@ pub fn acknowledgement_with_timeout(rng: &mut Rng, store: &mut Vec<u8>) -> Optio
 
 /// An acknowledgement or a timeout receipt at next receive or above it, on an end of this order.
 pub fn not_taken(rng: &mut Rng, store: &mut [u8], kind: u16, order: u8) -> Option<()> {
-    let end = some_end(rng, store, order)?;
+    let (_, end) = some_end(rng, store, order)?;
     let sequence = rng.between(end.next_sequence_recv, u64::MAX);
     let digest = if kind == ACKNOWLEDGEMENT { rng.digest() } else { NO_DIGEST };
     place(rng, store, &Record { kind, channel: end.channel, sequence, digest, ..Record::FREE }).then_some(())
