@@ -11,8 +11,8 @@ pub const TRYOPEN: u8 = 2;
 pub const OPEN: u8 = 3;
 pub const CLOSED: u8 = 4;
 pub const VERSION: &[u8] = b"v1";
-/// Places of a datagram: the connection, and where the verdicts begin: of a receive and of a time-out, of an acknowledge,
-/// of a close confirm, and both of a time-out on close.
+/// Places of a datagram: the connection, and where the verdicts begin, of a receive and of a time-out, of an
+/// acknowledge, of a close confirm, and both of a time-out on close.
 pub const CONNECTION: usize = 32;
 pub const BEHIND_PACKET: usize = 106;
 pub const BEHIND_ACKNOWLEDGEMENT: usize = 138;
@@ -54,8 +54,8 @@ impl End {
         front.digest(0xd1).0
     }
 
-    /// A verdict of the same block that the packet was not received: claim 3 or 6 with its sequence, or claim 4 with any
-    /// that is not above it.
+    /// A verdict of the same block that the packet was not received: claim 3 or 6 with its sequence, or claim 4 with
+    /// any that is not above it.
     pub fn absent(self, sequence: u64) -> Vec<u8> {
         self.claims([4, 3, 6][usize::from(self.order) - 1], sequence)
     }

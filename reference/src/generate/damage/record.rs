@@ -82,8 +82,8 @@ pub fn commitment_not_sent(rng: &mut Rng, store: &mut Vec<u8>) -> Option<()> {
     settle(store)
 }
 
-/// A receipt or a timeout receipt, with zero timeouts and digest, of a packet that was taken and not acknowledged, on an
-/// end of this order.
+/// A receipt or a timeout receipt, with zero timeouts and digest, of a packet that was taken and not acknowledged, on
+/// an end of this order.
 pub fn placed_on(rng: &mut Rng, store: &mut [u8], kind: u16, order: u8) -> Option<()> {
     let (_, end) = some_end(rng, store, order)?;
     // Unordered ends do not count what they take.
