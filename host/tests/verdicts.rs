@@ -138,7 +138,7 @@ fn time_out_on_close() {
 }
 
 /// Where timeouts are allowed, the verdict's own claim says which of two is meant: that the packet lapsed, or else the
-/// other end's next receive. So each is compared as the one needed, and the claims beside them are not.
+/// other end's next receive. So each is compared as the one needed, and every other claim is refused.
 #[test]
 fn either_claim_on_close() {
     let (north, packet, end, _) = sent_with_verdicts(ALLOW_TIMEOUT);

@@ -1,9 +1,10 @@
 //! The order of steps that strands no packet (docs/CHANNELS.md), by exhaustive search with the handler itself.
 //!
-//! Two ledgers, one channel of each order, both ends OPEN and fresh. Each end sends up to two packets; the first end
-//! only before step 1, the other one while it is OPEN. A timeout passes when the clock of both ledgers has moved once,
-//! or twice, or never; it may move at any moment. All interleavings of calls that the text allows are searched, some
-//! 20,000 to 100,000 states in each of the six cases. Every verdict is true, and of the other ledger's latest block.
+//! Two ledgers and one channel, of each order in turn, both ends OPEN and fresh. Each end sends up to two packets; the
+//! first end only before step 1, the other one while it is OPEN. A timeout passes when the clock of both ledgers has
+//! moved once, or twice, or never; it may move at any moment. All interleavings of calls that the text allows are
+//! searched, some 20,000 to 100,000 states in each of the six cases. Every verdict is true, and of the other ledger's
+//! latest block.
 
 mod bytes;
 mod pair;
