@@ -12,7 +12,7 @@ use Rattle.slots.specs.declared.Key.{Key}
 use Rattle.slots.specs.Names.{mayHaveTimeoutReceipt, orderAllowTimeout, receiptKind, timeoutReceiptKind, noTimeout}
 use Rattle.slots.specs.Names.{hasFree, channelAt, receiptKey, timeoutReceiptKey, lookup, Store, isUnordered}
 use Rattle.slots.specs.Names.{allowsTimeouts, isTaken, isLapsed, isReceived, hasReceipt, hasTimeoutReceipt}
-use Rattle.slots.proofs.Laws.{Single, lookup-insert, lookup-insert-other}
+use Rattle.slots.proofs.Laws.{allowed-not-unordered, Single, lookup-insert, lookup-insert-other}
 use Rattle.datagram.specs.declared.Packet.{Packet}
 use Rattle.datagram.specs.declared.Verdict.{Verdict}
 use Rattle.datagram.specs.Names.{receiptAbsent, nextReceiveIs, timeoutReceiptPresent, claimNumber, onPacket}
@@ -20,7 +20,7 @@ use Rattle.rules.specs.Names.{claimHolds, plainRecord, counted, receives
 use Rattle.rules.specs.Names.{raisesReceive, receivedEnd, receivedEdit, absenceClaim, absenceDifference}
 use Rattle.rules.specs.Names.{claimsNext, claimsTaken, edited}
 use Rattle.rules.proofs.VerdictLaws.{about, claim-absent, claim-next, claim-lapsed}
-use Rattle.rules.proofs.OrderingLaws.{allowed-ordered, lapse-allowed, lapse-raises, next-taken, raises-ordered}
+use Rattle.rules.proofs.OrderingLaws.{lapse-allowed, lapse-raises, next-taken, raises-ordered}
 use Rattle.rules.proofs.OrderingLaws.{receipt, receipt-absent}
 
 -- it was not taken before
@@ -46,7 +46,7 @@ taken-from rs ts c e n o g k h =
 pub lapsed-taken : (rs : List (Option Record)) (c : Channel) (n : ℕ) → mayHaveTimeoutReceipt c n ≡ true →
     isTaken rs c n ≡ true
 unfolding isTaken mayHaveTimeoutReceipt
-lapsed-taken rs c n h = let a = and-both h in let u = allowed-ordered c (a .0) in let q = a .1 in cc
+lapsed-taken rs c n h = let a = and-both h in let u = allowed-not-unordered c (a .0) in let q = a .1 in cc
 
 -- RECEIVED: taken, and not lapsed
 pub received-taken : (rs : List (Option Record)) (c : Channel) (n : ℕ) → isReceived rs c n ≡ true →

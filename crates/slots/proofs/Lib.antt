@@ -6,6 +6,7 @@ pub mod KeyLaws
 pub mod RecordLaws
 pub mod RecordOrderLaws
 pub mod ChannelLaws
+pub mod OrderingLaws
 pub mod LayoutLaws
 pub mod FitLaws
 pub mod FitRecordLaws

@@ -5,22 +5,14 @@ use mathlib.Core.Bool.{Bool, true, false, not, _&&_}
 use mathlib.Core.List.{List}
 use mathlib.Core.Option.{Option}
 use Prim.Native.Nat.{ℕ}
-use native.Mathlib.Omega.{arith}
 use lib.Dec.{ltb}
-use borrow.Author.Tests.{eqb-true, ne-eqb}
 use Rattle.wire.specs.Choice.{_and_}
-use Rattle.wire.proofs.ChoiceLaws.{clash}
+use Rattle.wire.proofs.ChoiceLaws.{clash, cases}
 use Rattle.slots.specs.declared.Channel.{Channel}
 use Rattle.slots.specs.declared.Record.{Record}
 use Rattle.slots.specs.Ordering.{isUnordered, allowsTimeouts, hasReceipt, hasTimeoutReceipt, isTaken, isLapsed}
 use Rattle.slots.specs.Ordering.{isReceived}
-
--- a channel has one ordering
-not-both : (c : Channel) → isUnordered c ≡ true → allowsTimeouts c ≡ false
-unfolding isUnordered allowsTimeouts
-not-both c e =
-    let two = eqb-true (c .order) 2 e in
-    ne-eqb (c .order) 3 (λ h. omega arith)
+use Rattle.slots.proofs.OrderingLaws.{allowed-not-unordered}
 
 -- of what was taken, and of whether it lapsed
 never-lapsed : (taken lapsed : Bool) → (taken and not (false and lapsed)) ≡ taken
@@ -49,7 +41,9 @@ module _ (rs : List (Option Record)) (c : Channel) (n : ℕ) where
   unfolding isReceived isTaken isLapsed
   by-receipt t h e =
       let z = sym t ∙ h in
-      e ∙ sym (rw (z, not-both c z) (never-lapsed (hasReceipt rs c n) (hasTimeoutReceipt rs c n)))
+      let none : allowsTimeouts c ≡ false =
+      cases (allowsTimeouts c) (λ q. clash z (allowed-not-unordered c q)) (λ q. q) in
+      e ∙ sym (rw (z, none) (never-lapsed (hasReceipt rs c n) (hasTimeoutReceipt rs c n)))
 
   module _ {u a : Bool} (t : u ≡ isUnordered c) (h : u ≡ false) (allows : a ≡ allowsTimeouts c) where
     pub by-timeout-receipt : {r : Bool} → (a && ltb n (c .next .receive)) ≡ true → r ≡ hasTimeoutReceipt rs c n →
