@@ -8,6 +8,8 @@ use slots::Timeout;
 use slots::slot::channel_at;
 use tables::ordering::allows_timeouts;
 use tables::ordering::is_unordered;
+use tables::ordering::may_have_receipt;
+use tables::ordering::may_have_timeout_receipt;
 use tables::scan::find_channel;
 use tables::scan::first_record;
 use tables::scan::is_found;
@@ -109,12 +111,11 @@ fn fits_end(s: &[u8], count: usize, r: Record, c: Channel) -> bool
     let kind = r.kind;
     match kind {
         Record::COMMITMENT => r.sequence < c.next.send,
-        Record::RECEIPT => is_unordered(c) & says_nothing(r),
+        Record::RECEIPT => may_have_receipt(c) & says_nothing(r),
         Record::ACKNOWLEDGEMENT => acknowledgement_fits(s, count, r, c),
         _ => {
             (kind == Record::TIMEOUT_RECEIPT)
-                & allows_timeouts(c)
-                & (r.sequence < c.next.receive)
+                & may_have_timeout_receipt(c, r.sequence)
                 & says_nothing(r)
         }
     }

@@ -2,5 +2,5 @@
 // means is in the definitions of slots.
 pub mod halves; // a packet record by its key, where the records are in order
 pub mod key; // what a packet record is found by
-pub mod ordering; // which ordering a channel has
+pub mod ordering; // which ordering a channel has, and which receipts
 pub mod scan; // the first slot that passes a test
