@@ -6,7 +6,6 @@ use slots::Layout;
 use slots::Record;
 use slots::Timeout;
 use slots::slot::channel_at;
-use tables::ordering::allows_timeouts;
 use tables::ordering::is_unordered;
 use tables::ordering::may_have_receipt;
 use tables::ordering::may_have_timeout_receipt;
@@ -86,7 +85,7 @@ fn is_received(s: &[u8], count: usize, c: Channel, sequence: u64) -> bool
     if is_unordered(c) {
         return is_there(s, count, Record::RECEIPT, c, sequence);
     }
-    if allows_timeouts(c) & (sequence < c.next.receive) {
+    if may_have_timeout_receipt(c, sequence) {
         return !is_there(s, count, Record::TIMEOUT_RECEIPT, c, sequence);
     }
     sequence < c.next.receive

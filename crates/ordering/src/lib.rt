@@ -7,6 +7,7 @@ use slots::Record;
 use tables::halves::has_record;
 use tables::ordering::allows_timeouts;
 use tables::ordering::is_unordered;
+use tables::ordering::may_have_timeout_receipt;
 ghost use mathlib.Core.Path.{_≡_};
 ghost use Rattle.wire.specs.Choice.{isSome};
 ghost use Rattle.slots.specs.Table.{lookup};
@@ -108,7 +109,7 @@ pub fn is_received(store: &[u8], count: usize, c: Channel, sequence: u64) -> boo
     if is_unordered(c) {
         return is_there(store, count, Record::RECEIPT, c, sequence);
     }
-    if allows_timeouts(c) & (sequence < c.next.receive) {
+    if may_have_timeout_receipt(c, sequence) {
         return !is_there(store, count, Record::TIMEOUT_RECEIPT, c, sequence);
     }
     sequence < c.next.receive

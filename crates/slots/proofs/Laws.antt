@@ -13,7 +13,8 @@ pub use Rattle.slots.proofs.ChannelLaws.{channel-number, channel-own, c
 pub use Rattle.slots.proofs.ChannelLaws.{channel-insert, channel-insert-other, numbers-with, numbers-insert}
 pub use Rattle.slots.proofs.ChannelLaws.{next-low, number-below, next-unused, fits-with, fits-insert}
 pub use Rattle.slots.proofs.ChannelLaws.{fit-numbers, padded-fits, padded-size, padded-bytes}
-pub use Rattle.slots.proofs.OrderingLaws.{allowed-not-unordered}
+pub use Rattle.slots.proofs.OrderingLaws.{allowed-not-unordered, received-alike, received-receipt}
+pub use Rattle.slots.proofs.OrderingLaws.{received-timeout-receipt, received-counter}
 pub use Rattle.slots.proofs.LayoutLaws.{PortChannelFields, TimeoutFields, CounterFields, ChannelFields}
 pub use Rattle.slots.proofs.LayoutLaws.{RecordFields}
 pub use Rattle.slots.proofs.LayoutLaws.{StoreFields, read-port-channel, read-timeout, size-of, bytes-of}

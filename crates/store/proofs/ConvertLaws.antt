@@ -8,12 +8,12 @@ use Rattle.wire.proofs.Laws.{and-both, both-and}
 use Rattle.slots.specs.declared.Channel.{Channel}
 use Rattle.slots.specs.declared.Record.{Record}
 use Rattle.slots.specs.declared.Key.{Key}
-use Rattle.slots.specs.Names.{receiptKey, timeoutReceiptKey, lookup, count, channelAt, Store, recordsFrom, sizeFor}
+use Rattle.slots.specs.Names.{lookup, count, channelAt, Store, recordsFrom, sizeFor}
 use Rattle.slots.specs.Names.{channelBytes, recordBytes, tableBytes, headerBytes, bytesOf, storeIn}
-use Rattle.slots.specs.Names.{isTaken, isLapsed, isReceived, fitsEnd}
-use Rattle.slots.specs.Names.{recordFits, entriesFit, storeFits, isFit, isFitAnyOrder}
+use Rattle.slots.specs.Names.{fitsEnd, recordFits, entriesFit, storeFits, isFit, isFitAnyOrder}
 use Rattle.slots.specs.Effect.{withRecords}
 use Rattle.slots.proofs.TableLaws.{each-map, all-each, each-all}
+use Rattle.slots.proofs.OrderingLaws.{received-alike}
 use Rattle.slots.proofs.LayoutLaws.{RecordFields, StoreFields, length-header, length-channel, length-table}
 use Rattle.slots.proofs.LayoutLaws.{size-of, bytes-of, read-back}
 use Rattle.slots.proofs.FitLaws.{fit-store, fit-fields, fit-of}
@@ -29,10 +29,9 @@ use Rattle.store.specs.Convert.{convertTold, convertStore, Converted, Co
 -- A RECORD fits beside records among which the same ones are found
 end-alike : (s t : Store) (r : Record) (x : Option Channel) →
     ((k : Key) → lookup k (s .records) ≡ lookup k (t .records)) → fitsEnd s r x ≡ fitsEnd t r x
-unfolding fitsEnd isReceived isTaken isLapsed
+unfolding fitsEnd
 end-alike s t r none h = refl
-end-alike s t r (some c) h =
-    rw (h (receiptKey (c .own .channel) (r .sequence)), h (timeoutReceiptKey (c .own .channel) (r .sequence)))
+end-alike s t r (some c) h = rw (received-alike (s .records) (t .records) c (r .sequence) h)
 
 -- ALL BYTES before the records, and those of the records
 module _ (s : Store) where

@@ -1,25 +1,26 @@
--- By the ordering, as the laws of what tells it say. Assumes nothing.
+-- By the one thing that tells it. Assumes nothing.
+use mathlib.Core.Path.{sym, _∙_}
 use borrow.Author.Needs.{needs}
-use Rattle.tables.proofs.ReceivedLaws.{by-receipt, by-timeout-receipt, by-counter}
+use Rattle.slots.proofs.OrderingLaws.{received-receipt, received-timeout-receipt, received-counter}
 use Rattle.entries.proofs.is_received.Statement.{statement}
 use Rattle.entries.proofs.is_received.Tie as tie
 
 returns : tie.Need-returns
-returns c = by-receipt _ _ _ (c .before .before .is-unordered .ensures) (c .before .if1 .taken) (c .is-there .ensures)
+returns c =
+    let u = sym (c .before .before .is-unordered .ensures) ∙ c .before .if1 .taken in
+    rw (received-receipt _ _ _ u) (c .is-there .ensures)
 
 returns-2 : tie.Need-returns-2
 returns-2 c =
-    let allows = c .before .before .before in
-    let e = allows .before in
-    by-timeout-receipt _ _ _ (e .before .is-unordered .ensures) (e .if1 .left) (allows .allows-timeouts .ensures)
-    (c .before .if2 .taken) (c .is-there2 .ensures)
+    let m = sym (c .before .before .may-have-timeout-receipt .ensures) ∙ c .before .if2 .taken in
+    rw (received-timeout-receipt _ _ _ m, ← c .is-there2 .ensures)
 
 returns-3 : tie.Need-returns-3
 returns-3 c =
-    let allows = c .before .before .before in
-    let e = allows .before in
-    by-counter _ _ _ (e .before .is-unordered .ensures) (e .if1 .left) (allows .allows-timeouts .ensures)
-    (c .before .if2 .left)
+    let may = c .before .before in
+    let e = may .before in
+    sym (received-counter _ _ _ (sym (e .before .is-unordered .ensures) ∙ e .if1 .left)
+    (sym (may .may-have-timeout-receipt .ensures) ∙ c .before .if2 .left))
 
 pub is-received-spec : {M : Type 1} → statement M
 is-received-spec =
