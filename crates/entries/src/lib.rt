@@ -26,7 +26,7 @@ ghost use Rattle.slots.specs.Height.{noTimeout, sameTimeout};
 ghost use Rattle.slots.specs.Table.{lookup};
 ghost use Rattle.slots.specs.Layout.{slotSize, sizeFor, channelIn, storeIn};
 ghost use Rattle.slots.specs.Ordering.{isReceived};
-ghost use Rattle.slots.specs.Fit.{channelFits, saysNothing, fitsEnd, recordFits};
+ghost use Rattle.slots.specs.Fit.{channelFits, hasZeroTimeoutsAndDigest, fitsEnd, recordFits};
 
 // INIT, TRYOPEN, OPEN or CLOSED, a known order, counters at least 1, a version with zeros behind it; an INIT end
 // names no counterparty's channel. The channel record from `at` on, field by field.
@@ -49,9 +49,9 @@ fn is_no_timeout(t: Timeout) -> bool
     (t.height == 0) & (t.time == 0)
 }
 
-// Nothing but that it is there: no timeouts, and no digest.
-fn says_nothing(r: Record) -> bool
-    ensures { λ b. ⌜ b ≡ saysNothing r ⌝ }
+// A receipt and a timeout receipt have zero timeouts and digest.
+fn has_zero_timeouts_and_digest(r: Record) -> bool
+    ensures { λ b. ⌜ b ≡ hasZeroTimeoutsAndDigest r ⌝ }
 {
     let t = r.timeout;
     let d = r.digest;
@@ -110,12 +110,12 @@ fn fits_end(s: &[u8], count: usize, r: Record, c: Channel) -> bool
     let kind = r.kind;
     match kind {
         Record::COMMITMENT => r.sequence < c.next.send,
-        Record::RECEIPT => may_have_receipt(c) & says_nothing(r),
+        Record::RECEIPT => may_have_receipt(c) & has_zero_timeouts_and_digest(r),
         Record::ACKNOWLEDGEMENT => acknowledgement_fits(s, count, r, c),
         _ => {
             (kind == Record::TIMEOUT_RECEIPT)
                 & may_have_timeout_receipt(c, r.sequence)
-                & says_nothing(r)
+                & has_zero_timeouts_and_digest(r)
         }
     }
 }

@@ -7,7 +7,8 @@ use Rattle.slots.specs.Names.{distinct, mayLead, inOrder, isBefore, isLaidOut, 
 use Rattle.slots.specs.Names.{samePortChannel, hasKey, isCommitmentOn, roomIn, channelBytes, recordBytes, slotBytes}
 use Rattle.slots.specs.Names.{tableBytes, headerBytes, bytesOf, channelIn, recordIn, slotIn, isOrdered, isUnordered}
 use Rattle.slots.specs.Names.{allowsTimeouts, isTaken, isLapsed, isReceived, namesNone, channelFits, channelsFit}
-use Rattle.slots.specs.Names.{isBelow, numbersFit, saysNothing, fitsEnd, recordFits, entriesFit, storeFits, sizeFits}
+use Rattle.slots.specs.Names.{isBelow, numbersFit, hasZeroTimeoutsAndDigest, fitsEnd, recordFits, entriesFit}
+use Rattle.slots.specs.Names.{storeFits, sizeFits}
 use Rattle.openings.specs.Opening.{openingFits, allOpeningsFit, openingOf, endsOf}
 use Rattle.openings.specs.Maker.{leastAbove, makeNumber, madeStore, makeStore}
 use Rattle.datagram.specs.Names.{only, body, hasPart, partsSize, sizeBefore, isSized, kindIn, contextIn, packetIn}
@@ -39,7 +40,7 @@ unfolding _and_ _or_ withNumber same areZero little numberOf part field pieces i
     padded isPadded find replace push place takeOut hasFree count all distinct mayLead inOrder isBefore isLaidOut
     isFitAnyOrder isNumbered samePortChannel hasKey isCommitmentOn roomIn channelBytes recordBytes slotBytes tableBytes
     headerBytes bytesOf channelIn recordIn slotIn storeIn isOrdered isUnordered allowsTimeouts isTaken isLapsed
-    isReceived mayHaveReceipt mayHaveTimeoutReceipt saysNothing namesNone channelFits channelsFit isBelow numbersFit
+    isReceived mayHaveReceipt mayHaveTimeoutReceipt namesNone channelFits channelsFit isBelow numbersFit
     fitsEnd recordFits entriesFit storeFits sizeFits isFit openingFits allOpeningsFit openingOf endsOf leastAbove
     makeNumber madeStore makeStore only body hasPart partsSize sizeBefore isSized kindIn contextIn packetIn verdictIn
     endVerdictIn packetFrom verdictFrom timeoutFrom sequenceFrom digestFrom endVerdictFrom counterpartyFrom orderFrom
@@ -55,5 +56,5 @@ unfolding _and_ _or_ withNumber same areZero little numberOf part field pieces i
     openings aContext aDigest anAnswer aPacket aBlock aVerdict aSend receiveBy aWrite acknowledgeBy timeoutBy anOutput
     fresh atTop openingsOn openedStores stores requests calls fold empty aVersion endWith anEndVerdict anOpenInit
     openTryBy openAcknowledgeBy openConfirmBy storeOf handshakes transfers sliceOfFour closings aCloseInit
-    closeConfirmBy timeoutOnCloseBy blockDifference holding
+    closeConfirmBy timeoutOnCloseBy blockDifference holding hasZeroTimeoutsAndDigest
 computation = tt

@@ -7,8 +7,8 @@ use Rattle.wire.proofs.Laws.{and-both, clash}
 use Rattle.slots.specs.declared.Channel.{Channel}
 use Rattle.slots.specs.declared.Record.{Record}
 use Rattle.slots.specs.Names.{Key, commitmentKey, timeoutReceiptKey, keyOf, hasKey, lookup, channelAt, Store}
-use Rattle.slots.specs.Names.{mayHaveTimeoutReceipt, saysNothing, fitsEnd, recordFits, entriesFit, storeFits}
-use Rattle.slots.specs.Names.{isLaidOut, isFit, roomIn, storeIn}
+use Rattle.slots.specs.Names.{mayHaveTimeoutReceipt, hasZeroTimeoutsAndDigest, fitsEnd, recordFits}
+use Rattle.slots.specs.Names.{entriesFit, storeFits, isLaidOut, isFit, roomIn, storeIn}
 use Rattle.slots.specs.Scan.{RecordsInOrder}
 use Rattle.slots.proofs.TableLaws.{Each, all-each, each-find, find-passes}
 use Rattle.slots.proofs.KeyLaws.{key-of}
@@ -76,5 +76,5 @@ lapsed-end s n m r f h =
     let k = ap (λ (k : Key). k .kind) (o .0) in
     let q = ap (λ (k : Key). k .sequence) (o .0) in
     let e = o .1 .2 in
-    let z : (mayHaveTimeoutReceipt c (r .sequence) and saysNothing r) ≡ true = cc in
+    let z : (mayHaveTimeoutReceipt c (r .sequence) and hasZeroTimeoutsAndDigest r) ≡ true = cc in
     (c, o .1 .1, ap (λ (n : ℕ). mayHaveTimeoutReceipt c n) (sym q) ∙ and-both z .0)

@@ -40,9 +40,9 @@ isBelow n c = ltb (c .own .channel) n
 unfoldable pub numbersFit : (next : ℕ) → List (Option Channel) → Bool
 numbersFit n cs = leb 1 n and all (isBelow n) cs
 
--- a receipt and a timeout receipt say nothing but that they are there: zero timeouts and digest
-unfoldable pub saysNothing : Record → Bool
-saysNothing r = sameTimeout (r .timeout) noTimeout and areZero (r .digest)
+-- a receipt and a timeout receipt have zero timeouts and digest
+unfoldable pub hasZeroTimeoutsAndDigest : Record → Bool
+hasZeroTimeoutsAndDigest r = sameTimeout (r .timeout) noTimeout and areZero (r .digest)
 
 -- a commitment is below next send; a receipt and a timeout receipt stand where the ordering lets them; an
 -- acknowledgement is of a received packet, so never beside a timeout receipt, with zero timeouts
@@ -50,8 +50,8 @@ unfoldable pub fitsEnd : Store → Record → Option Channel → Bool
 fitsEnd s r none = false
 fitsEnd s r (some c) =
     pick (eqb (r .kind) commitmentKind) (ltb (r .sequence) (c .next .send))
-    (pick (eqb (r .kind) receiptKind) (mayHaveReceipt c and saysNothing r)
-    (pick (eqb (r .kind) timeoutReceiptKind) (mayHaveTimeoutReceipt c (r .sequence) and saysNothing r)
+    (pick (eqb (r .kind) receiptKind) (mayHaveReceipt c and hasZeroTimeoutsAndDigest r)
+    (pick (eqb (r .kind) timeoutReceiptKind) (mayHaveTimeoutReceipt c (r .sequence) and hasZeroTimeoutsAndDigest r)
     (eqb (r .kind) acknowledgementKind and sameTimeout (r .timeout) noTimeout and
     isReceived (s .records) c (r .sequence))))
 

@@ -23,5 +23,5 @@ unfoldable pub use Rattle.slots.specs.Ordering.{isOrdered, isUnordered, 
 unfoldable pub use Rattle.slots.specs.Ordering.{isReceived, mayHaveReceipt, mayHaveTimeoutReceipt}
 pub use Rattle.slots.specs.Ordering.{hasReceipt, hasTimeoutReceipt}
 unfoldable pub use Rattle.slots.specs.Fit.{namesNone, channelFits, channelsFit, isBelow, numbersFit, fitsEnd}
-unfoldable pub use Rattle.slots.specs.Fit.{saysNothing, recordFits, entriesFit, storeFits}
+unfoldable pub use Rattle.slots.specs.Fit.{hasZeroTimeoutsAndDigest, recordFits, entriesFit, storeFits}
 unfoldable pub use Rattle.slots.specs.Fit.{sizeFits, isLaidOut, isFit, isFitAnyOrder}

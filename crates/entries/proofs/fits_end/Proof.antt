@@ -17,7 +17,8 @@ returns c = rw (c .before .before .match .keys1)
 returns-2 : tie.Need-returns-2
 unfolding fitsEnd _and_
 returns-2 c =
-    rw (← c .before .may-have-receipt .ensures, ← c .says-nothing .ensures, c .before .before .match .keys2)
+    let may = c .before in
+    rw (← may .may-have-receipt .ensures, ← c .has-zero-timeouts-and-digest .ensures, may .before .match .keys2)
 
 returns-3 : tie.Need-returns-3
 unfolding fitsEnd _and_
@@ -40,9 +41,9 @@ returns-4 c =
       ne-eqb k receiptKind (none .0 .1),
       ne-eqb k acknowledgementKind (none .1),
       ← may .may-have-timeout-receipt .ensures,
-      ← c .says-nothing2 .ensures,
+      ← c .has-zero-timeouts-and-digest2 .ensures,
     )
-    (last (eqb k timeoutReceiptKind) (may .may-have-timeout-receipt .result) (c .says-nothing2 .result))
+    (last (eqb k timeoutReceiptKind) (may .may-have-timeout-receipt .result) (c .has-zero-timeouts-and-digest2 .result))
 
 pub fits-end-spec : {M : Type 1} → statement M
 fits-end-spec =
