@@ -1,5 +1,4 @@
 -- By the ordering, and by the claim that is there. Assumes nothing.
-use mathlib.Core.Path.{_≡_, refl}
 use Rattle.wire.specs.Choice.{_and_, _or_}
 use borrow.Author.Needs.{needs}
 use Rattle.rules.specs.Ordering.{absenceClaim}
