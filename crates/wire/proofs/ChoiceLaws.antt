@@ -1,4 +1,5 @@
 -- Tests as facts. Assumes nothing.
+use mathlib.Core.Bool.{_||_}
 use Rattle.wire.proofs.Prelude.{_≡_, refl, sym, ap, _∙_, Bool, true, false, not, List, [], _∷_, Option, none}
 use Rattle.wire.proofs.Prelude.{some, _⊎_, inl, inr, ℕ, suc, arith, eqb, eqb-true}
 use Rattle.wire.specs.Names.{_and_, _or_, pick, isSome, withNumber}
@@ -61,6 +62,15 @@ cases false p q = q refl
 pub of-pick : {A : Type 0} (P : A → Type 0) (b : Bool) (x y : A) → (b ≡ true → P x) → (b ≡ false → P y) → P (pick b x y)
 of-pick P true x y p q = p refl
 of-pick P false x y p q = q refl
+
+-- a test beside another, as a choice
+pub or-pick : (a b : Bool) → (a || b) ≡ pick a true b
+or-pick true b = refl
+or-pick false b = refl
+
+pub not-or-pick : (a b : Bool) → (not a || b) ≡ pick a b true
+not-or-pick true b = refl
+not-or-pick false b = refl
 
 pub not-some : {A : Type 0} (x : Option A) → not (isSome x) ≡ true → x ≡ none
 not-some none h = refl
