@@ -27,8 +27,6 @@ pub struct Packet {
 }
 
 // What the host's light client found of the other ledger, at a block's height and time there.
-// Claim: 1 commitment present, 2 acknowledgement present, 3 receipt absent, 4 next receive equals the sequence, 6
-// timeout receipt present; 5 is an end verdict's.
 pub struct Verdict {
     pub claim: u16,
     pub height: OtherHeight,
@@ -39,12 +37,30 @@ pub struct Verdict {
     pub digest: [u8; 32],
 }
 
-// What it found of a channel end there. Claim 5: the end's record, of this kind, is this one once its counters are
-// zero.
+// Its claims, as specs/Claim.antt has their numbers.
+impl Verdict {
+    pub const COMMITMENT_PRESENT: u16 = 1;
+
+    pub const ACKNOWLEDGEMENT_PRESENT: u16 = 2;
+
+    pub const RECEIPT_ABSENT: u16 = 3;
+
+    // next receive equals the verdict's sequence
+    pub const NEXT_RECEIVE_IS: u16 = 4;
+
+    pub const TIMEOUT_RECEIPT_PRESENT: u16 = 6;
+}
+
+// What it found of a channel end there.
 pub struct EndVerdict {
     pub claim: u16,
     pub height: OtherHeight,
     pub time: u64,
     pub kind: u16,
     pub end: Channel,
+}
+
+// Its claim: the end's record, of this kind, is this one once its counters are zero.
+impl EndVerdict {
+    pub const END_IS: u16 = 5;
 }

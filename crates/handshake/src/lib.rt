@@ -15,9 +15,6 @@ ghost use Rattle.rules.specs.Ordering.{moved};
 ghost use Rattle.rules.specs.Refusals.{noChannel};
 ghost use Rattle.rules.specs.Handshake.{portOnly, newEnd, neededEnd, neededPeer};
 
-// The claim of an end verdict, as datagram's specs/Claim.antt has it.
-const END_IS: u16 = 5;
-
 fn same_but_version(a: Channel, b: Channel) -> bool
     ensures { λ r. ⌜ r ≡ sameButVersion a b ⌝ }
 {
@@ -35,7 +32,7 @@ fn same_but_version(a: Channel, b: Channel) -> bool
 pub fn end_difference(v: EndVerdict, needed: Channel) -> u8
     ensures { λ r. ⌜ r ≡ firstEndDifference v needed ⌝ }
 {
-    if v.claim != END_IS {
+    if v.claim != EndVerdict::END_IS {
         return 140;
     }
     let end = v.end;

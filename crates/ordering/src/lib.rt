@@ -1,6 +1,7 @@
 // What depends on a channel's ordering: lines 11 for 2, 14 for 5 and 12, 15, 16 for 2, 17, 19, and 20 for 2; whether a
 // packet lapses, and which counters rise. Beside it only the fitness of packet records depends on it, in entries, and
 // that a time-out closes an ordered channel, in ends.
+use datagram::Verdict;
 use slots::Channel;
 use slots::Key;
 use slots::Record;
@@ -21,14 +22,6 @@ ghost use Rattle.rules.specs.Ordering.{timesOutInOrder, isSendAtTop, isReceiveA
 ghost use Rattle.rules.specs.Ordering.{isTimeoutAtTop, needsRecord};
 
 const TOP: u64 = 18446744073709551615;
-
-// What a verdict claims of a packet that was not received: its receipt is absent, next receive, or its timeout receipt
-// is there.
-const RECEIPT_ABSENT: u16 = 3;
-
-pub const NEXT_RECEIVE_IS: u16 = 4;
-
-const TIMEOUT_RECEIPT_PRESENT: u16 = 6;
 
 // 15, for 2.
 pub fn receives_in_order(c: Channel, sequence: u64) -> bool
@@ -121,12 +114,12 @@ pub fn absence_claim(on_close: bool, c: Channel, claimed: u16) -> u16
     ensures { λ r. ⌜ r ≡ claimNumber (absenceClaim «on_close» c claimed) ⌝ }
 {
     if is_unordered(c) {
-        return RECEIPT_ABSENT;
+        return Verdict::RECEIPT_ABSENT;
     }
-    if allows_timeouts(c) & (!on_close | (claimed == TIMEOUT_RECEIPT_PRESENT)) {
-        return TIMEOUT_RECEIPT_PRESENT;
+    if allows_timeouts(c) & (!on_close | (claimed == Verdict::TIMEOUT_RECEIPT_PRESENT)) {
+        return Verdict::TIMEOUT_RECEIPT_PRESENT;
     }
-    NEXT_RECEIVE_IS
+    Verdict::NEXT_RECEIVE_IS
 }
 
 // A receive and an acknowledge raise their counter, except on an unordered channel.

@@ -1,4 +1,5 @@
 // Whether a datagram whose frame is whole is well formed.
+use datagram::Verdict;
 use datagram::place::BODY;
 use datagram::place::END_VERDICT;
 use datagram::place::PACKET;
@@ -80,7 +81,7 @@ fn is_context_sound(d: &[u8]) -> bool
 fn is_claim(claim: u16) -> bool
     ensures { λ r. ⌜ r ≡ isSome (claimOf claim) ⌝ }
 {
-    (1 <= claim) & (claim <= 6)
+    (Verdict::COMMITMENT_PRESENT <= claim) & (claim <= Verdict::TIMEOUT_RECEIPT_PRESENT)
 }
 
 // A packet's sequence is not 0.

@@ -4,7 +4,6 @@ use datagram::Packet;
 use datagram::Verdict;
 use heights::no_timeout;
 use heights::same_timeout;
-use ordering::NEXT_RECEIVE_IS;
 use ordering::absence_claim;
 use slots::Channel;
 use slots::OtherHeight;
@@ -55,25 +54,27 @@ fn first_difference(
 pub fn commitment_difference(p: Packet, v: Verdict) -> u8
     ensures { λ r. ⌜ r ≡ commitmentDifference p v ⌝ }
 {
+    let claim = Verdict::COMMITMENT_PRESENT;
     let source = p.source;
     let timeout = p.timeout;
     let digest = p.digest;
-    first_difference(v, 1, source, p.sequence, timeout, digest)
+    first_difference(v, claim, source, p.sequence, timeout, digest)
 }
 
 // For 4: the acknowledgement at the packet's destination.
 pub fn acknowledgement_difference(p: Packet, digest: [u8; 32], v: Verdict) -> u8
     ensures { λ r. ⌜ r ≡ acknowledgementDifference p digest v ⌝ }
 {
+    let claim = Verdict::ACKNOWLEDGEMENT_PRESENT;
     let destination = p.destination;
-    first_difference(v, 2, destination, p.sequence, no_timeout(), digest)
+    first_difference(v, claim, destination, p.sequence, no_timeout(), digest)
 }
 
 // Next receive may be claimed of any sequence; a receipt and a timeout receipt are the packet's own.
 fn absence_sequence(v: Verdict, sequence: u64) -> u64
     ensures { λ r. ⌜ r ≡ pick (claimsNext v) (v .sequence) sequence ⌝ }
 {
-    if v.claim == NEXT_RECEIVE_IS {
+    if v.claim == Verdict::NEXT_RECEIVE_IS {
         return v.sequence;
     }
     sequence
@@ -93,7 +94,7 @@ pub fn absence_difference(on_close: bool, c: Channel, p: Packet, v: Verdict) -> 
 pub fn claims_taken(v: Verdict, sequence: u64) -> bool
     ensures { λ r. ⌜ r ≡ claimsTaken v sequence ⌝ }
 {
-    (v.claim == NEXT_RECEIVE_IS) & (sequence < v.sequence)
+    (v.claim == Verdict::NEXT_RECEIVE_IS) & (sequence < v.sequence)
 }
 
 // For 12: 146 where two verdicts, each of a height and a time, are not of one block of the other ledger.
