@@ -6,7 +6,6 @@ use slots::Layout;
 use slots::Record;
 use slots::Timeout;
 use slots::slot::channel_at;
-use tables::ordering::is_unordered;
 use tables::ordering::may_have_receipt;
 use tables::ordering::may_have_timeout_receipt;
 use tables::scan::find_channel;
@@ -82,7 +81,7 @@ fn is_received(s: &[u8], count: usize, c: Channel, sequence: u64) -> bool
     requires { ⌜ length (now s) ≡ sizeFor count ⌝ }
     ensures { λ r. ⌜ r ≡ isReceived (storeIn (now (s .entry)) .records) c sequence ⌝ }
 {
-    if is_unordered(c) {
+    if may_have_receipt(c) {
         return is_there(s, count, Record::RECEIPT, c, sequence);
     }
     if may_have_timeout_receipt(c, sequence) {

@@ -1,6 +1,6 @@
 // What depends on a channel's ordering: lines 11 for 2, 14 for 5 and 12, 15, 16 for 2, 17, 19, and 20 for 2; whether a
-// packet lapses, and which counters rise. Beside it only the fitness of packet records depends on it, in entries, and
-// that a time-out closes an ordered channel, in ends.
+// packet lapses, and which counters rise. The tests of the ordering are tables'. Beside this crate only entries asks
+// them, for the fitness of packet records, and ends, where a time-out closes an ordered channel.
 use datagram::Verdict;
 use slots::Channel;
 use slots::Key;
@@ -8,6 +8,7 @@ use slots::Record;
 use tables::halves::has_record;
 use tables::ordering::allows_timeouts;
 use tables::ordering::is_unordered;
+use tables::ordering::may_have_receipt;
 use tables::ordering::may_have_timeout_receipt;
 ghost use mathlib.Core.Path.{_≡_};
 ghost use Rattle.wire.specs.Choice.{isSome};
@@ -99,7 +100,7 @@ pub fn is_received(store: &[u8], count: usize, c: Channel, sequence: u64) -> boo
     requires { ⌜ RecordsInOrder (now store) count ⌝ }
     ensures { λ r. ⌜ r ≡ isReceived (storeIn (now (store .entry)) .records) c sequence ⌝ }
 {
-    if is_unordered(c) {
+    if may_have_receipt(c) {
         return is_there(store, count, Record::RECEIPT, c, sequence);
     }
     if may_have_timeout_receipt(c, sequence) {

@@ -7,7 +7,7 @@ use Rattle.slots.specs.declared.Channel.{Channel}
 use Rattle.slots.specs.declared.Record.{Record}
 use Rattle.slots.specs.Names.{orderAllowTimeout, Key, receiptKey, timeoutReceiptKey, lookup, isUnordered}
 use Rattle.slots.specs.Names.{allowsTimeouts, hasReceipt, hasTimeoutReceipt, isTaken, isLapsed, isReceived}
-use Rattle.slots.specs.Names.{mayHaveTimeoutReceipt}
+use Rattle.slots.specs.Names.{mayHaveReceipt, mayHaveTimeoutReceipt}
 
 -- the orderings are apart
 pub allowed-not-unordered : (c : Channel) → allowsTimeouts c ≡ true → isUnordered c ≡ false
@@ -20,11 +20,11 @@ pub received-alike : (rs ts : List (Option Record)) (c : Channel) (n : ℕ) →
 unfolding isReceived isTaken isLapsed
 received-alike rs ts c n h = rw (h (receiptKey (c .own .channel) n), h (timeoutReceiptKey (c .own .channel) n))
 
--- by the one thing that tells it: unordered, that its receipt is there; where its timeout receipt may be, that none is
--- there; else next receive
+-- by the one thing that tells it: where its receipt may be, that it is there; where its timeout receipt may be, that it
+-- is not there; else next receive
 module _ (rs : List (Option Record)) (c : Channel) (n : ℕ) where
-  pub received-receipt : isUnordered c ≡ true → isReceived rs c n ≡ hasReceipt rs c n
-  unfolding isReceived isTaken isLapsed _and_
+  pub received-receipt : mayHaveReceipt c ≡ true → isReceived rs c n ≡ hasReceipt rs c n
+  unfolding isReceived isTaken isLapsed mayHaveReceipt _and_
   received-receipt u =
       let t = and-true (hasReceipt rs c n) in
       cases (allowsTimeouts c) (λ q. clash u (allowed-not-unordered c q)) (λ q. cc)
@@ -37,9 +37,9 @@ module _ (rs : List (Option Record)) (c : Channel) (n : ℕ) where
       let u = allowed-not-unordered c (a .0) in
       cc
 
-  pub received-counter : isUnordered c ≡ false → mayHaveTimeoutReceipt c n ≡ false →
+  pub received-counter : mayHaveReceipt c ≡ false → mayHaveTimeoutReceipt c n ≡ false →
       isReceived rs c n ≡ ltb n (c .next .receive)
-  unfolding isReceived isTaken isLapsed mayHaveTimeoutReceipt _and_
+  unfolding isReceived isTaken isLapsed mayHaveReceipt mayHaveTimeoutReceipt _and_
   received-counter u h =
       let t = and-true (ltb n (c .next .receive)) in
       cases (allowsTimeouts c) (λ q. cc) (λ q. cc)

@@ -7,20 +7,20 @@ use Rattle.entries.proofs.is_received.Tie as tie
 
 returns : tie.Need-returns
 returns c =
-    let u = sym (c .before .before .is-unordered .ensures) ∙ c .before .if1 .taken in
-    rw (received-receipt _ _ _ u) (c .is-there .ensures)
+    let may = sym (c .before .before .may-have-receipt .ensures) ∙ c .before .if1 .taken in
+    rw (received-receipt _ _ _ may) (c .is-there .ensures)
 
 returns-2 : tie.Need-returns-2
 returns-2 c =
-    let m = sym (c .before .before .may-have-timeout-receipt .ensures) ∙ c .before .if2 .taken in
-    rw (received-timeout-receipt _ _ _ m, ← c .is-there2 .ensures)
+    let may = sym (c .before .before .may-have-timeout-receipt .ensures) ∙ c .before .if2 .taken in
+    rw (received-timeout-receipt _ _ _ may, ← c .is-there2 .ensures)
 
 returns-3 : tie.Need-returns-3
 returns-3 c =
-    let may = c .before .before in
-    let e = may .before in
-    sym (received-counter _ _ _ (sym (e .before .is-unordered .ensures) ∙ e .if1 .left)
-    (sym (may .may-have-timeout-receipt .ensures) ∙ c .before .if2 .left))
+    let second = c .before .before in
+    let first = second .before in
+    sym (received-counter _ _ _ (sym (first .before .may-have-receipt .ensures) ∙ first .if1 .left)
+    (sym (second .may-have-timeout-receipt .ensures) ∙ c .before .if2 .left))
 
 pub is-received-spec : {M : Type 1} → statement M
 is-received-spec =
