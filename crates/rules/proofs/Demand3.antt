@@ -1,14 +1,14 @@
 -- Demand 3, for every pair of made stores and every list of calls. Assumes nothing.
-use Rattle.wire.proofs.Prelude.{_≡_, refl, sym, ap, _∙_, List, [], _++_, Option, ℕ, eqb, length, eqb-true}
-use Rattle.wire.specs.Names.{_and_, _or_, little, Bytes}
+use Rattle.wire.proofs.Prelude.{_≡_, refl, sym, ap, _∙_, Bool, List, [], _++_, Option, ℕ, eqb, length, eqb-true}
+use Rattle.wire.specs.Names.{_and_, _or_, pick, little, Bytes}
 use Rattle.wire.proofs.Laws.{cases}
 use Rattle.slots.specs.declared.Channel.{Channel}
-use Rattle.slots.specs.Names.{storeIn}
-use Rattle.datagram.specs.Names.{only, Kind, Datagram, framed, madeKind}
+use Rattle.slots.specs.Names.{storeIn, allowsTimeouts}
+use Rattle.datagram.specs.Names.{only, Kind, Datagram, framed, deliveredKind, lapsedKind, madeKind}
 use Rattle.rules.specs.declared.Told.{Told}
 use Rattle.rules.specs.Names.{newEnd, makesEnd, orNone, refusals, sentPacket, makes, moves, effectOf, effectFor}
 use Rattle.rules.specs.Names.{answerTo, effectIn, called, Call, datagramGot, Met, endOf, Recorded, Answered}
-use Rattle.rules.specs.Names.{Demand3Holds, lapses, receivedKind, comesLate}
+use Rattle.rules.specs.Names.{Demand3Holds, lapses, comesLate}
 use Rattle.rules.proofs.RefusalLaws.{first-given-zero}
 use Rattle.rules.proofs.KindLaws.{of-kinds, movesEnd, recordBy, packets-record}
 use Rattle.rules.proofs.Acted.{accepted-store, accepted-size, accepted-record, accepted-rest, refused-call}
@@ -20,7 +20,7 @@ use Rattle.rules.proofs.Ends.{ends-stay, numbers-rise}
 use Rattle.rules.proofs.Tries.{tries-answer}
 use Rattle.rules.proofs.Closes.{closes-answer}
 use Rattle.rules.proofs.Pairing.{stay-paired, opens-once}
-use Rattle.rules.proofs.OrderingLaws.{received-kind}
+use Rattle.rules.proofs.OrderingLaws.{lapse-late}
 use Rattle.rules.proofs.Delivery.{delivered-once, in-order}
 use Rattle.rules.proofs.Missing.{rising, missing}
 use Rattle.rules.proofs.Finishing.{finished-in-order, finished-counted}
@@ -39,11 +39,13 @@ recorded c m p q t =
     let d : Datagram = datagramGot c in
     let n : ℕ = storeIn (c .store) .next in
     let e = accepted-record c m t in
+    let told : Bool → ℕ = λ l. pick l lapsedKind deliveredKind in
     record {
       kind = λ k h o. a .kind ∙ ap (recordBy (lapses (a .step .channel) (comesLate d))) h ∙ packets-record _ k o;
       received = λ k. a .kind ∙ ap (recordBy (lapses (a .step .channel) (comesLate d))) k ∙
-          sym (received-kind (a .step .channel) (comesLate d)) ∙ ap (λ (e : Channel). receivedKind e (comesLate d))
-          (sym (ap orNone (a .step .found (ap makesEnd k))));
+          ap told (lapse-late (a .step .channel) (comesLate d) ∙
+          ap (λ (e : Channel). allowsTimeouts e and comesLate d)
+          (sym (ap orNone (a .step .found (ap makesEnd k)))));
       timedOut = λ k. a .kind ∙ ap (recordBy (lapses (a .step .channel) (comesLate d))) k;
       sent = λ k. acted-sent a k ∙ ap (λ (e : Channel). sentPacket e d)
           (sym (ap orNone (a .step .found (ap makesEnd k))));
