@@ -40,7 +40,6 @@ pub record WriteOk (s : Store) (d : Datagram) (c : Channel) : Type 0 where
   pub room : hasFree (s .records) ≡ true
 
 pub record AcknowledgeOk (s : Store) (d : Datagram) (c : Channel) : Type 0 where
-  pub state : c .state ≡ stateOpen
   pub committed : isCommitted (s .records) (d .packet) ≡ true
   pub inOrder : acknowledgesInOrder c (d .packet .sequence) ≡ true
   pub below : isAcknowledgeAtTop c ≡ false
@@ -148,7 +147,6 @@ module _ (bs : List ℕ) (room : ℕ) (b : List ℕ) (s : Store) (d : Datagram) 
   unfolding givenAt table only _or_
   acknowledge-ok h =
       record {
-        state = in-state stateOpen 5 (quiet 6 acknowledge h);
         committed = test-holds _ 12 (quiet 13 acknowledge h);
         inOrder = test-holds _ 14 (quiet 15 acknowledge h);
         below = not-given _ 18 (quiet 19 acknowledge h);
