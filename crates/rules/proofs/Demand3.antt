@@ -8,11 +8,11 @@ use Rattle.datagram.specs.Names.{only, Kind, Datagram, framed, deliveredKind, l
 use Rattle.rules.specs.declared.Told.{Told}
 use Rattle.rules.specs.Names.{newEnd, makesEnd, orNone, refusals, sentPacket, makes, moves, effectOf, effectFor}
 use Rattle.rules.specs.Names.{answerTo, effectIn, called, Call, datagramGot, Met, endOf, Recorded, Answered}
-use Rattle.rules.specs.Names.{Demand3Holds, lapses, comesLate}
+use Rattle.rules.specs.Names.{Demand3Holds, comesLate}
 use Rattle.rules.proofs.RefusalLaws.{first-given-zero}
-use Rattle.rules.proofs.KindLaws.{of-kinds, movesEnd, recordBy, packets-record}
+use Rattle.rules.proofs.KindLaws.{of-kinds, movesEnd, packets-record}
 use Rattle.rules.proofs.Acted.{accepted-store, accepted-size, accepted-record, accepted-rest, refused-call}
-use Rattle.rules.proofs.Acted.{acted, acted-sent, acted-carried}
+use Rattle.rules.proofs.Acted.{toldAs, acted, acted-sent, acted-carried}
 use Rattle.rules.proofs.History.{World, got-bytes}
 use Rattle.rules.proofs.Sums.{sums}
 use Rattle.rules.proofs.Once.{finished-once}
@@ -41,12 +41,12 @@ recorded c m p q t =
     let e = accepted-record c m t in
     let told : Bool → ℕ = λ l. pick l lapsedKind deliveredKind in
     record {
-      kind = λ k h o. a .kind ∙ ap (recordBy (lapses (a .step .channel) (comesLate d))) h ∙ packets-record _ k o;
-      received = λ k. a .kind ∙ ap (recordBy (lapses (a .step .channel) (comesLate d))) k ∙
+      kind = λ k h o. a .kind ∙ ap (toldAs (a .step .channel) d) h ∙ packets-record _ k o;
+      received = λ k. a .kind ∙ ap (toldAs (a .step .channel) d) k ∙
           ap told (lapse-late (a .step .channel) (comesLate d) ∙
           ap (λ (e : Channel). allowsTimeouts e and comesLate d)
           (sym (ap orNone (a .step .found (ap makesEnd k)))));
-      timedOut = λ k. a .kind ∙ ap (recordBy (lapses (a .step .channel) (comesLate d))) k;
+      timedOut = λ k. a .kind ∙ ap (toldAs (a .step .channel) d) k;
       sent = λ k. acted-sent a k ∙ ap (λ (e : Channel). sentPacket e d)
           (sym (ap orNone (a .step .found (ap makesEnd k))));
       carried = acted-carried a;

@@ -1,21 +1,19 @@
 -- Demand 3: at ends that are not unordered packets are acknowledged, and where timeouts are allowed also timed out, in
 -- order while the end is OPEN, and next acknowledge counts them. Assumes nothing.
 use Rattle.wire.proofs.Prelude.{some, _≡_, refl, sym, ap, subst, _∙_, Bool, true, false, List, ⊎-elim, ℕ, _≤_, suc}
-use Rattle.wire.proofs.Prelude.{arith, eqb, length, take, take-length, leb-true, eqb-true, eq-eqb}
-use Rattle.wire.specs.Names.{_and_, _or_}
+use Rattle.wire.proofs.Prelude.{arith, length, take, take-length, leb-true, eqb-true, eq-eqb}
+use Rattle.wire.specs.Names.{_or_}
 use Rattle.wire.proofs.Laws.{and-both, both-and, or-either, clash, cases}
 use Rattle.slots.specs.declared.Channel.{Channel}
 use Rattle.slots.specs.Names.{stateOpen, stateClosed, isOrder, channelAt, storeIn, Store, isUnordered, allowsTimeouts}
 use Rattle.openings.specs.Opening.{openingOf}
 use Rattle.datagram.specs.declared.Packet.{Packet}
-use Rattle.datagram.specs.Names.{only, Datagram, deliveredKind, acknowledgedKind, timedOutKind, lapsedKind}
-use Rattle.rules.specs.Names.{FinishedCounted, storeAfter, counted, moved, lapses, comesLate, sends, receives}
-use Rattle.rules.specs.Names.{writesAcknowledgement, acknowledges, timesOut, makes, moves, Effect, Side, Call}
-use Rattle.rules.specs.Names.{datagramGot, howMany, isOn, isAccepted, hasEmitted, isAcknowledgement, isTimeout}
-use Rattle.rules.specs.Names.{finishes, packetOf, isBy, FinishedInOrder}
+use Rattle.datagram.specs.Names.{only, Datagram, acknowledgedKind, timedOutKind}
+use Rattle.rules.specs.Names.{FinishedCounted, storeAfter, counted, moved, sends, receives, writesAcknowledgement}
+use Rattle.rules.specs.Names.{acknowledges, timesOut, makes, moves, Effect, Side, Call, datagramGot, howMany}
+use Rattle.rules.specs.Names.{isOn, isAccepted, isAcknowledgement, finishes, packetOf, isBy, FinishedInOrder}
 use Rattle.rules.proofs.KindLaws.{finishesPacket, finishes-old, finishes-carries, recordOf, emitsRecord}
-use Rattle.rules.proofs.KindLaws.{makes-no-packet, moves-no-packet, record-timed-out, record-other}
-use Rattle.rules.proofs.KindLaws.{record-finishes}
+use Rattle.rules.proofs.KindLaws.{makes-no-packet, moves-no-packet, record-timed-out}
 use Rattle.rules.proofs.OrderingLaws as ordering
 use Rattle.rules.proofs.Growth.{Grown}
 use Rattle.rules.proofs.Step.{toOpen, toClosed, How, sending, receiving, writing, acknowledging, timing, making}
@@ -23,8 +21,9 @@ use Rattle.rules.proofs.Step.{moving, Step, endLeft, leftEnd, own-found
 use Rattle.rules.proofs.Receipt.{one-channel}
 use Rattle.rules.proofs.Opening.{Sending, finish-opened}
 use Rattle.rules.proofs.FitStep.{own-known}
-use Rattle.rules.proofs.Acted.{acted-carried}
-use Rattle.rules.proofs.History.{side-refl, World, ledger, Acts, acts, Turn}
+use Rattle.rules.proofs.Acted.{acted-carried, emits-as, finishes-as}
+use Rattle.rules.proofs.History.{side-refl, World, ledger, acts, Turn}
+use Rattle.rules.proofs.Once.{finish-accepted}
 use Rattle.rules.proofs.Sums.{finished-own}
 use Rattle.rules.proofs.Ends.{sends-opened}
 use Rattle.rules.proofs.Counter.{Counted, counted-at}
@@ -98,33 +97,13 @@ module _ {s t : Store} {d : Datagram} (st : Step s d t) (f : finishesPacket (d .
       go e (moving q m) = clash f (moves-no-packet (d .kind) q .4)
 
 module _ (w : World) where
-  -- BY THE RECORD that an accepted call emitted
-  module _ {z : Side} {i : ℕ} {c : Call} (a : Acts w z i c) where
-    emits-as : (m : ℕ) → (m ≡ lapsedKind → ⊥) → (m ≡ deliveredKind → ⊥) →
-        hasEmitted m c ≡ emitsRecord m (datagramGot c .kind)
-    unfolding _and_
-    emits-as m p q =
-        let t = eq-eqb (c .told .number) 0 (a .told) in
-        let y = ap (λ (k : ℕ). eqb k m) (a .acted .kind) ∙
-        record-other (lapses (a .acted .step .channel) (comesLate (datagramGot c))) (datagramGot c .kind) m p q in
-        cc
-
-    acknowledges-as : isAcknowledgement c ≡ emitsRecord acknowledgedKind (datagramGot c .kind)
-    acknowledges-as = emits-as acknowledgedKind (λ q. omega arith) (λ q. omega arith)
-
-    finishes-as : finishes c ≡ finishesPacket (datagramGot c .kind)
-    finishes-as =
-        ap (λ (b : Bool). b or isTimeout c) acknowledges-as ∙
-        ap (λ (b : Bool). emitsRecord acknowledgedKind (datagramGot c .kind) or b)
-        (emits-as timedOutKind (λ q. omega arith) (λ q. omega arith)) ∙ record-finishes (datagramGot c .kind)
-
   abbrev isFinished : Side → (channel : ℕ) → Call → Bool
   isFinished z n c = isBy z n finishes c
 
   finishes-on : (z : Side) (n : ℕ) (c : Call) → isFinished z n c ≡ true → (isOn z c ≡ true) × (isAccepted c ≡ true)
   finishes-on z n c h =
       let a = and-both (and-both h .0) in
-      (a .0, ⊎-elim (λ e. and-both e .0) (λ e. and-both e .0) (or-either (a .1)))
+      (a .0, finish-accepted c (a .1))
 
   -- NEXT ACKNOWLEDGE counts what was finished
   next-acknowledge : (z : Side) (n i : ℕ) → Counted w InTurn (λ c. c .next .acknowledge) isFinished
@@ -136,7 +115,7 @@ module _ (w : World) where
       (λ z n i u q.
       let a = u .acts .acted in
       let h = and-both q in
-      let f = sym (finishes-as (u .acts)) ∙ and-both (h .0) .1 in
+      let f = sym (finishes-as a (u .acts .told)) ∙ and-both (h .0) .1 in
       record {
         old = finishes-old (datagramGot (u .call) .kind) f;
         number = sym (finished-own a f) ∙ eqb-true (packetOf (u .call) .source .channel) n (h .1);
@@ -148,15 +127,17 @@ module _ (w : World) where
           u .acts .acted .step .channel .own .channel ≡ n → finishesPacket (datagramGot (u .call) .kind) ≡ false
       not-finished z n i u q number =
           cases (finishesPacket (datagramGot (u .call) .kind))
-          (λ f. clash (both-and (both-and (rw (u .acts .side) (side-refl z)) (finishes-as (u .acts) ∙ f))
+          (λ f. clash (both-and
+          (both-and (rw (u .acts .side) (side-refl z)) (finishes-as (u .acts .acted) (u .acts .told) ∙ f))
           (eq-eqb (packetOf (u .call) .source .channel) n (finished-own (u .acts .acted) f ∙ number))) q) (λ f. f)
 
   pub finished-in-order : FinishedInOrder (w .calls)
   finished-in-order i c e h f g u o k =
       let n = packetOf c .source .channel in
-      let a = acts w i c h (eqb-true (c .told .number) 0 (accepted f)) in
+      let a = acts w i c h (eqb-true (c .told .number) 0 (finish-accepted c f)) in
       let st = a .acted .step in
-      let q = sym (finishes-as a) ∙ f in
+      let q = sym (finishes-as (a .acted) (a .told)) ∙ f in
+      let ack = emits-as (a .acted) (a .told) acknowledgedKind (λ q. omega arith) (λ q. omega arith) in
       let there = ap (λ (m : ℕ). channelAt m (ledger w (c .side) i .channels)) (finished-own (a .acted) q) ∙
       own-found st (finishes-old (datagramGot c .kind) q) in
       let same = one-channel (ledger w (c .side) i) n
@@ -167,11 +148,8 @@ module _ (w : World) where
       (howMany (isFinished (c .side) n) (take i (w .calls))) =
       subst (Counted w InTurn (λ c. c .next .acknowledge) isFinished _) there (next-acknowledge (c .side) n i) in
       ap (λ (p : Packet). p .sequence) (acted-carried (a .acted) (finishes-carries (datagramGot c .kind) q)) ∙
-      finish-next st q us now (ap (λ (b : Bool). b or allowsTimeouts (st .channel)) (sym (acknowledges-as a)) ∙
+      finish-next st q us now (ap (λ (b : Bool). b or allowsTimeouts (st .channel)) (sym ack) ∙
       ap (λ (x : Channel). isAcknowledgement c or allowsTimeouts x) (sym same) ∙ k) ∙ v (us, λ x. omega arith)
-    where
-      accepted : finishes c ≡ true → isAccepted c ≡ true
-      accepted f = ⊎-elim (λ e. and-both e .0) (λ e. and-both e .0) (or-either f)
 
   pub finished-counted : FinishedCounted (w .start) (w .calls)
   finished-counted = subst (λ (cs : List Call). (z : Side) (n : ℕ) (c : Channel) →

@@ -1,7 +1,7 @@
 -- Laws of sets of kinds: what holds of each kind of a set holds of a datagram of one of them; the set is computed.
 -- Assumes nothing.
 use Rattle.wire.proofs.Prelude.{_≡_, refl, sym, ap, _∙_, Bool, true, false, [], _∷_, Option, none, some, ℕ, _+_, eqb}
-use Rattle.wire.proofs.Prelude.{ne-eqb}
+use Rattle.wire.proofs.Prelude.{eqb-true, ne-eqb}
 use Rattle.wire.specs.Names.{_and_, _or_, pick, Every}
 use Rattle.wire.proofs.Laws.{and-both, clash, cases}
 use Rattle.datagram.specs.Names.{only, body, hasPart, Kind, send, receive, write, acknowledge, timeOut, openInit}
@@ -81,11 +81,12 @@ pub is-receive : (x : Option Kind) → isOf receive x ≡ true → x ≡ some re
 is-receive x h = of-kinds (λ y. y ≡ some receive) (isOf receive) refl x (refl, tt) h
 
 -- any other record is the kind's, and where it is a receive's nothing lapses
-pub record-by : (l : Bool) (x : Option Kind) (m : ℕ) → (m ≡ lapsedKind → ⊥) → recordBy l x ≡ m →
-    (recordOf x ≡ m) × (x ≡ some receive → l ≡ false)
+pub record-by : (l : Bool) (x : Option Kind) (m : ℕ) → (m ≡ lapsedKind → ⊥) → eqb (recordBy l x) m ≡ true →
+    (emitsRecord m x ≡ true) × (x ≡ some receive → l ≡ false)
 unfolding _and_
 record-by l x m n h =
-    cases (isOf receive x and l) (λ q. let z : lapsedKind ≡ m = cc in absurd (n (sym z)))
+    cases (isOf receive x and l)
+    (λ q. let z : eqb lapsedKind m ≡ true = cc in absurd (n (sym (eqb-true lapsedKind m z))))
     (λ q. (cc, λ k. let r = ap (isOf receive) k in cc))
 
 pub by-delivered : (l : Bool) (x : Option Kind) → x ≡ some receive → l ≡ false → recordBy l x ≡ deliveredKind

@@ -33,7 +33,7 @@ use Rattle.rules.proofs.Receipt.{receive-of}
 use Rattle.rules.proofs.Opening.{finish-opened}
 use Rattle.rules.proofs.Acted.{acted-carried}
 use Rattle.rules.proofs.History.{across-across, World, ledger, ledger-fits, used-back}
-use Rattle.rules.proofs.Once.{Did, did, delivery-sender, finish-sender}
+use Rattle.rules.proofs.Once.{Did, did, delivery-sender, other-sender}
 use Rattle.rules.proofs.Ends.{either, grows-into, sends-opened}
 use Rattle.rules.proofs.Block.{Within, within, truth}
 use Rattle.rules.proofs.Delivery.{Delivered, delivered, received-since}
@@ -224,7 +224,6 @@ module _ (w : World) (honest : Honest settling (w .start) (w .calls)) (pairs : P
 
 pub not-both : (w : World) → Honest settling (w .start) (w .calls) → Paired (w .start) → NotBoth (w .calls)
 not-both w honest pairs i j c e h k a b s =
-    let f = did w timedOutKind j e (λ q. omega arith) k b in
-    never w honest pairs i j c e (delivered w i c h a) f
-    (sym (finish-sender w timedOutKind j e f (λ q. omega arith)) ∙ sym (s .ledger) ∙ delivery-sender w c a)
+    never w honest pairs i j c e (delivered w i c h a) (did w timedOutKind j e (λ q. omega arith) k b)
+    (sym (other-sender timedOutKind e (λ q. omega arith) b) ∙ sym (s .ledger) ∙ delivery-sender c a)
     (s .channel) (s .sequence)
