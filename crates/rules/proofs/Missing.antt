@@ -18,7 +18,7 @@ use Rattle.rules.proofs.Step.{Step, later-some, later}
 use Rattle.rules.proofs.Receipt.{Received, one-channel, receive-of, receive-after, received-back}
 use Rattle.rules.proofs.History.{side-eq, at-length, made-read, as-made, World, ledger, Turn, Quiet, turn, kept}
 use Rattle.rules.proofs.Ends.{grows-into}
-use Rattle.rules.proofs.Delivery.{carried, Delivered, delivered, delivered-there, delivered-on, received-since}
+use Rattle.rules.proofs.Delivery.{carried, Delivered, delivered, endTo, delivered-on, received-since}
 use Rattle.rules.proofs.Delivery.{delivers-at}
 
 -- WHAT WAS TAKEN IN ORDER stays below next receive
@@ -36,8 +36,8 @@ past-stays {s} {n = n} st p =
 
 module _ (w : World) where
   -- a delivery takes next receive, and its sequence is below it afterwards
-  took : (i : ℕ) (c : Call) (d : Delivered w i c) → isUnordered (d .acts .acted .step .channel) ≡ false →
-      (packetOf c .sequence ≡ d .acts .acted .step .channel .next .receive) ×
+  took : (i : ℕ) (c : Call) (d : Delivered w i c) → isUnordered (endTo w d) ≡ false →
+      (packetOf c .sequence ≡ endTo w d .next .receive) ×
       Past (ledger w (c .side) (suc i)) (packetOf c .destination .channel) (packetOf c .sequence)
   took i c d u =
       let st = d .acts .acted .step in
@@ -58,15 +58,14 @@ module _ (w : World) where
   rising i j c d e h k l a b z n f u =
       let x = delivered w i c h a in
       let y = delivered w j d k b in
-      let s = x .acts .acted .step .channel in
-      let t = y .acts .acted .step .channel in
+      let s = endTo w x in
+      let t = endTo w y in
       let us = ap isUnordered (sym (delivered-on w i c e x f)) ∙ u in
       let p = kept w (λ (s : Store). Past s (packetOf c .destination .channel) (packetOf c .sequence))
       (λ s t d. past-stays) (c .side) (suc i) j l (took i c x us .1) in
       let found : channelAt (packetOf c .destination .channel) (ledger w (c .side) j .channels) ≡ some t =
-      subst₂ (λ (v : Side) (m : ℕ). channelAt m (ledger w v j .channels) ≡ some t) z n
-      (delivered-there w j d y) in
-      let g = grows-into w (c .side) i j _ s t (omega arith) (delivered-there w i c x) found in
+      subst₂ (λ (v : Side) (m : ℕ). channelAt m (ledger w v j .channels) ≡ some t) z n (y .found) in
+      let g = grows-into w (c .side) i j _ s t (omega arith) (x .found) found in
       let ut = ordering.unordered-same s t (g .order) ∙ us in
       let same = one-channel (ledger w (c .side) j) _ (p .found) found in
       let m = subst (λ (v : Channel). packetOf c .sequence < v .next .receive) same (p .below) in

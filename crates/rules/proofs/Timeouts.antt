@@ -36,7 +36,7 @@ use Rattle.rules.proofs.History.{across-across, World, ledger, ledger-f
 use Rattle.rules.proofs.Once.{Did, did, delivery-sender, other-sender}
 use Rattle.rules.proofs.Ends.{either, grows-into, sends-opened}
 use Rattle.rules.proofs.Block.{Within, within, truth}
-use Rattle.rules.proofs.Delivery.{Delivered, delivered, received-since}
+use Rattle.rules.proofs.Delivery.{Delivered, delivered, endTo, received-since}
 use Rattle.rules.proofs.Truth.{claimed, source-end}
 
 -- what passed by then has passed later too
@@ -140,7 +140,7 @@ module _ (w : World) (honest : Honest settling (w .start) (w .calls)) (pairs : P
       ap (λ (x : Packet). x .timeout) (d .packet)
 
   -- the time-out's end is the one that the packet was sent from, and names the one that it came to
-  sent-from : (st .channel .counterparty ≡ packetOf c .destination) × (st .channel .order ≡ d .end .order)
+  sent-from : (st .channel .counterparty ≡ packetOf c .destination) × (st .channel .order ≡ endTo w d .order)
   sent-from =
       let g = subst₂ (λ (n : ℕ) (y : Side). channelAt n (ledger w y j .channels) ≡ some (st .channel))
       (finish-source st finishes-it ∙ source) across-is
@@ -182,7 +182,7 @@ module _ (w : World) (honest : Honest settling (w .start) (w .calls)) (pairs : P
   not-before l =
       let r = received-since w i c d (b .time) l in
       let n = ap (λ (x : PortChannel). x .channel) to in
-      let g = grows-into w (c .side) i (b .time) _ (d .end) (r .channel) (omega arith) (d .found) (r .found) in
+      let g = grows-into w (c .side) i (b .time) _ (endTo w d) (r .channel) (omega arith) (d .found) (r .found) in
       let found = ap (λ (m : ℕ). channelAt m (ledger w (c .side) (b .time) .channels)) n ∙ r .found in
       let absent = absent-not-received (ok .onClose) (ledger w (c .side) (b .time)) (st .channel) (r .channel) p v
       (g .order ∙ sym (sent-from .1)) found (channel-number _ _ _ found) (ok .about) (ok .untaken)
@@ -194,7 +194,7 @@ module _ (w : World) (honest : Honest settling (w .start) (w .calls)) (pairs : P
   not-late : isProvedLate (p .timeout) v ≡ true → ⊥
   not-late late =
       let a : AcceptedOn (c .side) (w .calls) i c = record { at = d .acts .at; side = refl; told = d .acts .told } in
-      let early = delivered-early (d .acts .acted .step .channel) (comesLate (datagramGot c))
+      let early = delivered-early (endTo w d) (comesLate (datagramGot c))
       (receive-of (d .acts .acted .step) (d .kind) .0 .early) (d .kept) in
       not-before (b .all i c a (in-block c (p .timeout) v late (rw one-timeout early)
       (truth-here .notAbove i c a)))
@@ -210,7 +210,7 @@ module _ (w : World) (honest : Honest settling (w .start) (w .calls)) (pairs : P
       (sym (shut .one .own ∙ sent-from .0)) in
       cases (ltb i (b .time)) (λ q. not-before (ltb-true i (b .time) q))
       (λ q.
-      let g = grows-into w (c .side) (b .time) i _ (y .0) (d .end) (ltb-false i (b .time) q) (n ∙ y .1) (d .found) in
+      let g = grows-into w (c .side) (b .time) i _ (y .0) (endTo w d) (ltb-false i (b .time) q) (n ∙ y .1) (d .found) in
       let now = g .state .closed (sym (y .2 .state) ∙ shut .state) in
       let then = d .state in
       omega arith)
