@@ -9,9 +9,9 @@ use Rattle.slots.specs.declared.PortChannel.{PortChannel}
 use Rattle.slots.specs.declared.Channel.{Channel}
 use Rattle.slots.specs.declared.Record.{Record}
 use Rattle.slots.specs.declared.Key.{Key}
-use Rattle.slots.specs.Names.{mayHaveTimeoutReceipt, orderAllowTimeout, receiptKind, timeoutReceiptKind, noTimeout}
-use Rattle.slots.specs.Names.{hasFree, channelAt, receiptKey, timeoutReceiptKey, lookup, Store, isUnordered}
-use Rattle.slots.specs.Names.{allowsTimeouts, isTaken, isLapsed, isReceived, hasReceipt, hasTimeoutReceipt}
+use Rattle.slots.specs.Names.{mayHaveTimeoutReceipt, receiptKind, timeoutReceiptKind, noTimeout, hasFree, channelAt}
+use Rattle.slots.specs.Names.{receiptKey, timeoutReceiptKey, lookup, Store, isUnordered, allowsTimeouts, isTaken}
+use Rattle.slots.specs.Names.{isLapsed, isReceived, hasReceipt, hasTimeoutReceipt}
 use Rattle.slots.proofs.Laws.{allowed-not-unordered, Single, lookup-insert, lookup-insert-other}
 use Rattle.datagram.specs.declared.Packet.{Packet}
 use Rattle.datagram.specs.declared.Verdict.{Verdict}
@@ -20,8 +20,8 @@ use Rattle.rules.specs.Names.{claimHolds, plainRecord, counted, receives
 use Rattle.rules.specs.Names.{raisesReceive, receivedEnd, receivedEdit, absenceClaim, absenceDifference}
 use Rattle.rules.specs.Names.{claimsNext, claimsTaken, edited}
 use Rattle.rules.proofs.VerdictLaws.{about, claim-absent, claim-next, claim-lapsed}
-use Rattle.rules.proofs.OrderingLaws.{lapse-allowed, lapse-raises, next-taken, raises-ordered}
-use Rattle.rules.proofs.OrderingLaws.{receipt, receipt-absent}
+use Rattle.rules.proofs.OrderingLaws.{allows-same, lapse-allowed, lapse-raises, next-taken}
+use Rattle.rules.proofs.OrderingLaws.{raises-ordered, receipt, receipt-absent}
 
 -- it was not taken before
 pub take-new : (rs : List (Option Record)) (c : Channel) (n : ℕ) → receivesInOrder c n ≡ true →
@@ -60,15 +60,14 @@ pub received-from : (rs ts : List (Option Record)) (c e : Channel) (n : ℕ) →
     (hasReceipt rs c n ≡ true → hasReceipt ts e n ≡ true) →
     (hasTimeoutReceipt ts e n ≡ true → hasTimeoutReceipt rs c n ≡ true) →
     isReceived rs c n ≡ true → isReceived ts e n ≡ true
-unfolding isReceived isLapsed allowsTimeouts
+unfolding isReceived isLapsed
 received-from rs ts c e n o g k l h =
     let a = and-both h in
     both-and (taken-from rs ts c e n o g k (a .0))
     (ap not (cases (isLapsed ts e n)
     (λ q.
     let b = and-both q in
-    let x = ap (λ (m : ℕ). eqb m orderAllowTimeout) (sym o) ∙ b .0 in
-    clash (both-and x (l (b .1))) (not-true (isLapsed rs c n) (a .1))) (λ q. q)))
+    clash (both-and (sym (allows-same c e o) ∙ b .0) (l (b .1))) (not-true (isLapsed rs c n) (a .1))) (λ q. q)))
 
 -- on an end that is not unordered: below next receive, and not lapsed
 pub received-ordered : (rs : List (Option Record)) (c : Channel) (n : ℕ) → isUnordered c ≡ false →
