@@ -1,17 +1,17 @@
 -- Demand 3: at ends that are not unordered packets are acknowledged, and where timeouts are allowed also timed out, in
 -- order while the end is OPEN, and next acknowledge counts them. Assumes nothing.
 use Rattle.wire.proofs.Prelude.{some, _≡_, refl, sym, ap, subst, _∙_, Bool, true, false, List, ⊎-elim, ℕ, _≤_, suc}
-use Rattle.wire.proofs.Prelude.{arith, length, take, take-length, leb-true, eqb-true, eq-eqb}
+use Rattle.wire.proofs.Prelude.{arith, length, take, take-length, leb-true, eqb-true}
 use Rattle.wire.specs.Names.{_or_}
-use Rattle.wire.proofs.Laws.{and-both, both-and, or-either, clash, cases}
+use Rattle.wire.proofs.Laws.{and-both, or-either, clash}
 use Rattle.slots.specs.declared.Channel.{Channel}
 use Rattle.slots.specs.Names.{stateOpen, stateClosed, isOrder, channelAt, storeIn, Store, isUnordered, allowsTimeouts}
 use Rattle.openings.specs.Opening.{openingOf}
 use Rattle.datagram.specs.declared.Packet.{Packet}
 use Rattle.datagram.specs.Names.{only, Datagram, acknowledgedKind, timedOutKind}
-use Rattle.rules.specs.Names.{FinishedCounted, storeAfter, counted, moved, sends, receives, writesAcknowledgement}
-use Rattle.rules.specs.Names.{acknowledges, timesOut, makes, moves, Effect, Side, Call, datagramGot, howMany}
-use Rattle.rules.specs.Names.{isOn, isAccepted, isAcknowledgement, finishes, packetOf, isBy, FinishedInOrder}
+use Rattle.rules.specs.Names.{FinishedCounted, counted, moved, sends, receives, writesAcknowledgement}
+use Rattle.rules.specs.Names.{acknowledges, timesOut, makes, moves, Effect, Side, datagramGot, howMany}
+use Rattle.rules.specs.Names.{isAcknowledgement, finishes, packetOf, isBy, FinishedInOrder}
 use Rattle.rules.proofs.KindLaws.{finishesPacket, finishes-old, finishes-carries, recordOf, emitsRecord}
 use Rattle.rules.proofs.KindLaws.{makes-no-packet, moves-no-packet, record-timed-out}
 use Rattle.rules.proofs.OrderingLaws as ordering
@@ -22,11 +22,11 @@ use Rattle.rules.proofs.Receipt.{one-channel}
 use Rattle.rules.proofs.Opening.{Sending, finish-opened}
 use Rattle.rules.proofs.FitStep.{own-known}
 use Rattle.rules.proofs.Acted.{acted-carried, emits-as, finishes-as}
-use Rattle.rules.proofs.History.{side-refl, World, ledger, acts, Turn}
+use Rattle.rules.proofs.History.{World, ledger, acts}
 use Rattle.rules.proofs.Once.{finish-accepted}
 use Rattle.rules.proofs.Sums.{finished-own}
 use Rattle.rules.proofs.Ends.{sends-opened}
-use Rattle.rules.proofs.Counter.{Counted, counted-at}
+use Rattle.rules.proofs.Counter.{counted-end}
 
 -- AN END WHERE PACKETS ARE FINISHED IN ORDER: not unordered, and not CLOSED
 abbrev InTurn : Channel → Type 0
@@ -87,7 +87,7 @@ module _ {s t : Store} {d : Datagram} (st : Step s d t) (f : finishesPacket (d .
       go e (writing q ok) = clash f (ap finishesPacket q)
       go e (acknowledging q ok) = ordering.acknowledged-next (st .channel) (d .packet .sequence) u (ok .inOrder)
       go e (timing q ok) =
-          ⊎-elim (λ a. absurd (omega (
+          ⊎-elim (λ (a : emitsRecord acknowledgedKind (d .kind) ≡ true). absurd (omega (
             arith,
             eqb-true (recordOf (d .kind)) acknowledgedKind a,
             eqb-true (recordOf (d .kind)) timedOutKind q,
@@ -97,39 +97,24 @@ module _ {s t : Store} {d : Datagram} (st : Step s d t) (f : finishesPacket (d .
       go e (moving q m) = clash f (moves-no-packet (d .kind) q .4)
 
 module _ (w : World) where
-  abbrev isFinished : Side → (channel : ℕ) → Call → Bool
-  isFinished z n c = isBy z n finishes c
-
-  finishes-on : (z : Side) (n : ℕ) (c : Call) → isFinished z n c ≡ true → (isOn z c ≡ true) × (isAccepted c ≡ true)
-  finishes-on z n c h =
-      let a = and-both (and-both h .0) in
-      (a .0, finish-accepted c (a .1))
-
   -- NEXT ACKNOWLEDGE counts what was finished
-  next-acknowledge : (z : Side) (n i : ℕ) → Counted w InTurn (λ c. c .next .acknowledge) isFinished
-      (howMany (isFinished z n) (take i (w .calls))) (channelAt n (ledger w z i .channels))
+  next-acknowledge : (z : Side) (n i : ℕ) (c : Channel) → channelAt n (ledger w z i .channels) ≡ some c → InTurn c →
+      c .next .acknowledge ≡ suc (howMany (isBy z n finishes) (take i (w .calls)))
   unfolding openingOf
   next-acknowledge =
-      counted-at w InTurn (λ c. c .next .acknowledge) isFinished finishes-on turn-back (λ o. refl)
-      (λ n e f. f .acknowledge)
-      (λ z n i u q.
+      counted-end w InTurn (λ c. c .next .acknowledge) finishes (λ c. packetOf c .source .channel) finish-accepted
+      turn-back (λ o. refl) (λ n e f. f .acknowledge)
+      (λ z i u q.
       let a = u .acts .acted in
-      let h = and-both q in
-      let f = sym (finishes-as a (u .acts .told)) ∙ and-both (h .0) .1 in
+      let f = sym (finishes-as a (u .acts .told)) ∙ q in
       record {
         old = finishes-old (datagramGot (u .call) .kind) f;
-        number = sym (finished-own a f) ∙ eqb-true (packetOf (u .call) .source .channel) n (h .1);
+        number = sym (finished-own a f);
         rises = finish-rises (a .step) f (sends-opened w z i);
       })
-      (λ z n i u q number k. acknowledge-kept (u .acts .acted .step .how) (not-finished z n i u q number))
-    where
-      not-finished : (z : Side) (n i : ℕ) (u : Turn w z i) → isFinished z n (u .call) ≡ false →
-          u .acts .acted .step .channel .own .channel ≡ n → finishesPacket (datagramGot (u .call) .kind) ≡ false
-      not-finished z n i u q number =
-          cases (finishesPacket (datagramGot (u .call) .kind))
-          (λ f. clash (both-and
-          (both-and (rw (u .acts .side) (side-refl z)) (finishes-as (u .acts .acted) (u .acts .told) ∙ f))
-          (eq-eqb (packetOf (u .call) .source .channel) n (finished-own (u .acts .acted) f ∙ number))) q) (λ f. f)
+      (λ z i u q k.
+      let a = u .acts .acted in
+      acknowledge-kept (a .step .how) (sym (finishes-as a (u .acts .told)) ∙ q))
 
   pub finished-in-order : FinishedInOrder (w .calls)
   finished-in-order i c e h f g u o k =
@@ -144,20 +129,12 @@ module _ (w : World) where
       (ap (λ (bs : List ℕ). channelAt n (storeIn bs .channels)) (sym (w .run .got i c h)) ∙ g) there in
       let us = ap isUnordered (sym same) ∙ u in
       let now = ap (λ (x : Channel). x .state) (sym same) ∙ o in
-      let v : InTurn (st .channel) → st .channel .next .acknowledge ≡ suc
-      (howMany (isFinished (c .side) n) (take i (w .calls))) =
-      subst (Counted w InTurn (λ c. c .next .acknowledge) isFinished _) there (next-acknowledge (c .side) n i) in
       ap (λ (p : Packet). p .sequence) (acted-carried (a .acted) (finishes-carries (datagramGot c .kind) q)) ∙
       finish-next st q us now (ap (λ (b : Bool). b or allowsTimeouts (st .channel)) (sym ack) ∙
-      ap (λ (x : Channel). isAcknowledgement c or allowsTimeouts x) (sym same) ∙ k) ∙ v (us, λ x. omega arith)
+      ap (λ (x : Channel). isAcknowledgement c or allowsTimeouts x) (sym same) ∙ k) ∙
+      next-acknowledge (c .side) n i (st .channel) there (us, λ x. omega arith)
 
   pub finished-counted : FinishedCounted (w .start) (w .calls)
-  finished-counted = subst (λ (cs : List Call). (z : Side) (n : ℕ) (c : Channel) →
-      channelAt n (storeIn (storeAfter (isOn z) (w .start z) cs) .channels) ≡ some c → isUnordered c ≡ false →
-      c .state ≡ stateOpen → c .next .acknowledge ≡ suc (howMany (isFinished z n) cs)) (take-length (w .calls))
-      (λ z n c f u o.
-      let v : InTurn c → c .next .acknowledge ≡ suc
-      (howMany (isFinished z n) (take (length (w .calls)) (w .calls))) =
-      subst (Counted w InTurn (λ c. c .next .acknowledge) isFinished _) f
-      (next-acknowledge z n (length (w .calls))) in
-      v (u, λ x. omega arith))
+  finished-counted =
+      subst (FinishedCounted (w .start)) (take-length (w .calls))
+      (λ z n c f u o. next-acknowledge z n (length (w .calls)) c f (u, λ x. omega arith))

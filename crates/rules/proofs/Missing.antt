@@ -1,8 +1,8 @@
 -- Demand 3: at ends that are not unordered deliveries rise, and below next receive those that lapsed are missing.
 -- Assumes nothing.
 use Rattle.wire.proofs.Prelude.{_≡_, refl, sym, ap, subst, subst₂, _∙_, subst₃, not, false, List, inl, inr, _⊎_, ⊎-elim}
-use Rattle.wire.proofs.Prelude.{_↔_, some, ℕ, _≤_, _<_, zero, suc, arith, length, take-length, ltb-true, lt-ltb}
-use Rattle.wire.proofs.Prelude.{eqb-true, not-true}
+use Rattle.wire.proofs.Prelude.{some, ℕ, _≤_, _<_, zero, suc, arith, length, take-length, ltb-true, lt-ltb, eqb-true}
+use Rattle.wire.proofs.Prelude.{not-true}
 use Rattle.wire.proofs.Laws.{and-both, both-and, clash}
 use Rattle.slots.specs.declared.Channel.{Channel}
 use Rattle.slots.specs.Names.{channelAt, receiptKey, lookup, storeIn, Store, isUnordered, isLapsed, isReceived}
@@ -93,45 +93,44 @@ module _ (w : World) where
             place = i;
             call = u .call;
             at = a .at;
-            delivers = delivers-at w z n i (u .call) a (d .kind) (d .channel) (d .kept);
+            delivers = delivers-at w a n (d .kind) (d .channel) (d .kept);
             sequence = ap (λ (p : Packet). p .sequence) (carried w a (d .kind)) ∙ d .sequence;
           }) (received-back (a .acted .step) l r)
 
-  module _ (z : Side) (n m : ℕ) (c : Channel) (found : channelAt n (ledger w z (length (w .calls)) .channels) ≡ some c)
+  abbrev last : Side → Store
+  last z = storeIn (storeAfter (isOn z) (w .start z) (w .calls))
+
+  module _ (z : Side) (n m : ℕ) (c : Channel) (found : channelAt n (last z .channels) ≡ some c)
       (u : isUnordered c ≡ false) where
-    abbrev last : Store
-    last = ledger w z (length (w .calls))
+    at-last : ledger w z (length (w .calls)) ≡ last z
+    at-last = ap (λ (cs : List Call). storeIn (storeAfter (isOn z) (w .start z) cs)) (take-length (w .calls))
 
     delivered-below : DeliveredAt (w .calls) z n m →
-        (1 ≤ m) × (m < c .next .receive) × (isLapsed (last .records) c m ≡ false)
+        (1 ≤ m) × (m < c .next .receive) × (isLapsed (last z .records) c m ≡ false)
     delivered-below d =
         let e = d .call in
         let h = and-both (d .delivers) in
         let g = delivered w (d .place) e (d .at) (and-both (h .0) .1) in
         let x = received-since w (d .place) e g (length (w .calls)) (at-length (w .calls) (d .place) e (d .at)) in
-        let r : Received last n m =
-        subst₃ (λ (v : Side) (k j : ℕ). Received (ledger w v (length (w .calls))) k j)
-        (sym (side-eq z (e .side) (and-both (h .0) .0))) (eqb-true _ n (h .1)) (d .sequence) x in
-        let q = ap (λ (v : Channel). isReceived (last .records) v m) (sym (one-channel last n (r .found) found)) ∙
+        let r = subst (λ (s : Store). Received s n m) at-last
+        (subst₃ (λ (v : Side) (k j : ℕ). Received (ledger w v (length (w .calls))) k j)
+        (sym (side-eq z (e .side) (and-both (h .0) .0))) (eqb-true _ n (h .1)) (d .sequence) x) in
+        let q = ap (λ (v : Channel). isReceived (last z .records) v m) (sym (one-channel (last z) n (r .found) found)) ∙
         r .received in
-        let b = and-both (sym (received.received-ordered (last .records) c m u) ∙ q) in
+        let b = and-both (sym (received.received-ordered (last z .records) c m u) ∙ q) in
         let one = g .acts .acted .step .shape .received (g .kind) in
         let num = sym (ap (λ (p : Packet). p .sequence) (g .packet)) ∙ d .sequence in
         (omega arith, ltb-true m (c .next .receive) (b .0), not-true _ (b .1))
 
-    below-delivered : (1 ≤ m) × (m < c .next .receive) × (isLapsed (last .records) c m ≡ false) →
+    below-delivered : (1 ≤ m) × (m < c .next .receive) × (isLapsed (last z .records) c m ≡ false) →
         DeliveredAt (w .calls) z n m
     below-delivered h =
-        was-delivered z n m (h .0) (length (w .calls)) (record {
+        was-delivered z n m (h .0) (length (w .calls)) (subst (λ (s : Store). Received s n m) (sym at-last) (record {
           channel = c;
           found = found;
-          received = received.received-ordered (last .records) c m u ∙
+          received = received.received-ordered (last z .records) c m u ∙
               both-and (lt-ltb m (c .next .receive) (h .1)) (ap not (h .2));
-        })
+        }))
 
   pub missing : Missing (w .start) (w .calls)
-  missing = subst (λ (cs : List Call). (z : Side) (n m : ℕ) (c : Channel) →
-      channelAt n (storeIn (storeAfter (isOn z) (w .start z) cs) .channels) ≡ some c → isUnordered c ≡ false →
-      DeliveredAt (w .calls) z n m ↔ ((1 ≤ m) × (m < c .next .receive) ×
-      (isLapsed (storeIn (storeAfter (isOn z) (w .start z) cs) .records) c m ≡ false)))
-      (take-length (w .calls)) (λ z n m c f u. (delivered-below z n m c f u, below-delivered z n m c f u))
+  missing z n m c f u = (delivered-below z n m c f u, below-delivered z n m c f u)
