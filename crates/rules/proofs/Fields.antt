@@ -7,6 +7,7 @@ use Rattle.slots.specs.declared.PortChannel.{PortChannel}
 use Rattle.slots.specs.declared.Counters.{Counters}
 use Rattle.slots.specs.declared.Channel.{Channel}
 use Rattle.slots.specs.declared.Record.{Record}
+use Rattle.slots.specs.declared.Key.{Key}
 use Rattle.slots.specs.Names.{top, stateInit, stateTryOpen, stateOpen, stateClosed, commitmentKind, receiptKind}
 use Rattle.slots.specs.Names.{acknowledgementKind, timeoutReceiptKind, isNumbered, commitmentKey, channelIn, Store}
 use Rattle.slots.specs.Names.{slotSize}
@@ -184,7 +185,7 @@ module _ {s t : Store} (b : List ℕ) (st : Step s (datagramIn b) t) (fields : S
       (channel-fields (ap makesEnd k) .own .channel) (packet-fields b bytes sound (rw k refl) .sequence) refl
       (bytes-zeros digestSize)
 
-  new-fields : (e : Channel) (r : Record) → New s d c e r → RecordFields r
+  new-fields : (e : Channel) {k : Key} (r : Record) → New s d c e k r → RecordFields r
   unfolding commitment sentPacket body hasPart only _or_
   new-fields e r (commits k q g) =
       let f = sent-fields k in

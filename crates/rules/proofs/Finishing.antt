@@ -9,15 +9,14 @@ use Rattle.slots.specs.Names.{stateOpen, stateClosed, isOrder, channelAt, store
 use Rattle.openings.specs.Opening.{openingOf}
 use Rattle.datagram.specs.declared.Packet.{Packet}
 use Rattle.datagram.specs.Names.{only, Datagram, acknowledgedKind, timedOutKind}
-use Rattle.rules.specs.Names.{FinishedCounted, counted, moved, sends, receives, writesAcknowledgement}
-use Rattle.rules.specs.Names.{acknowledges, timesOut, makes, moves, Effect, Side, datagramGot, howMany}
+use Rattle.rules.specs.Names.{FinishedCounted, acknowledges, timesOut, Effect, Side, datagramGot, howMany}
 use Rattle.rules.specs.Names.{isAcknowledgement, finishes, packetOf, isBy, FinishedInOrder}
 use Rattle.rules.proofs.KindLaws.{finishesPacket, finishes-old, finishes-carries, recordOf, emitsRecord}
-use Rattle.rules.proofs.KindLaws.{makes-no-packet, moves-no-packet, record-timed-out}
+use Rattle.rules.proofs.KindLaws.{makes-no-packet, moves-no-packet}
 use Rattle.rules.proofs.OrderingLaws as ordering
 use Rattle.rules.proofs.Growth.{Grown}
-use Rattle.rules.proofs.Step.{toOpen, toClosed, How, sending, receiving, writing, acknowledging, timing, making}
-use Rattle.rules.proofs.Step.{moving, Step, endLeft, leftEnd, own-found, own-grown}
+use Rattle.rules.proofs.Step.{How, sending, receiving, writing, acknowledging, timing, making, moving, Step}
+use Rattle.rules.proofs.Step.{endLeft, counters-kept, leftEnd, own-found, own-grown}
 use Rattle.rules.proofs.Receipt.{one-channel}
 use Rattle.rules.proofs.Opening.{Sending, finish-opened}
 use Rattle.rules.proofs.FitStep.{own-known}
@@ -35,20 +34,7 @@ InTurn c = (isUnordered c ≡ false) × (c .state ≡ stateClosed → ⊥)
 turn-back : (c e : Channel) → Grown c e → InTurn e → InTurn c
 turn-back c e g h = (sym (ordering.unordered-same c e (g .order)) ∙ h .0, λ q. h .1 (g .state .closed q))
 
--- NEXT ACKNOWLEDGE stays where no packet is finished, and rises where one is
-acknowledge-kept : {s : Store} {d : Datagram} {c : Channel} {e : Effect} → How s d c e →
-    finishesPacket (d .kind) ≡ false → endLeft c (e .ends) .next .acknowledge ≡ c .next .acknowledge
-unfolding sends receives writesAcknowledgement makes moves counted moved only _or_
-acknowledge-kept {c = c} (sending q ok) f = refl
-acknowledge-kept {c = c} (receiving q ok) f =
-    ordering.by-receive (λ x. x .next .acknowledge ≡ c .next .acknowledge) c (λ q. refl) refl
-acknowledge-kept {c = c} (writing q ok) f = refl
-acknowledge-kept {c = c} (acknowledging q ok) f = clash (ap finishesPacket q) f
-acknowledge-kept {d = d} (timing q ok) f = clash (record-timed-out (d .kind) q) f
-acknowledge-kept {c = c} (making q ok m) f = refl
-acknowledge-kept {c = c} (moving q (toOpen o ok)) f = refl
-acknowledge-kept {c = c} (moving q (toClosed o x)) f = refl
-
+-- NEXT ACKNOWLEDGE rises where a packet is finished
 module _ {s t : Store} {d : Datagram} (st : Step s d t) (f : finishesPacket (d .kind) ≡ true) where
   finish-rises : Sending s → InTurn (leftEnd st) → leftEnd st .next .acknowledge ≡ suc (st .channel .next .acknowledge)
   unfolding acknowledges timesOut only _or_
@@ -114,7 +100,7 @@ module _ (w : World) where
       })
       (λ z i u q k.
       let a = u .acts .acted in
-      acknowledge-kept (a .step .how) (sym (finishes-as a (u .acts .told)) ∙ q))
+      counters-kept (a .step .how) .1 (sym (finishes-as a (u .acts .told)) ∙ q))
 
   pub finished-in-order : FinishedInOrder (w .calls)
   finished-in-order i c e h f g u o k =

@@ -7,22 +7,19 @@ use Rattle.wire.proofs.Laws.{and-both, both-and, clash, cases, some-if, none-if
 use Rattle.slots.specs.declared.PortChannel.{PortChannel}
 use Rattle.slots.specs.declared.Channel.{Channel}
 use Rattle.slots.specs.declared.Record.{Record}
-use Rattle.slots.specs.declared.Key.{Key}
-use Rattle.slots.specs.Names.{hasFree, channelAt, receiptKey, timeoutReceiptKey, keyOf, lookup, Store, isTaken}
-use Rattle.slots.specs.Names.{isReceived, hasReceipt, hasTimeoutReceipt}
+use Rattle.slots.specs.Names.{hasFree, channelAt, receiptKey, timeoutReceiptKey, lookup, Store, isTaken, isReceived}
+use Rattle.slots.specs.Names.{hasReceipt, hasTimeoutReceipt}
 use Rattle.slots.proofs.Laws.{channel-number, channel-own, record-channel}
 use Rattle.datagram.specs.Names.{only, send, receive, write, acknowledge, isOf, Datagram, timedOutKind}
 use Rattle.datagram.proofs.Laws.{kinds-apart}
-use Rattle.rules.specs.Names.{counted, moved, plainRecord, lapses, receivedEnd, receivedEdit, makesEnd, comesLate}
-use Rattle.rules.specs.Names.{sentPacket, commitment, sends, receives, writesAcknowledgement, acknowledges}
-use Rattle.rules.specs.Names.{timesOut, makes, moves, edited, Effect}
+use Rattle.rules.specs.Names.{lapses, receivedEnd, receivedEdit, makesEnd, comesLate, receives, edited, Effect}
 use Rattle.rules.proofs.KindLaws.{movesEnd, emitsRecord, is-receive}
 use Rattle.rules.proofs.Accepted.{ReceiveOk}
-use Rattle.rules.proofs.Step.{toOpen, toClosed, How, sending, receiving, writing, acknowledging, timing, making}
-use Rattle.rules.proofs.Step.{moving, Step, makes-fresh, endLeft, Change, unchanged, changed, added, later-some}
+use Rattle.rules.proofs.Step.{How, sending, receiving, writing, acknowledging, timing, making, moving, Step}
+use Rattle.rules.proofs.Step.{makes-fresh, endLeft, counters-kept, Change, unchanged, changed, added, later-some}
 use Rattle.rules.proofs.Step.{leftEnd, own-number, own-found, own-grown, own-after, change, later}
-use Rattle.rules.proofs.Records.{New, commits, receipts, timeoutReceipts, acknowledgements, none-lapsed, single}
-use Rattle.rules.proofs.Records.{records-left, record-from, record-stays}
+use Rattle.rules.proofs.Records.{New, receipts, timeoutReceipts, none-lapsed, single, records-left, record-from}
+use Rattle.rules.proofs.Records.{record-stays}
 use Rattle.rules.proofs.OrderingLaws as ordering
 use Rattle.rules.proofs.ReceivedLaws as received
 
@@ -37,27 +34,15 @@ pub one-channel : (s : Store) (n : ℕ) {c e : Channel} → channelAt n (s .chan
 one-channel s n p q = cc
 
 -- A NEW RECEIPT is of this call's packet, and a new timeout receipt of one that was not taken
-new-lapsed : {s : Store} {d : Datagram} {c e : Channel} {r : Record} (n m : ℕ) → New s d c e r →
-    keyOf r ≡ timeoutReceiptKey n m → (c .own .channel ≡ n) × (isTaken (s .records) c m ≡ false) ×
-    (makesEnd (d .kind) ≡ false)
-unfolding commitment sentPacket plainRecord only _or_
-new-lapsed n m (commits k o g) h = let z : _≡_ {A = ℕ} 1 4 = ap (λ (x : Key). x .kind) h in absurd (omega arith)
-new-lapsed n m (receipts k o) h = let z : _≡_ {A = ℕ} 2 4 = ap (λ (x : Key). x .kind) h in absurd (omega arith)
-new-lapsed {s} {c = c} n m (timeoutReceipts k t a) h = (
-  ap (λ (x : Key). x .channel) h,
-  ap (isTaken (s .records) c) (sym (ap (λ (x : Key). x .sequence) h)) ∙ t,
-  ap makesEnd k,
-)
-new-lapsed n m (acknowledgements k g) h = let z : _≡_ {A = ℕ} 3 4 = ap (λ (x : Key). x .kind) h in absurd (omega arith)
+new-receipt : {s : Store} {d : Datagram} {c e : Channel} {r : Record} (n m : ℕ) → New s d c e (receiptKey n m) r →
+    (d .kind ≡ some receive) × (c .own .channel ≡ n) × (d .packet .sequence ≡ m)
+new-receipt n m (receipts k o) = (k, refl, refl)
 
-new-receipt : {s : Store} {d : Datagram} {c e : Channel} {r : Record} (n m : ℕ) → New s d c e r →
-    keyOf r ≡ receiptKey n m → (d .kind ≡ some receive) × (c .own .channel ≡ n) × (d .packet .sequence ≡ m)
-unfolding commitment sentPacket plainRecord
-new-receipt n m (commits k o g) h = let z : _≡_ {A = ℕ} 1 2 = ap (λ (x : Key). x .kind) h in absurd (omega arith)
-new-receipt n m (receipts k o) h = (k, ap (λ (x : Key). x .channel) h, ap (λ (x : Key). x .sequence) h)
-new-receipt n m (timeoutReceipts k t a) h =
-    let z : _≡_ {A = ℕ} 4 2 = ap (λ (x : Key). x .kind) h in absurd (omega arith)
-new-receipt n m (acknowledgements k g) h = let z : _≡_ {A = ℕ} 3 2 = ap (λ (x : Key). x .kind) h in absurd (omega arith)
+new-lapsed : {s : Store} {d : Datagram} {c e : Channel} {r : Record} (n m : ℕ) →
+    New s d c e (timeoutReceiptKey n m) r →
+    (c .own .channel ≡ n) × (isTaken (s .records) c m ≡ false) × (makesEnd (d .kind) ≡ false)
+unfolding only _or_
+new-lapsed n m (timeoutReceipts k t a) = (refl, t, ap makesEnd k)
 
 -- RECEIVED STAYS RECEIVED: the end grows, a receipt stays, and what was taken does not lapse
 module _ {s t : Store} {d : Datagram} {n m : ℕ} (st : Step s d t) where
@@ -68,7 +53,7 @@ module _ {s t : Store} {d : Datagram} {n m : ℕ} (st : Step s d t) where
       let f = some-if (lookup (timeoutReceiptKey (c .own .channel) m) (t .records)) h in
       ⊎-elim (λ q. ap isSome q)
       (λ q.
-      let x = new-lapsed (c .own .channel) m (q .0) (q .1) in
+      let x = new-lapsed (c .own .channel) m q in
       let own : channelAt (c .own .channel) (s .channels) ≡ some (st .channel) =
       ap (λ (k : ℕ). channelAt k (s .channels)) (sym (x .0)) ∙ own-found st (x .2) in
       let e = one-channel s _ (channel-own n (s .channels) c (r .found)) own in
@@ -172,21 +157,6 @@ module _ {s t : Store} {d : Datagram} (st : Step s d t) (k : d .kind ≡ some re
       received.lapse-not-received (s .records) c (comesLate d) n (single st) none-there
       (ordering.record-room c (comesLate d) (hasFree (s .records)) (receive-of .0 .room) .0 l) l)
 
--- NEXT RECEIVE stays where nothing is received
-pub receive-kept : {s : Store} {d : Datagram} {c : Channel} {e : Effect} → How s d c e → (d .kind ≡ some receive → ⊥) →
-    endLeft c (e .ends) .next .receive ≡ c .next .receive
-unfolding sends writesAcknowledgement acknowledges timesOut makes moves counted moved
-receive-kept {c = c} (sending q ok) k = refl
-receive-kept {c = c} (receiving q ok) k = absurd (k q)
-receive-kept {c = c} (writing q ok) k = refl
-receive-kept {c = c} (acknowledging q ok) k =
-    ordering.by-acknowledge (λ x. x .next .receive ≡ c .next .receive) c (λ q. refl) refl
-receive-kept {c = c} (timing q ok) k =
-    ordering.by-time-out (λ x. x .next .receive ≡ c .next .receive) c refl (λ q. refl) (λ q r. refl)
-receive-kept {c = c} (making q ok m) k = refl
-receive-kept {c = c} (moving q (toOpen o ok)) k = refl
-receive-kept {c = c} (moving q (toClosed o f)) k = refl
-
 -- BACK: what is received was received, or this call delivers it
 pub record DeliversNow {s t : Store} {d : Datagram} (st : Step s d t) (n m : ℕ) : Type 0 where
   pub kind : d .kind ≡ some receive
@@ -206,7 +176,7 @@ module _ {s t : Store} {d : Datagram} {n m : ℕ} (st : Step s d t) (one : 1 ≤
   receipt-before another h =
       let f = some-if (lookup (receiptKey n m) (t .records))
       (ap (λ (k : ℕ). isSome (lookup (receiptKey k m) (t .records))) (sym number) ∙ h) in
-      ⊎-elim (λ q. ap isSome q) (λ q. let x = new-receipt n m (q .0) (q .1) in absurd (another (x .0) (x .1) (x .2)))
+      ⊎-elim (λ q. ap isSome q) (λ q. let x = new-receipt n m q in absurd (another (x .0) (x .1) (x .2)))
       (record-from st (receiptKey n m) (f .0) (f .1))
 
   -- on an end that was there
@@ -244,7 +214,7 @@ module _ {s t : Store} {d : Datagram} {n m : ℕ} (st : Step s d t) (one : 1 ≤
       let k = is-receive (d .kind) q in
       ordering.taken-below (st .channel) (d .packet .sequence) m (receive-of st k .0 .inOrder) (another k own)
       (ap (λ (x : Channel). ltb m (x .next .receive)) (sym (receive-end st k)) ∙ h))
-      (λ q. ap (ltb m) (sym (receive-kept (st .how) (λ k. clash (ap (isOf receive) k) q))) ∙ h)
+      (λ q. ap (ltb m) (sym (counters-kept (st .how) .0 (λ k. clash (ap (isOf receive) k) q))) ∙ h)
 
   before : Another → Received s n m
   before another = go (change st n)

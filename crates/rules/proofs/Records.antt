@@ -1,14 +1,14 @@
 -- One accepted call and the packet records: what it writes and what it frees. Assumes nothing.
-use Rattle.wire.proofs.Prelude.{_≡_, refl, sym, ap, subst, _∙_, true, not, false, List, inl, inr, _⊎_, ⊎-elim, Option}
-use Rattle.wire.proofs.Prelude.{none, some, ℕ, _+_, _<_, arith}
+use Rattle.wire.proofs.Prelude.{_≡_, refl, sym, ap, subst, subst₂, _∙_, true, not, false, List, inl, inr, _⊎_, ⊎-elim}
+use Rattle.wire.proofs.Prelude.{Option, none, some, ℕ, _+_, _<_, arith}
 use Rattle.wire.specs.Names.{_or_, isSome, noDigest}
 use Rattle.wire.proofs.Laws.{clash, not-some, none-if}
 use Rattle.slots.specs.declared.Channel.{Channel}
 use Rattle.slots.specs.declared.Record.{Record}
 use Rattle.slots.specs.declared.Key.{Key}
 use Rattle.slots.specs.Names.{stateOpen, commitmentKind, receiptKind, acknowledgementKind, timeoutReceiptKind, hasFree}
-use Rattle.slots.specs.Names.{channelAt, commitmentKey, timeoutReceiptKey, keyOf, lookup, Store, mayHaveReceipt}
-use Rattle.slots.specs.Names.{mayHaveTimeoutReceipt, isTaken, isReceived, storeFits}
+use Rattle.slots.specs.Names.{channelAt, commitmentKey, receiptKey, acknowledgementKey, timeoutReceiptKey, keyOf}
+use Rattle.slots.specs.Names.{lookup, Store, mayHaveReceipt, mayHaveTimeoutReceipt, isTaken, isReceived, storeFits}
 use Rattle.slots.proofs.Laws.{Single, insert-keeps, insert-from, remove-from, lookup-remove-other, fit-single}
 use Rattle.slots.proofs.Laws.{committed-end, lapsed-end}
 use Rattle.datagram.specs.declared.Packet.{Packet}
@@ -24,24 +24,34 @@ use Rattle.rules.proofs.ReceivedLaws as received
 use Rattle.rules.proofs.Step.{How, sending, receiving, writing, acknowledging, timing, making, moving, Step}
 use Rattle.rules.proofs.Step.{endLeft, leftEnd, own-number, own-found}
 
--- A NEW ONE is a send's commitment, an unordered end's receipt, a timeout receipt of what was not taken, or an
--- acknowledgement of what is received; `e` is the end as it is left
-pub data New (s : Store) (d : Datagram) (c e : Channel) : Record → Type 0 where
+-- A NEW ONE, by its key, is a send's commitment, an unordered end's receipt, a timeout receipt of what was not taken,
+-- or an acknowledgement of what is received; `e` is the end as it is left
+pub data New (s : Store) (d : Datagram) (c e : Channel) : Key → Record → Type 0 where
   commits : d .kind ≡ some send → c .state ≡ stateOpen → e .next .send ≡ c .next .send + 1 →
-      New s d c e (commitment (sentPacket c d))
+      New s d c e (commitmentKey (c .own .channel) (c .next .send)) (commitment (sentPacket c d))
   receipts : d .kind ≡ some receive → mayHaveReceipt e ≡ true →
-      New s d c e (plainRecord receiptKind (c .own .channel) (d .packet .sequence) noDigest)
+      New s d c e (receiptKey (c .own .channel) (d .packet .sequence))
+      (plainRecord receiptKind (c .own .channel) (d .packet .sequence) noDigest)
   timeoutReceipts : d .kind ≡ some receive → isTaken (s .records) c (d .packet .sequence) ≡ false →
       mayHaveTimeoutReceipt e (d .packet .sequence) ≡ true →
-      New s d c e (plainRecord timeoutReceiptKind (c .own .channel) (d .packet .sequence) noDigest)
+      New s d c e (timeoutReceiptKey (c .own .channel) (d .packet .sequence))
+      (plainRecord timeoutReceiptKind (c .own .channel) (d .packet .sequence) noDigest)
   acknowledgements : d .kind ≡ some write → isReceived (s .records) c (d .sequence) ≡ true →
-      New s d c e (plainRecord acknowledgementKind (c .own .channel) (d .sequence) (d .digest))
+      New s d c e (acknowledgementKey (c .own .channel) (d .sequence))
+      (plainRecord acknowledgementKind (c .own .channel) (d .sequence) (d .digest))
+
+new-key : {s : Store} {d : Datagram} {c e : Channel} {k : Key} {r : Record} → New s d c e k r → keyOf r ≡ k
+unfolding commitment sentPacket plainRecord
+new-key (commits k o g) = refl
+new-key (receipts k o) = refl
+new-key (timeoutReceipts k t a) = refl
+new-key (acknowledgements k g) = refl
 
 -- a new one has room and a key of its own; one that becomes free is a commitment that is there
 pub data Legal (s : Store) (d : Datagram) (c e : Channel) : Edit → Type 0 where
   keeping : Legal s d c e keeps
-  adding : {r : Record} → New s d c e r → hasFree (s .records) ≡ true → lookup (keyOf r) (s .records) ≡ none →
-      Legal s d c e (writes r)
+  adding : {k : Key} {r : Record} → New s d c e k r → hasFree (s .records) ≡ true →
+      lookup (keyOf r) (s .records) ≡ none → Legal s d c e (writes r)
   freeing : {n m : ℕ} → isSome (lookup (commitmentKey n m) (s .records)) ≡ true →
       Legal s d c e (frees (commitmentKey n m))
 
@@ -118,16 +128,16 @@ module _ {s t : Store} {d : Datagram} (st : Step s d t) where
 
   -- a record that is there was there, or is new
   pub record-from : (k : Key) (r : Record) → lookup k (t .records) ≡ some r →
-      (lookup k (s .records) ≡ some r) ⊎ (New s d (st .channel) (leftEnd st) r × (keyOf r ≡ k))
+      (lookup k (s .records) ≡ some r) ⊎ New s d (st .channel) (leftEnd st) k r
   unfolding edited
   record-from k r h = go (st .effect .edit) legal (ap (lookup k) (sym records-left) ∙ h)
     where
       go : (e : Edit) → Legal s d (st .channel) (leftEnd st) e → lookup k (edited e (s .records)) ≡ some r →
-          (lookup k (s .records) ≡ some r) ⊎ (New s d (st .channel) (leftEnd st) r × (keyOf r ≡ k))
+          (lookup k (s .records) ≡ some r) ⊎ New s d (st .channel) (leftEnd st) k r
       go e keeping l = inl l
       go e (adding {r = x} by room new) l =
-          ⊎-elim (λ q. inr (subst (λ (y : Record). New s d (st .channel) (leftEnd st) y × (keyOf y ≡ k)) (sym (q .1))
-          (by, q .0))) (λ q. inl q) (insert-from (s .records) single x room new k r l)
+          ⊎-elim (λ q. inr (subst₂ (New s d (st .channel) (leftEnd st)) (sym (new-key by) ∙ q .0) (sym (q .1)) by))
+          (λ q. inl q) (insert-from (s .records) single x room new k r l)
       go e (freeing {n = c} {m = m} there) l = inl (remove-from (s .records) single (commitmentKey c m) k r l)
 
   -- a record that is no commitment stays
