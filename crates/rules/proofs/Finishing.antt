@@ -27,20 +27,20 @@ use Rattle.rules.proofs.Sums.{finished-own}
 use Rattle.rules.proofs.Ends.{sends-opened}
 use Rattle.rules.proofs.Counter.{counted-end}
 
--- AN END WHERE PACKETS ARE FINISHED IN ORDER: not unordered, and not CLOSED
-abbrev InTurn : Channel → Type 0
-InTurn c = (isUnordered c ≡ false) × (c .state ≡ stateClosed → ⊥)
+-- WHICH ENDS COUNT what is finished: those that are not unordered, and not CLOSED
+abbrev Counts : Channel → Type 0
+Counts c = (isUnordered c ≡ false) × (c .state ≡ stateClosed → ⊥)
 
-turn-back : (c e : Channel) → Grown c e → InTurn e → InTurn c
-turn-back c e g h = (sym (ordering.unordered-same c e (g .order)) ∙ h .0, λ q. h .1 (g .state .closed q))
+counts-back : (c e : Channel) → Grown c e → Counts e → Counts c
+counts-back c e g h = (sym (ordering.unordered-same c e (g .order)) ∙ h .0, λ q. h .1 (g .state .closed q))
 
 -- NEXT ACKNOWLEDGE rises where a packet is finished
 module _ {s t : Store} {d : Datagram} (st : Step s d t) (f : finishesPacket (d .kind) ≡ true) where
-  finish-rises : Sending s → InTurn (leftEnd st) → leftEnd st .next .acknowledge ≡ suc (st .channel .next .acknowledge)
+  finish-rises : Sending s → Counts (leftEnd st) → leftEnd st .next .acknowledge ≡ suc (st .channel .next .acknowledge)
   unfolding acknowledges timesOut only _or_
   finish-rises o h =
       let c = st .channel in
-      let before = turn-back c (leftEnd st) (own-grown st) h in
+      let before = counts-back c (leftEnd st) (own-grown st) h in
       let known = own-known st (finishes-old (d .kind) f) in
       let high = leb-true (c .state) stateClosed (and-both (known .0) .1) in
       let now = only-open (c .state) (finish-opened st o f) high (before .1) in
@@ -84,12 +84,12 @@ module _ {s t : Store} {d : Datagram} (st : Step s d t) (f : finishesPacket (d .
 
 module _ (w : World) where
   -- NEXT ACKNOWLEDGE counts what was finished
-  next-acknowledge : (z : Side) (n i : ℕ) (c : Channel) → channelAt n (ledger w z i .channels) ≡ some c → InTurn c →
+  next-acknowledge : (z : Side) (n i : ℕ) (c : Channel) → channelAt n (ledger w z i .channels) ≡ some c → Counts c →
       c .next .acknowledge ≡ suc (howMany (isBy z n finishes) (take i (w .calls)))
   unfolding openingOf
   next-acknowledge =
-      counted-end w InTurn (λ c. c .next .acknowledge) finishes (λ c. packetOf c .source .channel) finish-accepted
-      turn-back (λ o. refl) (λ n e f. f .acknowledge)
+      counted-end w Counts (λ c. c .next .acknowledge) finishes (λ c. packetOf c .source .channel) finish-accepted
+      counts-back (λ o. refl) (λ n e f. f .acknowledge)
       (λ z i u q.
       let a = u .acts .acted in
       let f = sym (finishes-as a (u .acts .told)) ∙ q in

@@ -43,7 +43,7 @@ module _ (w : World) where
       let st = d .acts .acted .step in
       let q = ap (λ (p : Packet). p .sequence) (d .packet) in
       let x = ordering.next-taken (st .channel) (datagramGot c .packet .sequence)
-      (ordering.raises-ordered (st .channel) u) (receive-of st (d .kind) .0 .inOrder) in
+      (ordering.not-unordered-raises (st .channel) u) (receive-of st (d .kind) .0 .inOrder) in
       let y = x .1 in (
         q ∙ x .0,
         record {
@@ -93,7 +93,7 @@ module _ (w : World) where
             place = i;
             call = u .call;
             at = a .at;
-            delivers = delivers-at w a n (d .kind) (d .channel) (d .kept);
+            delivers = delivers-at w a n (d .kind) (d .channel) (d .notLapsed);
             sequence = ap (λ (p : Packet). p .sequence) (carried w a (d .kind)) ∙ d .sequence;
           }) (received-back (a .acted .step) l r)
 
@@ -117,7 +117,7 @@ module _ (w : World) where
         (sym (side-eq z (e .side) (and-both (h .0) .0))) (eqb-true _ n (h .1)) (d .sequence) x) in
         let q = ap (λ (v : Channel). isReceived (last z .records) v m) (sym (one-channel (last z) n (r .found) found)) ∙
         r .received in
-        let b = and-both (sym (received.received-ordered (last z .records) c m u) ∙ q) in
+        let b = and-both (sym (received.received-not-unordered (last z .records) c m u) ∙ q) in
         let one = g .acts .acted .step .shape .received (g .kind) in
         let num = sym (ap (λ (p : Packet). p .sequence) (g .packet)) ∙ d .sequence in
         (omega arith, ltb-true m (c .next .receive) (b .0), not-true _ (b .1))
@@ -128,7 +128,7 @@ module _ (w : World) where
         was-delivered z n m (h .0) (length (w .calls)) (subst (λ (s : Store). Received s n m) (sym at-last) (record {
           channel = c;
           found = found;
-          received = received.received-ordered (last z .records) c m u ∙
+          received = received.received-not-unordered (last z .records) c m u ∙
               both-and (lt-ltb m (c .next .receive) (h .1)) (ap not (h .2));
         }))
 

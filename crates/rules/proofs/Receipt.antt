@@ -18,8 +18,8 @@ use Rattle.rules.proofs.Accepted.{ReceiveOk}
 use Rattle.rules.proofs.Step.{How, sending, receiving, writing, acknowledging, timing, making, moving, Step}
 use Rattle.rules.proofs.Step.{makes-fresh, endLeft, counters-kept, Change, unchanged, changed, added, later-some}
 use Rattle.rules.proofs.Step.{leftEnd, own-number, own-found, own-grown, own-after, change, later}
-use Rattle.rules.proofs.Records.{New, receipts, timeoutReceipts, none-lapsed, single, records-left, record-from}
-use Rattle.rules.proofs.Records.{record-stays}
+use Rattle.rules.proofs.Records.{New, receipts, timeoutReceipts, timeout-receipt-absent, single, records-left}
+use Rattle.rules.proofs.Records.{record-from, record-stays}
 use Rattle.rules.proofs.OrderingLaws as ordering
 use Rattle.rules.proofs.ReceivedLaws as received
 
@@ -129,7 +129,8 @@ module _ {s t : Store} {d : Datagram} (st : Step s d t) (k : d .kind ≡ some re
   receive-left = records-left st ∙ ap (λ (e : Effect). edited (e .edit) (s .records)) (receive-of .1)
 
   none-there : lookup (timeoutReceiptKey (st .channel .own .channel) (d .packet .sequence)) (s .records) ≡ none
-  none-there = none-lapsed s (st .channel) (d .packet .sequence) (st .fits) (own-found st receive-old) not-taken
+  none-there =
+      timeout-receipt-absent s (st .channel) (d .packet .sequence) (st .fits) (own-found st receive-old) not-taken
 
   -- it is received where it does not lapse, and not where it does
   pub receive-makes : lapses (st .channel) (comesLate d) ≡ false →
@@ -162,7 +163,7 @@ pub record DeliversNow {s t : Store} {d : Datagram} (st : Step s d t) (n m : ℕ
   pub kind : d .kind ≡ some receive
   pub channel : d .packet .destination .channel ≡ n
   pub sequence : d .packet .sequence ≡ m
-  pub kept : lapses (st .channel) (comesLate d) ≡ false
+  pub notLapsed : lapses (st .channel) (comesLate d) ≡ false
 
 module _ {s t : Store} {d : Datagram} {n m : ℕ} (st : Step s d t) (one : 1 ≤ m) (r : Received t n m) where
   abbrev Another : Type 0
@@ -241,5 +242,5 @@ module _ {s t : Store} {d : Datagram} {n m : ℕ} (st : Step s d t) (one : 1 ≤
       let w = eqb-true (d .packet .sequence) m (a .1) in
       cases (lapses (st .channel) (comesLate d))
       (λ l. absurd (receive-lapses st k l (subst₂ (λ (x y : ℕ). Received t x y) (sym q) (sym w) r)))
-      (λ l. inr (record { kind = k; channel = q; sequence = w; kept = l })))
+      (λ l. inr (record { kind = k; channel = q; sequence = w; notLapsed = l })))
       (λ h. inl (before (λ k q w. clash (both-and (both-and (ap (isOf receive) k) (eq-eqb _ n q)) (eq-eqb _ m w)) h)))

@@ -21,7 +21,7 @@ use Rattle.rules.specs.Names.{raisesReceive, receivedEnd, receivedEdit, 
 use Rattle.rules.specs.Names.{claimsNext, claimsTaken, edited}
 use Rattle.rules.proofs.VerdictLaws.{about, claim-absent, claim-next, claim-lapsed}
 use Rattle.rules.proofs.OrderingLaws.{allows-same, lapse-allowed, lapse-raises, next-taken}
-use Rattle.rules.proofs.OrderingLaws.{raises-ordered, receipt, receipt-absent}
+use Rattle.rules.proofs.OrderingLaws.{not-unordered-raises, receipt, receipt-absent}
 
 -- it was not taken before
 pub take-new : (rs : List (Option Record)) (c : Channel) (n : ℕ) → receivesInOrder c n ≡ true →
@@ -70,10 +70,10 @@ received-from rs ts c e n o g k l h =
     clash (both-and (sym (allows-same c e o) ∙ b .0) (l (b .1))) (not-true (isLapsed rs c n) (a .1))) (λ q. q)))
 
 -- on an end that is not unordered: below next receive, and not lapsed
-pub received-ordered : (rs : List (Option Record)) (c : Channel) (n : ℕ) → isUnordered c ≡ false →
+pub received-not-unordered : (rs : List (Option Record)) (c : Channel) (n : ℕ) → isUnordered c ≡ false →
     isReceived rs c n ≡ (ltb n (c .next .receive) and not (isLapsed rs c n))
 unfolding isReceived isTaken
-received-ordered rs c n u = cc
+received-not-unordered rs c n u = cc
 
 not-taken : (rs : List (Option Record)) (c : Channel) (n : ℕ) → isTaken rs c n ≡ false → isReceived rs c n ≡ false
 unfolding isReceived _and_
@@ -118,7 +118,7 @@ module _ (rs : List (Option Record)) (c : Channel) (late : Bool) (n : ℕ) (s : 
       let z : isLapsed after (receivedEnd c) n ≡ false = none-lapsed after (receivedEnd c) n (cc) in
       both-and t (ap not z))
       (λ u.
-      let a = next-taken c n (raises-ordered c u) h in
+      let a = next-taken c n (not-unordered-raises c u) h in
       let q = lt-ltb n (c .next .receive + 1) (omega (arith, a .0)) in
       let t : isTaken after (receivedEnd c) n ≡ true = cc in
       let z : isLapsed after (receivedEnd c) n ≡ false = none-lapsed after (receivedEnd c) n (cc) in

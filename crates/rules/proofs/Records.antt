@@ -74,10 +74,10 @@ unused s c f h =
     omega arith)
 
 -- no timeout receipt is there of what was not taken
-pub none-lapsed : (s : Store) (c : Channel) (n : ℕ) → storeFits s ≡ true →
+pub timeout-receipt-absent : (s : Store) (c : Channel) (n : ℕ) → storeFits s ≡ true →
     channelAt (c .own .channel) (s .channels) ≡ some c → isTaken (s .records) c n ≡ false →
     lookup (timeoutReceiptKey (c .own .channel) n) (s .records) ≡ none
-none-lapsed s c n f h t =
+timeout-receipt-absent s c n f h t =
     none-if (lookup (timeoutReceiptKey (c .own .channel) n) (s .records)) (λ r e.
     let a = lapsed-end s (c .own .channel) n r f e in
     let b = a .1 in
@@ -101,7 +101,7 @@ legal-of {s} {d} {c} f h w (receiving k ok) =
     (λ q.
     let t = received.take-new (s .records) c n (ok .inOrder) (ok .new) in
     adding (timeoutReceipts k t (ordering.lapse-may c late n q (ok .inOrder))) (room .0 q)
-    (none-lapsed s c n f (h (ap makesEnd k)) t)) keeping
+    (timeout-receipt-absent s c n f (h (ap makesEnd k)) t)) keeping
     (λ q. adding (receipts k (ordering.receipt-may c q)) (room .1 q)
     (ordering.receipt-absent (s .records) c n q (ok .new)))
 legal-of f h w (writing k ok) = adding (acknowledgements k (ok .received)) (ok .room) (not-some _ (ap not (ok .new)))

@@ -195,7 +195,7 @@ module _ (w : World) (honest : Honest settling (w .start) (w .calls)) (pairs : P
   not-late late =
       let a : AcceptedOn (c .side) (w .calls) i c = record { at = d .acts .at; side = refl; told = d .acts .told } in
       let early = delivered-early (endTo w d) (comesLate (datagramGot c))
-      (receive-of (d .acts .acted .step) (d .kind) .0 .early) (d .kept) in
+      (receive-of (d .acts .acted .step) (d .kind) .0 .early) (d .notLapsed) in
       not-before (b .all i c a (in-block c (p .timeout) v late (rw one-timeout early)
       (truth-here .notAbove i c a)))
 
