@@ -1,5 +1,5 @@
 -- A counter of an end that rises with each call of one sort: while the end counts, it is one more than there were such
--- calls at the end. Where no end is there was no such call. Assumes nothing.
+-- calls at the end. Where there is no end yet, there was no such call. Assumes nothing.
 use Rattle.wire.proofs.Prelude.{_≡_, refl, sym, ap, subst, subst₂, _∙_, Bool, true, false, List, inl, inr, _⊎_, Option}
 use Rattle.wire.proofs.Prelude.{none, some, ℕ, zero, suc, arith, eqb, take, eqb-true, eq-eqb}
 use Rattle.wire.specs.Names.{_and_}
