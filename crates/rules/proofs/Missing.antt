@@ -97,6 +97,7 @@ module _ (w : World) where
             sequence = ap (λ (p : Packet). p .sequence) (carried w a (d .kind)) ∙ d .sequence;
           }) (received-back (a .acted .step) l r)
 
+  -- MISSING, in the store that the list leaves
   abbrev last : Side → Store
   last z = storeIn (storeAfter (isOn z) (w .start z) (w .calls))
 
