@@ -1,0 +1,4 @@
+pub mod EachLaws
+pub mod RunLaws
+pub mod BesideLaws
+pub mod KindLaws
