@@ -1,4 +1,7 @@
 mod FieldLaws
 mod ExactLaws
 pub mod EverySlotLaws
-mod PairLaws
+mod IndexLaws
+mod BesideEndLaws
+mod WholeLaws
+mod PassLaws

@@ -1,1 +1,2 @@
 pub mod EverySlot
+pub mod Pass

@@ -26,12 +26,12 @@ pub not-key : (k : Key) (r : Record) → (keyOf r ≡ k → ⊥) → hasKey k r 
 not-key k r h = cases (hasKey k r) (λ e. absurd (h (key-of k r e))) (λ e. e)
 
 -- KEYS IN ORDER
-abbrev Before : Key → Key → Type 0
+abbrev pub Before : Key → Key → Type 0
 Before a b =
     (a .channel < b .channel) ⊎
     ((a .channel ≡ b .channel) × ((a .kind < b .kind) ⊎ ((a .kind ≡ b .kind) × (a .sequence < b .sequence))))
 
-is-before : (a b : Key) → isBefore a b ≡ true → Before a b
+pub is-before : (a b : Key) → isBefore a b ≡ true → Before a b
 unfolding isBefore
 is-before a b h =
     cases (eqb (a .channel) (b .channel))
@@ -43,7 +43,7 @@ is-before a b h =
     ))
     (λ p. inl (ltb-true (a .channel) (b .channel) (cc)))
 
-before-is : (a b : Key) → Before a b → isBefore a b ≡ true
+pub before-is : (a b : Key) → Before a b → isBefore a b ≡ true
 unfolding isBefore
 before-is a b (inl l) =
     let p = ne-eqb (a .channel) (b .channel) (λ q. omega arith) in

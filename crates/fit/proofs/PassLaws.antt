@@ -1,0 +1,322 @@
+-- Laws of the pass over the packet records, run by run: what a test that fails tells of the whole, and what holds after a
+-- run that passes. Assumes nothing.
+use mathlib.Core.Path.{_≡_, refl, sym, ap, subst, _∙_}
+use mathlib.Core.Bool.{Bool, true, false}
+use mathlib.Core.List.{List}
+use mathlib.Core.Option.{some}
+use mathlib.Core.Logic.{_⊎_, inl, inr}
+use Prim.Native.Nat.{ℕ, zero, suc, _+_, _*_, _-_, _≤_, _<_}
+use native.Mathlib.Omega.{arith}
+use lib.Dec.{ltb, leb, eqb}
+use lib.ListN.{length}
+use borrow.Author.Tests.{eqb-true, eqb-false, ltb-true, ltb-false, leb-true, eq-eqb, ne-eqb, lt-ltb, le-leb}
+use Rattle.wire.specs.Choice.{_and_, _or_, pick, isSome}
+use Rattle.wire.specs.Bytes.{Bytes, areZero, part, field}
+use Rattle.wire.proofs.ChoiceLaws.{cases, clash, and-both, both-and, some-is, none-if, or-either}
+use Rattle.wire.proofs.BytesLaws.{bytes-part}
+use Rattle.wire.proofs.PartLaws.{part-split, part-part, areZero-append, areZero-number}
+use Rattle.slots.specs.declared.Channel.{Channel}
+use Rattle.slots.specs.declared.Key.{Key}
+use Rattle.slots.specs.declared.Found.{Found}
+use Rattle.slots.specs.declared.Found.the-variants.{At, Nothing}
+use Rattle.slots.specs.Table.{isNumbered, isBefore, channelAt}
+use Rattle.slots.specs.Layout.{headerSize, slotSize, recordsFrom, sizeFor, channelIn, recordBytes, recordIn, storeIn}
+use Rattle.slots.specs.Scan.{slotAt, firstThat, usedSlots}
+use Rattle.slots.proofs.ScanLaws.{channel-found, find-nothing}
+use Rattle.slots.proofs.KeyLaws.{Before, is-before, before-is}
+use Rattle.runs.specs.Each.{each}
+use Rattle.runs.specs.Run.{recordAt, keyAt, zerosAt, Ahead, Run, RunEnd, Passed, hasCompanion, fitsBeside}
+use Rattle.runs.proofs.EachLaws.{each-all, each-at}
+use Rattle.runs.proofs.RunLaws.{sequence-at}
+use Rattle.fit.specs.EverySlot.{isExact}
+use Rattle.fit.specs.Pass.{recordsFit, isAhead, startsRun, usedIf}
+use Rattle.fit.proofs.ExactLaws.{record-exact-at}
+use Rattle.fit.proofs.IndexLaws.{not-none}
+use Rattle.fit.proofs.WholeLaws.{Fitting, Taken, order, fits-before, all-fit}
+
+-- BY CHANNEL, THEN KIND
+is-ahead : (a b : Key) → isAhead a b ≡ true → Ahead a b
+is-ahead a b h =
+    cases (eqb (a .channel) (b .channel))
+    (λ e. inr (eqb-true (a .channel) (b .channel) e, ltb-true (a .kind) (b .kind) (rw e at h)))
+    (λ e. inl (ltb-true (a .channel) (b .channel) (rw e at h)))
+
+ahead-is : (a b : Key) → Ahead a b → isAhead a b ≡ true
+ahead-is a b (inl l) = rw (ne-eqb (a .channel) (b .channel) (λ q. omega arith), lt-ltb (a .channel) (b .channel) l)
+ahead-is a b (inr (e, l)) = rw (eq-eqb (a .channel) (b .channel) e, lt-ltb (a .kind) (b .kind) l)
+
+ahead-before : (a b : Key) → Ahead a b → isBefore a b ≡ true
+ahead-before a b (inl l) = before-is a b (inl l)
+ahead-before a b (inr (e, l)) = before-is a b (inr (e, inl l))
+
+ahead-onward : (a b c : Key) → Ahead a b → Ahead b c → Ahead a c
+ahead-onward a b c (inl p) (inl q) = inl (omega arith)
+ahead-onward a b c (inl p) (inr q) = inl (omega (arith, q .0))
+ahead-onward a b c (inr p) (inl q) = inl (omega (arith, p .0))
+ahead-onward a b c (inr p) (inr q) = inr (p .0 ∙ q .0, omega (arith, p .1, q .1))
+
+-- one of the same kind and channel, before or behind
+ahead-alike : (a b c : Key) → a .channel ≡ b .channel → a .kind ≡ b .kind → Ahead b c → Ahead a c
+ahead-alike a b c h k (inl p) = inl (omega arith)
+ahead-alike a b c h k (inr p) = inr (h ∙ p .0, omega (arith, p .1))
+
+alike-ahead : (a b c : Key) → b .channel ≡ c .channel → b .kind ≡ c .kind → Ahead a b → Ahead a c
+alike-ahead a b c h k (inl p) = inl (omega arith)
+alike-ahead a b c h k (inr p) = inr (p .0 ∙ h, omega (arith, p .1))
+
+-- ZERO BYTES: a part of them, and slots of them
+zero-part : (x l y a : ℕ) (bs : List ℕ) → areZero (part a (x + (l + y)) bs) ≡ true → areZero (part (a + x) l bs) ≡ true
+zero-part x l y a bs h =
+    let p : areZero (part (a + x) (l + y) bs) ≡ true =
+    and-both (sym (areZero-append (part a x bs) _) ∙ ap areZero (sym (part-split x (l + y) a bs)) ∙ h) .1 in
+    and-both (sym (areZero-append (part (a + x) l bs) _) ∙ ap areZero (sym (part-split l y (a + x) bs)) ∙ p) .0
+
+zero-slot : (bs : List ℕ) (n i k : ℕ) → i ≤ k → k < n →
+    areZero (part (recordsFrom + slotSize * i) (slotSize * (n - i)) bs) ≡ true →
+    areZero (slotAt recordsFrom bs k) ≡ true
+zero-slot bs n i k l m h =
+    let s : slotSize * (n - i) ≡ slotSize * (k - i) + (slotSize + slotSize * (n - (k + 1))) = omega arith in
+    let a : recordsFrom + slotSize * i + slotSize * (k - i) ≡ recordsFrom + slotSize * k = omega arith in
+    ap (λ (x : ℕ). areZero (part x slotSize bs)) (sym a) ∙
+    zero-part (slotSize * (k - i)) slotSize (slotSize * (n - (k + 1))) (recordsFrom + slotSize * i) bs
+    (ap (λ (x : ℕ). areZero (part (recordsFrom + slotSize * i) x bs)) (sym s) ∙ h)
+
+slots-zero : (bs : List ℕ) (d i : ℕ) → ((k : ℕ) → i ≤ k → k < i + d → areZero (slotAt recordsFrom bs k) ≡ true) →
+    areZero (part (recordsFrom + slotSize * i) (slotSize * d) bs) ≡ true
+unfolding areZero part
+slots-zero bs zero i h = refl
+slots-zero bs (suc d) i h =
+    let s : slotSize * suc d ≡ slotSize + slotSize * d = omega arith in
+    let a : recordsFrom + slotSize * (i + 1) ≡ recordsFrom + slotSize * i + slotSize = omega arith in
+    let ih = slots-zero bs d (i + 1) (λ k l m. h k (omega arith) (omega arith)) in
+    ap (λ (x : ℕ). areZero (part (recordsFrom + slotSize * i) x bs)) s ∙
+    ap areZero (part-split slotSize (slotSize * d) (recordsFrom + slotSize * i) bs) ∙
+    areZero-append (part (recordsFrom + slotSize * i) slotSize bs) _ ∙
+    both-and (h i (omega arith) (omega arith)) (ap (λ (x : ℕ). areZero (part x (slotSize * d) bs)) (sym a) ∙ ih)
+
+-- a slot whose sequence is not 0 is in use
+sequence-taken : (bs : List ℕ) → Bytes bs → (k : ℕ) → 0 < keyAt bs k .sequence → Taken bs k
+unfolding field
+sequence-taken bs bytes k l =
+    let at : ℕ = recordsFrom + slotSize * k in
+    cases (areZero (slotAt recordsFrom bs k))
+    (λ z.
+    let e = sym (areZero-number (part (at + 8) 8 bs) (bytes-part (at + 8) 8 bs bytes)) ∙ zero-part 8 8 48 at bs z in
+    let f = eqb-true (field (at + 8) 8 bs) 0 e in
+    absurd (omega (arith, f, sequence-at bs k, l))) (λ z. z)
+
+-- WHAT HOLDS after i slots, the last run of which starts at p, on the channel end of index j
+pub record Gone (bs : List ℕ) (n i j p : ℕ) : Type 0 where
+  pub within : i ≤ n
+  pub low : p ≤ i
+  pub used : (k : ℕ) → k < i → Taken bs k
+  pub fitting : (k : ℕ) → k < i → Fitting bs k
+  pub ordered : (m k : ℕ) → m < k → k < i → isBefore (keyAt bs m) (keyAt bs k) ≡ true
+  pub before : (m : ℕ) → m < p → Ahead (keyAt bs m) (keyAt bs p)
+  pub last : 0 < i → RunEnd bs n p i
+  pub end : p < i → firstThat (isNumbered (keyAt bs p .channel)) (storeIn bs .channels) ≡ At j
+
+pub gone-none : (bs : List ℕ) (n : ℕ) → Gone bs n 0 0 0
+gone-none bs n =
+    record {
+      within = omega arith;
+      low = omega arith;
+      used = λ k l. absurd (omega arith);
+      fitting = λ k l. absurd (omega arith);
+      ordered = λ m k l h. absurd (omega arith);
+      before = λ m l. absurd (omega arith);
+      last = λ l. absurd (omega arith);
+      end = λ l. absurd (omega arith);
+    }
+
+module _ (bs : List ℕ) (bytes : Bytes bs) (n : ℕ) (size : length bs ≡ sizeFor n) (i j p : ℕ) (g : Gone bs n i j p) where
+  -- ALL IS FREE BEHIND
+  pub gone-free : ((k : ℕ) → i ≤ k → k < n → areZero (slotAt recordsFrom bs k) ≡ true) →
+      At i ≡ usedIf (recordsFit bs n) bs
+  gone-free free =
+      let h = all-fit bs n size i (g .within) (g .used) (g .fitting) (g .ordered) free in
+      sym (rw (h .0, h .1))
+
+  pub gone-all : n ≤ i → At i ≡ usedIf (recordsFit bs n) bs
+  gone-all l = gone-free (λ k a b. absurd (omega arith))
+
+  pub gone-rest : areZero (part (recordsFrom + slotSize * i) (slotSize * (n - i)) bs) ≡ true →
+      At i ≡ usedIf (recordsFit bs n) bs
+  gone-rest h = gone-free (λ k l m. zero-slot bs n i k l m h)
+
+  -- A TEST FAILS
+  unfit : (recordsFit bs n ≡ true → ⊥) → Nothing ≡ usedIf (recordsFit bs n) bs
+  unfit h = cases (recordsFit bs n) (λ e. absurd (h e)) (λ e. sym (rw e))
+
+  module _ (more : i < n) where
+    pub unfit-rest : areZero (slotAt recordsFrom bs i) ≡ true →
+        areZero (part (recordsFrom + slotSize * i) (slotSize * (n - i)) bs) ≡ false →
+        Nothing ≡ usedIf (recordsFit bs n) bs
+    unfit-rest z h =
+        unfit (λ w.
+        clash (slots-zero bs (n - i) i (λ k l m.
+        cases (areZero (slotAt recordsFrom bs k)) (λ e. e)
+        (λ e. cases (eqb k i) (λ q. ap (λ (x : ℕ). areZero (slotAt recordsFrom bs x)) (eqb-true k i q) ∙ z)
+        (λ q. clash z (order bs n size w i k (omega (arith, eqb-false k i q)) (omega arith) e .0)))))
+        h)
+
+    -- a record that is laid out exactly
+    zeros-exact : (k : ℕ) → k < n → isExact recordBytes recordIn (slotAt recordsFrom bs k) ≡ true → zerosAt bs k ≡ 0
+    zeros-exact k l h =
+        eqb-true (zerosAt bs k) 0
+        (sym (record-exact-at (recordsFrom + slotSize * k) bs bytes (omega arith)) ∙ h)
+
+    -- behind the last run one of another kind or channel
+    goes-on : recordsFit bs n ≡ true → Taken bs i → 0 < i → Ahead (keyAt bs p) (keyAt bs i)
+    goes-on w t l =
+        let last = g .last l in
+        let run = last .run in
+        let low = run .low in
+        let k = run .kinds (i - 1) (omega arith) (omega arith) in
+        let c = run .channels (i - 1) (omega arith) (omega arith) in
+        step last low k c
+        (is-before (keyAt bs (i - 1)) (keyAt bs i) (order bs n size w (i - 1) i (omega arith) more t .1))
+      where
+        step : RunEnd bs n p i → p < i → keyAt bs (i - 1) .kind ≡ keyAt bs p .kind →
+            keyAt bs (i - 1) .channel ≡ keyAt bs p .channel → Before (keyAt bs (i - 1)) (keyAt bs i) →
+            Ahead (keyAt bs p) (keyAt bs i)
+        step last low k c (inl q) = inl (omega arith)
+        step last low k c (inr (d, inl q)) = inr (sym c ∙ d, omega arith)
+        step last low k c (inr (d, inr (f, q))) =
+            let own = zeros-exact i more (fits-before bs n size w i more t .exact) in
+            let first = zeros-exact p (omega arith) (g .fitting p low .exact) in
+            absurd (last .stopped more (own ∙ sym first) (sym f ∙ k) (sym d ∙ c) q)
+
+    pub unfit-start : Taken bs i → startsRun bs p i ≡ false → Nothing ≡ usedIf (recordsFit bs n) bs
+    unfolding _or_
+    unfit-start t h =
+        unfit (λ w.
+        let f = fits-before bs n size w i more t in
+        let first : (eqb p i or isAhead (keyAt bs p) (keyAt bs i)) ≡ true =
+        cases (eqb p i) (λ e. rw e)
+        (λ e. let low = g .low in
+        rw (e, ahead-is (keyAt bs p) (keyAt bs i) (goes-on w t (omega (arith, eqb-false p i e))))) in
+        clash (both-and (both-and (eq-eqb (zerosAt bs i) 0 (zeros-exact i more (f .exact))) (f .sequence)) first) h)
+
+    pub unfit-end : Taken bs i → firstThat (isNumbered (keyAt bs i .channel)) (storeIn bs .channels) ≡ Nothing →
+        Nothing ≡ usedIf (recordsFit bs n) bs
+    unfit-end t h =
+        unfit (λ w.
+        let f = fits-before bs n size w i more t in
+        not-none (sym (f .found) ∙ find-nothing (isNumbered (keyAt bs i .channel)) 0 (storeIn bs .channels) h))
+
+    -- A RUN STARTS at i
+    module _ (starts : startsRun bs p i ≡ true) where
+      zeros : zerosAt bs i ≡ 0
+      zeros = eqb-true (zerosAt bs i) 0 (and-both (and-both starts .0) .0)
+
+      sequence : 1 ≤ keyAt bs i .sequence
+      sequence = leb-true 1 (keyAt bs i .sequence) (and-both (and-both starts .0) .1)
+
+      follows : p < i → Ahead (keyAt bs p) (keyAt bs i)
+      unfolding _or_
+      follows l =
+          let e = ne-eqb p i (λ q. omega arith) in
+          is-ahead (keyAt bs p) (keyAt bs i) (rw e at (and-both starts .1))
+
+      pub passed : Passed bs p i
+      passed =
+          record {
+            low = g .low;
+            near = λ l. g .last l .run .low;
+            run = λ l. g .last (omega arith) .run;
+            before = g .before;
+            follows = follows;
+          }
+
+      ahead-all : (m : ℕ) → m < i → Ahead (keyAt bs m) (keyAt bs i)
+      ahead-all m l =
+          let last = g .last (omega arith) .run in
+          cases (ltb m p)
+          (λ e.
+          ahead-onward (keyAt bs m) (keyAt bs p) (keyAt bs i) (g .before m (ltb-true m p e)) (follows (last .low)))
+          (λ e. let a = ltb-false m p e in
+          ahead-alike (keyAt bs m) (keyAt bs p) (keyAt bs i) (last .channels m a l) (last .kinds m a l)
+          (follows (last .low)))
+
+      -- on its channel end, up to e
+      module _ (end : ℕ) (found : firstThat (isNumbered (keyAt bs i .channel)) (storeIn bs .channels) ≡ At end)
+          (e : ℕ) (stop : RunEnd bs n i e) where
+        abbrev c : Channel
+        c = channelIn (slotAt headerSize bs end)
+
+        abbrev test : ℕ → Bool
+        test k = fitsBeside (hasCompanion bs k) (recordAt bs k) c
+
+        sequence-run : (k : ℕ) → i ≤ k → k < e → 1 ≤ keyAt bs k .sequence
+        sequence-run k l m =
+            cases (eqb i k)
+            (λ q. subst (λ (x : ℕ). 1 ≤ keyAt bs x .sequence) (eqb-true i k q) sequence)
+            (λ q. let r = stop .run .rises i k (omega arith) (omega (arith, eqb-false i k q)) m in omega arith)
+
+        taken-run : (k : ℕ) → i ≤ k → k < e → Taken bs k
+        taken-run k l m = sequence-taken bs bytes k (sequence-run k l m)
+
+        found-run : (k : ℕ) → i ≤ k → k < e → channelAt (keyAt bs k .channel) (storeIn bs .channels) ≡ some c
+        found-run k l m =
+            ap (λ (x : ℕ). channelAt x (storeIn bs .channels)) (stop .run .channels k l m) ∙
+            channel-found (isNumbered (keyAt bs i .channel)) end bs found
+
+        pub unfit-run : each test i (e - i) ≡ false → Nothing ≡ usedIf (recordsFit bs n) bs
+        unfit-run h =
+            let low = stop .run .low in
+            let high = stop .high in
+            unfit (λ w.
+            clash (each-all test i (e - i) (λ k l m.
+            let in-run : k < e = omega arith in
+            let f = fits-before bs n size w k (omega arith) (taken-run k l in-run) in
+            let same : f .end ≡ c = some-is (sym (f .found) ∙ found-run k l in-run) in
+            ap (fitsBeside (hasCompanion bs k) (recordAt bs k)) (sym same) ∙ f .fits)) h)
+
+        fitting-run : each test i (e - i) ≡ true → (k : ℕ) → i ≤ k → k < e → Fitting bs k
+        fitting-run h k l m =
+            let high = stop .high in
+            let exact = stop .run .zeros k l m ∙ zeros in
+            record {
+              exact =
+                  record-exact-at (recordsFrom + slotSize * k) bs bytes (omega arith) ∙ eq-eqb (zerosAt bs k) 0 exact;
+              sequence = le-leb 1 (keyAt bs k .sequence) (sequence-run k l m);
+              end = c;
+              found = found-run k l m;
+              fits = each-at test i (e - i) h k l (omega arith);
+            }
+
+        ordered-run : (m k : ℕ) → m < k → i ≤ k → k < e → isBefore (keyAt bs m) (keyAt bs k) ≡ true
+        ordered-run m k l a b =
+            let run = stop .run in
+            let kind = run .kinds k a b in
+            let channel = run .channels k a b in
+            cases (ltb m i)
+            (λ f.
+            ahead-before (keyAt bs m) (keyAt bs k)
+            (alike-ahead (keyAt bs m) (keyAt bs i) (keyAt bs k) (sym channel) (sym kind)
+            (ahead-all m (ltb-true m i f))))
+            (λ f. let from = ltb-false m i f in
+            before-is (keyAt bs m) (keyAt bs k)
+            (inr (
+              run .channels m from (omega arith) ∙ sym channel,
+              inr (run .kinds m from (omega arith) ∙ sym kind, run .rises m k from l b),
+            )))
+
+        pub gone-run : each test i (e - i) ≡ true → Gone bs n e end i
+        gone-run h =
+            let low = stop .run .low in
+            record {
+              within = stop .high;
+              low = omega arith;
+              used = λ k l.
+                  cases (ltb k i) (λ f. g .used k (ltb-true k i f)) (λ f. taken-run k (ltb-false k i f) l);
+              fitting = λ k l.
+                  cases (ltb k i) (λ f. g .fitting k (ltb-true k i f)) (λ f. fitting-run h k (ltb-false k i f) l);
+              ordered = λ m k a l.
+                  cases (ltb k i) (λ f. g .ordered m k a (ltb-true k i f))
+                  (λ f. ordered-run m k a (ltb-false k i f) l);
+              before = ahead-all;
+              last = λ l. stop;
+              end = λ l. found;
+            }
