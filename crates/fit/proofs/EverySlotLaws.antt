@@ -26,7 +26,7 @@ use Rattle.slots.specs.Fit.{channelFits, channelsFit, isBelow, numbersFit, reco
 use Rattle.slots.specs.Fit.{sizeFits, isLaidOut}
 use Rattle.slots.proofs.LayoutLaws.{length-header, length-channel, length-record}
 use Rattle.slots.proofs.FitLaws.{fits-size, length-read}
-use Rattle.fit.specs.EverySlot.{everySlot, fitsBelow, isExact, isLone, anywhere, slotFits}
+use Rattle.fit.specs.EverySlot.{everySlot, fitsBelow, isExact, isLone, anywhere, slotFits, frontFits}
 use Rattle.fit.proofs.FieldLaws.{same-zeros}
 
 -- A TURN: after i turns the answer for all slots is the answer for those that are left. The test came to r
@@ -188,13 +188,11 @@ two-tables h a l b c d e {q} first second =
     )
 
 pub entries-parts : (bs : List ℕ) → sizeFits (length bs) ≡ true →
-    let n = roomIn (length bs) in let m = field 28 8 bs in
+    let n = roomIn (length bs) in
     (isLaidOut bs and entriesFit (storeIn bs)) ≡
-    (same (headerBytes (field 8 8 bs) (field 16 8 bs) n m) (part 0 headerSize bs) and leb 1 m and
-    everySlot (slotFits channelBytes channelIn (fitsBelow m) (isLone sameNumber))
-    (slotsFrom headerSize channelLimit bs 0) and
+    (frontFits bs n and
     everySlot (slotFits recordBytes recordIn (recordFits (storeIn bs)) anywhere) (slotsFrom recordsFrom n bs 0))
-unfolding isLaidOut entriesFit bytesOf storeIn part _and_
+unfolding isLaidOut entriesFit bytesOf storeIn part frontFits _and_
 entries-parts bs fits =
     let n : ℕ = roomIn (length bs) in
     let m : ℕ = field 28 8 bs in

@@ -66,26 +66,24 @@ module _ {A : Type 0} where
   free-all (some x ∷ xs) h = not-none (h 0)
 
   upto-next : (u : A → A → Bool) (i : ℕ) (x : Option A) (xs : List (Option A)) → Upto u (suc i) (x ∷ xs) → Upto u i xs
-  upto-next u i x xs (t, f, o) =
-      (
-        λ k l. t (suc k) (omega arith),
-        λ k l. f (suc k) (omega arith),
-        λ m k y z l n. o (suc m) (suc k) y z (omega arith) (omega arith),
-      )
+  upto-next u i x xs (t, f, o) = (
+    λ k l. t (suc k) (omega arith),
+    λ k l. f (suc k) (omega arith),
+    λ m k y z l n. o (suc m) (suc k) y z (omega arith) (omega arith),
+  )
 
   pub upto-rising : (u : A → A → Bool) (i : ℕ) (xs : List (Option A)) → Upto u i xs → Rising u xs
   upto-rising u i [] h = tt
   upto-rising u zero (none ∷ xs) h = free-all xs (λ k. h .1 (suc k) (omega arith))
   upto-rising u zero (some x ∷ xs) h = not-none (h .1 0 (omega arith))
   upto-rising u (suc i) (none ∷ xs) h = not-none (sym (h .0 0 (omega arith) .1))
-  upto-rising u (suc i) (some x ∷ xs) h =
-      (
-        each-index (λ y. u x y ≡ true) xs
-            (λ k y e.
-            cases (ltb k i) (λ l. let m = ltb-true k i l in h .2 0 (suc k) x y (omega arith) (omega arith) refl e)
-            (λ l. let m = ltb-false k i l in not-none (sym e ∙ h .1 (suc k) (omega arith)))),
-        upto-rising u i xs (upto-next u i (some x) xs h),
-      )
+  upto-rising u (suc i) (some x ∷ xs) h = (
+    each-index (λ y. u x y ≡ true) xs
+        (λ k y e.
+        cases (ltb k i) (λ l. let m = ltb-true k i l in h .2 0 (suc k) x y (omega arith) (omega arith) refl e)
+        (λ l. let m = ltb-false k i l in not-none (sym e ∙ h .1 (suc k) (omega arith)))),
+    upto-rising u i xs (upto-next u i (some x) xs h),
+  )
 
   used-free : (xs : List (Option A)) → Free xs → usedSlots xs ≡ 0
   unfolding count

@@ -95,7 +95,6 @@ module _ (bs : List ℕ) (n : ℕ) (size : length bs ≡ sizeFor n) where
   index-found m l t k e =
       index-find (hasKey k) rs m (recordAt bs m) (entry-index m l t) (has-key k (recordAt bs m) e)
 
-
   -- THE WHOLE TELLS OF EACH
   module _ (whole : recordsFit bs n ≡ true) where
     pub order : (m k : ℕ) → m < k → k < n → Taken bs k → Taken bs m × (isBefore (keyAt bs m) (keyAt bs k) ≡ true)
@@ -283,27 +282,29 @@ module _ (bs : List ℕ) (n : ℕ) (size : length bs ≡ sizeFor n) where
     at k l = entry-index k (omega arith) (used k l)
 
     upto : Upto precedes i rs
-    upto =
-        (
-          λ k l. (recordAt bs k, at k l),
-          λ k l.
-              cases (ltb k n)
-              (λ a. slot-index k (ltb-true k n a) ∙ slot-none _ (free k l (ltb-true k n a)))
-              (λ a.
-              behind-index rs k
-              (omega (arith, ltb-false k n a, ap length (records-from n bs size),
-              length-slots recordIn recordsFrom n bs))),
-          λ m k x y l h e f.
-              ap (λ (z : Record). precedes z y) (some-is (sym e ∙ at m (omega arith))) ∙
-              ap (λ (z : Record). precedes (recordAt bs m) z) (some-is (sym f ∙ at k h)) ∙ ordered m k l h,
-        )
+    upto = (
+      λ k l. (recordAt bs k, at k l),
+      λ k l.
+          cases (ltb k n)
+          (λ a. slot-index k (ltb-true k n a) ∙ slot-none _ (free k l (ltb-true k n a)))
+          (λ a.
+          behind-index rs k
+          (omega (
+            arith,
+            ltb-false k n a,
+            ap length (records-from n bs size),
+            length-slots recordIn recordsFrom n bs,
+          ))),
+      λ m k x y l h e f.
+          ap (λ (z : Record). precedes z y) (some-is (sym e ∙ at m (omega arith))) ∙
+          ap (λ (z : Record). precedes (recordAt bs m) z) (some-is (sym f ∙ at k h)) ∙ ordered m k l h,
+    )
 
     pub all-fit : (recordsFit bs n ≡ true) × (usedSlots rs ≡ i)
     unfolding recordsFit
-    all-fit =
-        (
-          both-and
-              (index-every (slotFits recordBytes recordIn (recordFits (storeIn bs)) anywhere) recordsFrom n bs slot-passes)
-              (in-order precedes rs (upto-rising precedes i rs upto)),
-          upto-used precedes i rs upto,
-        )
+    all-fit = (
+      both-and
+          (index-every (slotFits recordBytes recordIn (recordFits (storeIn bs)) anywhere) recordsFrom n bs slot-passes)
+          (in-order precedes rs (upto-rising precedes i rs upto)),
+      upto-used precedes i rs upto,
+    )

@@ -3,11 +3,14 @@ use mathlib.Core.Bool.{Bool, true, not}
 use mathlib.Core.List.{List, [], _∷_, map}
 use mathlib.Core.Option.{Option}
 use Prim.Native.Nat.{ℕ}
+use lib.Dec.{leb}
 use Rattle.wire.specs.Choice.{_and_, _or_, isSome}
-use Rattle.wire.specs.Bytes.{same, areZero}
+use Rattle.wire.specs.Bytes.{same, areZero, part, field}
 use Rattle.slots.specs.declared.Channel.{Channel}
-use Rattle.slots.specs.Table.{find}
-use Rattle.slots.specs.Layout.{slotIn}
+use Rattle.slots.specs.Limits.{channelLimit}
+use Rattle.slots.specs.Table.{find, sameNumber}
+use Rattle.slots.specs.Layout.{headerSize, headerBytes, channelBytes, channelIn, slotIn}
+use Rattle.slots.specs.Scan.{slotsFrom}
 use Rattle.slots.specs.Fit.{channelFits, isBelow}
 
 -- each slot passes a test, which is given the slots behind it too
@@ -34,3 +37,12 @@ anywhere x xs = true
 unfoldable pub slotFits : {A : Type 0} → (A → List ℕ) → (List ℕ → A) → (A → Bool) → (A → List (Option A) → Bool) →
     List ℕ → List (List ℕ) → Bool
 slotFits f g t v p behind = areZero p or (isExact f g p and t (g p) and v (g p) (map (slotIn g) behind))
+
+-- all before the packet records, of which there are so many: the header is exact, the next channel number is at least 1,
+-- and each channel record is laid out exactly, fits below that number and has a number of its own
+unfoldable pub frontFits : List ℕ → (records : ℕ) → Bool
+frontFits bs n =
+    same (headerBytes (field 8 8 bs) (field 16 8 bs) n (field 28 8 bs)) (part 0 headerSize bs) and
+    leb 1 (field 28 8 bs) and
+    everySlot (slotFits channelBytes channelIn (fitsBelow (field 28 8 bs)) (isLone sameNumber))
+    (slotsFrom headerSize channelLimit bs 0)

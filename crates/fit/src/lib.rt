@@ -24,7 +24,7 @@ ghost use mathlib.Core.Path.{_≡_};
 ghost use Prim.Native.Nat.{_+_, _≤_, _<_};
 ghost use lib.ListN.{length};
 ghost use Rattle.wire.specs.Choice.{_and_};
-ghost use Rattle.slots.specs.Limits.{channelLimit};
+ghost use Rattle.slots.specs.Limits.{channelLimit, recordLimit};
 ghost use Rattle.slots.specs.declared.Found.the-variants.{At};
 ghost use Rattle.slots.specs.Table.{isNumbered, sameNumber};
 ghost use Rattle.slots.specs.Layout.{headerSize, recordsFrom, sizeFor, storeIn};
@@ -33,6 +33,7 @@ ghost use Rattle.slots.specs.Fit.{recordFits, entriesFit, isLaidOut, isFit};
 ghost use Rattle.slots.specs.Scan.{firstThat, slotAt, slotsFrom};
 ghost use Rattle.runs.specs.Run.{keyAt};
 ghost use Rattle.fit.specs.EverySlot.{everySlot, fitsBelow, isLone, anywhere, slotFits};
+ghost use Rattle.fit.specs.EverySlot.{frontFits};
 ghost use Rattle.fit.specs.Pass.{recordsFit, isAhead, startsRun, usedIf};
 
 // Slot i of the channel records, before the slots behind it.
@@ -107,6 +108,15 @@ fn records_fit(s: &[u8], count: usize) -> bool
     true
 }
 
+// All before the packet records: header, next channel number and channel ends.
+fn front_fits(s: &[u8], count: usize) -> bool
+    requires { ⌜ (count ≤ recordLimit) × (recordsFrom ≤ length (now s)) ⌝ }
+    ensures { λ r. ⌜ r ≡ frontFits (now (s .entry)) count ⌝ }
+{
+    let next = u64_at(s, 28);
+    is_header_exact(s, count) & (1 <= next) & channels_fit(s, next)
+}
+
 // Laid out exactly as a store, and each entry fits, wherever it stands in its table.
 pub fn entries_fit(s: &[u8]) -> bool
     ensures { λ r. ⌜ r ≡ (isLaidOut (now (s .entry)) and entriesFit (storeIn (now (s .entry)))) ⌝ }
@@ -116,8 +126,7 @@ pub fn entries_fit(s: &[u8]) -> bool
         return false;
     }
     let count = (size - Layout::RECORDS_FROM) / Layout::SLOT;
-    let next = u64_at(s, 28);
-    is_header_exact(s, count) & (1 <= next) & channels_fit(s, next) & records_fit(s, count)
+    front_fits(s, count) & records_fit(s, count)
 }
 
 // By channel, then kind.
@@ -187,7 +196,13 @@ fn records_used(s: &[u8], count: usize) -> Found
             return Found::Nothing;
         };
         let e = run_end(s, count, i);
-        if !run_fits(s, p, i, e, channel_at(s, Layout::HEADER + Layout::SLOT * end)) {
+        if !run_fits(
+            s,
+            p,
+            i,
+            e,
+            channel_at(s, Layout::HEADER + Layout::SLOT * end),
+        ) {
             return Found::Nothing;
         }
         j = end;
@@ -206,8 +221,7 @@ pub fn used_if_fit(s: &[u8]) -> Found
         return Found::Nothing;
     }
     let count = (size - Layout::RECORDS_FROM) / Layout::SLOT;
-    let next = u64_at(s, 28);
-    if !(is_header_exact(s, count) & (1 <= next) & channels_fit(s, next)) {
+    if !front_fits(s, count) {
         return Found::Nothing;
     }
     records_used(s, count)

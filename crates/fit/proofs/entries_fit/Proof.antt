@@ -1,4 +1,4 @@
--- The size; then each part of `entries-parts`. Assumes nothing.
+-- The size; then the two parts of `entries-parts`. Assumes nothing.
 use mathlib.Core.Path.{_≡_, sym, _∙_}
 use mathlib.Core.Bool.{true}
 use mathlib.Core.List.{List}
@@ -25,9 +25,6 @@ fits k = sym (k .before .size-fits .ensures) ∙ not-false (k .before .size-fits
 sized : (k : tie.Else1) → Sized (length (bytes k))
 sized k = fits-size (length (bytes k)) (fits k)
 
-size-fits-requires : tie.Need-size-fits-requires
-size-fits-requires c κs = tt
-
 returns : tie.Need-returns
 unfolding isLaidOut _and_
 returns c =
@@ -38,38 +35,23 @@ returns c =
 sub-count : tie.Need-sub-count
 sub-count c = omega (arith, sized c .whole)
 
-u64-at-requires : tie.Need-u64-at-requires
-u64-at-requires c κs = omega (arith, sized c .whole)
-
-is-header-exact-requires : tie.Need-is-header-exact-requires
+front-fits-requires : tie.Need-front-fits-requires
 unfolding roomIn
-is-header-exact-requires c κs =
-    let size = sized (c .before) in
+front-fits-requires c κs =
+    let size = sized c in
     (omega (arith, size .high), omega (arith, size .whole))
-
-channels-fit-requires : tie.Need-channels-fit-requires
-channels-fit-requires c κs = omega (arith, sized (c .before .before) .whole)
 
 records-fit-requires : tie.Need-records-fit-requires
 unfolding roomIn
-records-fit-requires c κs = sized (c .before .before .before) .whole
+records-fit-requires c κs = sized (c .before) .whole
 
 returns-2 : tie.Need-returns-2
 unfolding roomIn _and_
 returns-2 c =
-    let next = c .before .before .before in
-    let k = next .before in
-    rw (
-      entries-parts (bytes k) (fits k),
-      ← c .before .before .is-header-exact .ensures,
-      ← next .u64-at .ensures,
-      ← c .before .channels-fit .ensures,
-      ← c .records-fit .ensures,
-    )
+    let k = c .before .before in
+    rw (entries-parts (bytes k) (fits k), ← c .before .front-fits .ensures, ← c .records-fit .ensures)
 
 pub entries-fit-spec : {M : Type 1} → statement M
 entries-fit-spec =
     tie.close
-    (tie.spec
-    size-fits-requires returns sub-count u64-at-requires is-header-exact-requires channels-fit-requires
-    records-fit-requires returns-2)
+    (tie.spec (λ c κs. tt) returns sub-count front-fits-requires records-fit-requires returns-2)

@@ -1,117 +1,191 @@
+-- Before each turn the slots before it fit and are in order: `Gone`. Assumes nothing.
+use mathlib.Core.Path.{_≡_, sym, ap, _∙_}
+use mathlib.Core.Bool.{true, false}
+use mathlib.Core.List.{List}
+use Prim.Native.Nat.{ℕ, _+_, _-_, _≤_, _<_}
+use native.Mathlib.Omega.{arith}
+use lib.ListN.{length}
+use denote.Ref.{now}
+use borrow.Author.Needs.{needs}
+use borrow.Author.Tests.{not-true, not-false}
+use Rattle.wire.specs.Bytes.{Bytes, areZero}
+use Rattle.wire.proofs.PartLaws.{bytes-array}
+use Rattle.slots.specs.declared.Channel.{Channel}
+use Rattle.slots.specs.declared.Found.the-variants.{At}
+use Rattle.slots.specs.Limits.{channelLimit}
+use Rattle.slots.specs.Table.{isNumbered}
+use Rattle.slots.specs.Layout.{headerSize, recordsFrom, channelIn, storeIn}
+use Rattle.slots.specs.Scan.{firstThat, holds, slotAt}
+use Rattle.slots.proofs.SlotTestLaws.{channel-index}
+use Rattle.runs.specs.Each.{each}
+use Rattle.runs.specs.Run.{recordAt, keyAt, hasCompanion, fitsBeside}
+use Rattle.fit.specs.Pass.{startsRun}
+use Rattle.fit.proofs.PassLaws.{Gone, gone-none, gone-all, gone-rest, unfit-rest, unfit-start, unfit-end}
+use Rattle.fit.proofs.PassLaws.{passed, unfit-run, gone-run}
 use Rattle.fit.proofs.records_used.Statement.{statement}
 use Rattle.fit.proofs.records_used.Tie as tie
-use Rattle.fit.proofs.end_index.Reads as end-index-reads
-use Rattle.fit.proofs.starts_run.Reads as starts-run-reads
-use Rattle.runs.proofs.run_end.Reads as run-end-reads
-use Rattle.runs.proofs.run_fits.Reads as run-fits-reads
-use Rattle.slots.proofs.slot.channel_at.Reads as channel-at-reads
-use Rattle.wire.proofs.are_zero.Reads as are-zero-reads
 
 abbrev Inv-loop : tie.InvT-loop
-Inv-loop s count i₀ p₀ j₀ i p j = ?
+Inv-loop s count i₀ p₀ j₀ i p j = Gone s count i j p
 
 abbrev μ-loop : tie.MeasureT-loop
-μ-loop s count i₀ p₀ j₀ i p j = ?
+μ-loop s count i₀ p₀ j₀ i p j = count - i
 
 loop-holds : tie.Need-loop-holds Inv-loop μ-loop
-loop-holds c = ?
+loop-holds c = gone-none (now (c .before .args .s)) (c .before .args .count)
 
-mul-at : tie.Need-mul-at Inv-loop μ-loop
-mul-at c = ?
+abbrev bytes : tie.At-loop Inv-loop μ-loop → List ℕ
+bytes l = now (l .before .before .args .s)
 
-add-at : tie.Need-add-at Inv-loop μ-loop
-add-at c = ?
-
-are-zero-requires : tie.Need-are-zero-requires Inv-loop μ-loop
-are-zero-requires c κs = ?
-
-sub-are-zero : tie.Need-sub-are-zero Inv-loop μ-loop
-sub-are-zero c = ?
-
-mul-are-zero : tie.Need-mul-are-zero Inv-loop μ-loop
-mul-are-zero c = ?
-
-are-zero-requires-2 : tie.Need-are-zero-requires-2 Inv-loop μ-loop
-are-zero-requires-2 c κs = ?
+known : (l : tie.At-loop Inv-loop μ-loop) → Bytes (bytes l)
+known l = bytes-array (bytes l) (l .before .shared-slice-known .given)
 
 returns : tie.Need-returns Inv-loop μ-loop
-returns c = ?
+returns c =
+    let l = c .before .before .before .before .before in
+    let o = l .before .before in
+    let call = c .before .are-zero2 in
+    gone-rest (bytes l) (known l) (o .args .count) (o .pre) (l .loop .i) (l .loop .j) (l .loop .p) (l .loop .inv)
+    (sym (call .ensures) ∙ c .if2 .taken)
 
 returns-2 : tie.Need-returns-2 Inv-loop μ-loop
-returns-2 c = ?
+returns-2 c =
+    let free = c .before .before in
+    let l = free .before .before .before in
+    let o = l .before .before in
+    let call = c .before .are-zero2 in
+    unfit-rest (bytes l) (known l) (o .args .count) (o .pre) (l .loop .i) (l .loop .j) (l .loop .p) (l .loop .inv)
+    (omega arith) (sym (free .before .are-zero .ensures) ∙ free .if1 .taken) (sym (call .ensures) ∙ c .if2 .left)
+
+-- AT A SLOT in use
+abbrev head : tie.Else1 Inv-loop μ-loop → tie.At-loop Inv-loop μ-loop
+head k = k .before .before .before
+
+taken : (k : tie.Else1 Inv-loop μ-loop) → areZero (slotAt recordsFrom (bytes (head k)) (head k .loop .i)) ≡ false
+taken k = sym (k .before .are-zero .ensures) ∙ k .if1 .left
 
 starts-run-requires : tie.Need-starts-run-requires Inv-loop μ-loop
-starts-run-requires c κs = ?
+starts-run-requires c κs = (omega arith, head c .loop .inv .low)
 
 returns-3 : tie.Need-returns-3 Inv-loop μ-loop
-returns-3 c = ?
+returns-3 c =
+    let call = c .before in
+    let k = call .before in
+    let l = head k in
+    let o = l .before .before in
+    unfit-start (bytes l) (known l) (o .args .count) (o .pre) (l .loop .i) (l .loop .j) (l .loop .p) (l .loop .inv)
+    (omega arith) (taken k)
+    (sym (call .starts-run .ensures) ∙ not-true (call .starts-run .result) (c .if3 .taken))
+
+-- WHERE A RUN STARTS
+abbrev first : tie.Else3 Inv-loop μ-loop → tie.Else1 Inv-loop μ-loop
+first k = k .before .before
+
+starts : (k : tie.Else3 Inv-loop μ-loop) → let l = head (first k) in
+    startsRun (bytes l) (l .loop .p) (l .loop .i) ≡ true
+starts k = sym (k .before .starts-run .ensures) ∙ not-false (k .before .starts-run .result) (k .if3 .left)
 
 end-index-requires : tie.Need-end-index-requires Inv-loop μ-loop
-end-index-requires c κs = ?
-
-enum-known-end : tie.Need-enum-known-end Inv-loop μ-loop
-enum-known-end c = ?
-
-enum-told : tie.Need-enum-told Inv-loop μ-loop
-enum-told c = ?
+end-index-requires c κs =
+    let l = head (first c) in
+    ((omega arith, l .loop .inv .low), l .loop .inv .end)
 
 returns-4 : tie.Need-returns-4 Inv-loop μ-loop
-returns-4 c = ?
+returns-4 c =
+    let call = c .before .before in
+    let k = first (call .before) in
+    let l = head k in
+    let o = l .before .before in
+    unfit-end (bytes l) (known l) (o .args .count) (o .pre) (l .loop .i) (l .loop .j) (l .loop .p) (l .loop .inv)
+    (omega arith) (taken k) (sym (call .end-index .ensures) ∙ c .enum-told .given .1)
+
+-- ON ITS CHANNEL END
+abbrev start : tie.After-known-told Inv-loop μ-loop → tie.Else3 Inv-loop μ-loop
+start k = k .before .before .before .before
+
+abbrev loop : tie.After-known-told Inv-loop μ-loop → tie.At-loop Inv-loop μ-loop
+loop k = head (first (start k))
+
+abbrev index : tie.After-known-told Inv-loop μ-loop → ℕ
+index k = k .before .end .given .0 .0
+
+found : (k : tie.After-known-told Inv-loop μ-loop) → let l = loop k in
+    firstThat (isNumbered (keyAt (bytes l) (l .loop .i) .channel)) (storeIn (bytes l) .channels) ≡ At (index k)
+found k = sym (k .before .before .before .end-index .ensures) ∙ k .before .end .given .1
+
+below : (k : tie.After-known-told Inv-loop μ-loop) → index k < channelLimit
+below k =
+    let l = loop k in
+    channel-index (index k) (bytes l) (holds (isNumbered (keyAt (bytes l) (l .loop .i) .channel))) (found k)
 
 run-end-requires : tie.Need-run-end-requires Inv-loop μ-loop
-run-end-requires c κs = ?
-
-mul-channel-at : tie.Need-mul-channel-at Inv-loop μ-loop
-mul-channel-at c = ?
-
-add-channel-at : tie.Need-add-channel-at Inv-loop μ-loop
-add-channel-at c = ?
-
-channel-at-requires : tie.Need-channel-at-requires Inv-loop μ-loop
-channel-at-requires c κs = ?
+run-end-requires c κs = (loop c .before .before .pre, omega arith)
 
 run-fits-requires : tie.Need-run-fits-requires Inv-loop μ-loop
-run-fits-requires c κs = ?
+run-fits-requires c κs =
+    let k = c .before .before in
+    let l = loop k in
+    let o = l .before .before in
+    let stop = c .before .run-end .ensures in (
+      omega (arith, stop .high),
+      stop .run,
+      passed (bytes l) (known l) (o .args .count) (o .pre) (l .loop .i) (l .loop .j) (l .loop .p) (l .loop .inv)
+          (omega arith) (starts (start k)),
+    )
+
+-- what the test of the run tells
+tested : (r : tie.After-run-fits Inv-loop μ-loop) → let run = r .before .before in let k = run .before in
+    let l = loop k in
+    r .run-fits .result ≡
+    each (λ m. fitsBeside (hasCompanion (bytes l) m) (recordAt (bytes l) m)
+    (channelIn (slotAt headerSize (bytes l) (index k)))) (l .loop .i) (run .run-end .result - l .loop .i)
+tested r =
+    let run = r .before .before in
+    let l = loop (run .before) in
+    r .run-fits .ensures ∙
+    ap (λ (x : Channel). each (λ m. fitsBeside (hasCompanion (bytes l) m) (recordAt (bytes l) m) x) (l .loop .i)
+    (run .run-end .result - l .loop .i)) (r .before .channel-at .ensures)
 
 returns-5 : tie.Need-returns-5 Inv-loop μ-loop
-returns-5 c = ?
+returns-5 c =
+    let call = c .before in
+    let run = call .before .before in
+    let k = run .before in
+    let l = loop k in
+    let o = l .before .before in
+    unfit-run (bytes l) (known l) (o .args .count) (o .pre) (l .loop .i) (l .loop .j) (l .loop .p) (l .loop .inv)
+    (omega arith) (starts (start k)) (index k) (found k) (run .run-end .result) (run .run-end .ensures)
+    (sym (tested call) ∙ not-true (call .run-fits .result) (c .if4 .taken))
 
 loop-less : tie.Need-loop-less Inv-loop μ-loop
-loop-less c = ?
+loop-less c =
+    let stop = c .before .before .before .run-end .ensures in
+    omega (arith, stop .run .low, stop .high)
 
 loop-again : tie.Need-loop-again Inv-loop μ-loop
-loop-again c = ?
+loop-again c =
+    let call = c .before in
+    let run = call .before .before in
+    let k = run .before in
+    let l = loop k in
+    let o = l .before .before in
+    gone-run (bytes l) (known l) (o .args .count) (o .pre) (l .loop .i) (l .loop .j) (l .loop .p) (l .loop .inv)
+    (omega arith) (starts (start k)) (index k) (found k) (run .run-end .result) (run .run-end .ensures)
+    (sym (tested call) ∙ not-false (call .run-fits .result) (c .if4 .left))
 
 returns-6 : tie.Need-returns-6 Inv-loop μ-loop
-returns-6 c = ?
+returns-6 c =
+    let l = c .before in
+    let o = l .before .before in
+    gone-all (bytes l) (known l) (o .args .count) (o .pre) (l .loop .i) (l .loop .j) (l .loop .p) (l .loop .inv)
+    (omega arith)
 
 pub records-used-spec : {M : Type 1} → statement M
 records-used-spec =
     tie.close
     (tie.spec
-    Inv-loop
-    μ-loop
-    loop-holds
-    mul-at
-    add-at
-    are-zero-requires
-    sub-are-zero
-    mul-are-zero
-    are-zero-requires-2
-    returns
-    returns-2
-    starts-run-requires
-    returns-3
-    end-index-requires
-    enum-known-end
-    enum-told
-    returns-4
-    run-end-requires
-    mul-channel-at
-    add-channel-at
-    channel-at-requires
-    run-fits-requires
-    returns-5
-    loop-less
-    loop-again
-    returns-6)
+    Inv-loop μ-loop loop-holds (λ c. omega arith) (λ c. omega arith) (λ c κs. omega arith) (λ c. omega arith)
+    (λ c. omega arith) (λ c κs. omega arith) returns returns-2 starts-run-requires returns-3 end-index-requires
+    (λ c. search needs) (λ c. search needs) returns-4 run-end-requires (λ c. omega (arith, below (c .before)))
+    (λ c. omega (arith, below (c .before))) (λ c κs. omega (arith, below (c .before))) run-fits-requires returns-5
+    loop-less loop-again returns-6)
