@@ -3,7 +3,8 @@
 use std::collections::BTreeSet;
 
 use crate::compare::{compare, first_different};
-use crate::fit::{entries_fit, fit};
+use crate::fit::direct::entries_fit;
+use crate::fit::fit;
 use crate::generate::damage::{converter_answer, damage, KINDS, TWO_OF_ONE_KEY};
 use crate::generate::rng::Rng;
 use crate::generate::{grow, Generator, Origin};
