@@ -17,7 +17,9 @@ use crate::verdict::*;
 pub fn decide(store: &[u8], output_length: usize, bytes: &[u8]) -> Result<Effect, u8> {
     let used = used_if_fit(store).ok_or(STORE_NOT_FIT)?;
     refuse_if(output_length < OUTPUT, OUTPUT_SHORT)?;
-    let Datagram { context, body } = &read(bytes).ok_or(MALFORMED)?;
+    let Some(Datagram { context, body }) = &read(bytes) else {
+        return Err(MALFORMED);
+    };
     let (height, time) = (last_height(store), last_time(store));
     let before = context.height < height || context.time < time;
     refuse_if(before || context.height == height && context.time != time, BEFORE_LAST)?;

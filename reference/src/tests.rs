@@ -4,16 +4,18 @@ use std::collections::BTreeSet;
 
 use crate::bytes::*;
 use crate::compare::{checks_differ, compare, first_different};
+use crate::datagram::{read, PACKET_KINDS};
 use crate::fit::direct::{entries_fit, fit_directly};
 use crate::fit::fit;
 use crate::generate::damage::{converter_answer, damage, KINDS, TWO_OF_ONE_KEY};
 use crate::generate::rng::Rng;
-use crate::generate::{grow, Generator, Origin};
+use crate::generate::{grow, Generator, Origin, Row};
 use crate::history::{self, Truth};
-use crate::places::{record, PACKET_RECORDS};
+use crate::places::{frame, record, OUTPUT, PACKET_RECORDS};
 use crate::shim::{self, closing, handshake, lapse, maker, order, time_out, verdict};
 use crate::store::*;
 use crate::subject::Handle;
+use crate::table::own_channel;
 use crate::workload::{workload, Workload, SEGMENT};
 
 const SEED: u64 = 20_240_601;
@@ -231,7 +233,7 @@ fn lies_break_promises() {
     assert!(of_ends.iter().all(|name| !openings.contains_key(name) && nothing.contains_key(name)));
 }
 
-/// The measured mixture has all kinds accepted and many refusals, and leaves the store fit.
+/// The measured mixture has all kinds accepted, on ends of all orders, and many refusals, and leaves the store fit.
 #[test]
 fn workload_is_mixed() {
     for records in [8, 64] {
@@ -240,20 +242,26 @@ fn workload_is_mixed() {
         let refusals = workload.answers.range(1..).count();
         assert!(workload.answers[&0] > 2_000 && refusals >= 17 && !workload.answers.contains_key(&1));
         assert!(workload.answers[&20] > 20 && workload.free < 2 * 4_000);
-        assert_eq!(kinds_accepted(&workload), BTreeSet::from([1, 2, 3, 4, 5]));
+        let accepted = rows_accepted(&workload);
+        println!("{accepted:?}");
+        assert_eq!(accepted.iter().map(|row| row.kind).collect::<BTreeSet<_>>(), BTreeSet::from(PACKET_KINDS));
+        assert_eq!(accepted.iter().map(|row| row.order).collect::<BTreeSet<_>>(), BTreeSet::from(ORDERS));
     }
 }
 
-fn kinds_accepted(workload: &Workload) -> BTreeSet<u8> {
+fn rows_accepted(workload: &Workload) -> BTreeSet<Row> {
     let mut store = workload.store.clone();
-    let mut kinds = BTreeSet::new();
-    for (number, datagram) in workload.datagrams.iter().enumerate() {
+    let mut rows = BTreeSet::new();
+    for (number, bytes) in workload.datagrams.iter().enumerate() {
         if number % SEGMENT == 0 {
             store.copy_from_slice(&workload.store);
         }
-        if crate::handle(&mut store, &mut [0; 106], datagram).0 == 0 {
-            kinds.insert(datagram[4]);
+        if crate::handle(&mut store, &mut [0; OUTPUT], bytes).0 == 0 {
+            let body = read(bytes).expect("it was accepted").body;
+            let number = own_channel(&body).expect("it is about a packet");
+            let (_, end) = find_channel(&store, number).expect("it was accepted");
+            rows.insert(Row { kind: get_u16(bytes, frame::KIND), order: end.order });
         }
     }
-    kinds
+    rows
 }

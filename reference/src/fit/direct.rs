@@ -95,6 +95,11 @@ fn is_there(store: &[u8], key: u128) -> bool {
     records(store).iter().any(|bytes| has_key(bytes, key))
 }
 
+/// Whether the record that these bytes begin with has this key. The sequence is what most records differ in.
+fn has_key(bytes: &[u8], key: u128) -> bool {
+    get_u64(bytes, record::SEQUENCE) == key as u64 && key_of(bytes) == key
+}
+
 /// The records in use rise strictly, and the free ones stand behind them: before each one in use, but the first, stands
 /// one in use with a lower key.
 fn in_order(store: &[u8]) -> bool {
