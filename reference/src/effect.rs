@@ -3,7 +3,7 @@
 use crate::bytes::*;
 use crate::datagram::Packet;
 use crate::places::{frame, header, packet};
-use crate::store::{channel_place, insert, record_place, remove, Channel, Record};
+use crate::store::{channel_place, insert_at, record_place, remove, Channel, Record};
 
 const SENT: u16 = 0x0101;
 const DELIVERED: u16 = 0x0102;
@@ -77,8 +77,8 @@ fn write_packet(packet: &Packet, body: &mut [u8]) -> u32 {
 /// What becomes of the packet records, of which so many are in use before; the others keep their content.
 #[derive(Clone, Copy, Debug)]
 pub enum Change {
-    /// This one is put in at its place.
-    Insert { record: Record, used: usize },
+    /// This one is put in at this index.
+    Insert { index: usize, record: Record, used: usize },
     /// The one of this index goes.
     Remove { index: usize, used: usize },
 }
@@ -87,7 +87,7 @@ impl Change {
     /// The free records behind those in use are not touched.
     fn apply(&self, store: &mut [u8]) {
         match self {
-            Change::Insert { record, used } => insert(&mut store[..record_place(used + 1)], record),
+            Change::Insert { index, record, used } => insert_at(&mut store[..record_place(used + 1)], *index, record),
             Change::Remove { index, used } => remove(&mut store[..record_place(*used)], *index),
         }
     }

@@ -92,6 +92,7 @@ impl Call<'_> {
         let (mut end, digest, sequence) = (self.end, *digest, self.end.next_sequence_send);
         end.next_sequence_send = raised(sequence)?;
         self.room()?;
+        let (Ok(index) | Err(index)) = self.search(COMMITMENT, sequence);
         let record =
             Record { kind: COMMITMENT, channel: end.channel, sequence, timeout_height, timeout_timestamp, digest };
         let packet = Packet {
@@ -104,7 +105,7 @@ impl Call<'_> {
             dest_channel: end.counterparty_channel,
             digest,
         };
-        Ok(self.effect(end, Some(self.inserted(record)), Emitted::Sent(packet)))
+        Ok(self.effect(end, Some(self.inserted(index, record)), Emitted::Sent(packet)))
     }
 
     fn receive(&self, packet: &Packet, verdict: &Verdict) -> Result<Effect, u8> {
@@ -118,7 +119,6 @@ impl Call<'_> {
         refuse_if(late && !end.allows_timeouts(), TIMEOUT_PASSED)?;
         verdict.compare(&committed(packet, verdict))?;
         if end.is_unordered() {
-            refuse_if(received(self.store, &end, packet.sequence), ALREADY_THERE)?;
             return self.with_receipt(end, RECEIPT, packet.sequence, Emitted::Delivered(*packet));
         }
         refuse_if(packet.sequence != end.next_sequence_recv, OUT_OF_ORDER)?;
@@ -129,22 +129,24 @@ impl Call<'_> {
         Ok(self.effect(end, None, Emitted::Delivered(*packet)))
     }
 
-    /// Puts in a receipt or a timeout receipt, which have nothing in them but their key.
+    /// Puts in a receipt or a timeout receipt, which have nothing in them but their key. Of a packet that is the next
+    /// to be received no timeout receipt is there.
     fn with_receipt(&self, end: Channel, kind: u16, sequence: u64, emitted: Emitted) -> Result<Effect, u8> {
+        let index = self.search(kind, sequence).err().ok_or(ALREADY_THERE)?;
         self.room()?;
         let record = Record { kind, channel: end.channel, sequence, ..Record::FREE };
-        Ok(self.effect(end, Some(self.inserted(record)), emitted))
+        Ok(self.effect(end, Some(self.inserted(index, record)), emitted))
     }
 
     fn write(&self, sequence: u64, digest: &Digest) -> Result<Effect, u8> {
         let (end, digest) = (self.end, *digest);
-        refuse_if(find_record(self.store, ACKNOWLEDGEMENT, end.channel, sequence).is_some(), ALREADY_THERE)?;
+        let index = self.search(ACKNOWLEDGEMENT, sequence).err().ok_or(ALREADY_THERE)?;
         refuse_if(!received(self.store, &end, sequence), NOT_RECEIVED)?;
         refuse_if(digest == NO_DIGEST, EMPTY_ACKNOWLEDGEMENT)?;
         self.room()?;
         let record = Record { kind: ACKNOWLEDGEMENT, channel: end.channel, sequence, digest, ..Record::FREE };
         let emitted = Emitted::Written { port: end.port, channel: end.channel, sequence, digest };
-        Ok(self.effect(end, Some(self.inserted(record)), emitted))
+        Ok(self.effect(end, Some(self.inserted(index, record)), emitted))
     }
 
     fn acknowledge(&self, packet: &Packet, acknowledgement: &Digest, verdict: &Verdict) -> Result<Effect, u8> {
@@ -204,7 +206,7 @@ impl Call<'_> {
 
     /// The index of the commitment with the packet's sequence, if its timeouts and digest are the packet's too.
     fn commitment(&self, packet: &Packet) -> Option<usize> {
-        let index = find_record(self.store, COMMITMENT, self.end.channel, packet.sequence)?;
+        let index = self.search(COMMITMENT, packet.sequence).ok()?;
         let record = record_at(self.store, index);
         let same = record.timeout_height == packet.timeout_height
             && record.timeout_timestamp == packet.timeout_timestamp
@@ -212,13 +214,19 @@ impl Call<'_> {
         same.then_some(index)
     }
 
+    /// The index of this end's record of that kind and sequence, or the one where it would stand.
+    fn search(&self, kind: u16, sequence: u64) -> Result<usize, usize> {
+        let wanted = key(kind, self.end.channel, sequence);
+        records(self.store)[..self.used].binary_search_by_key(&wanted, |bytes| key_of(bytes))
+    }
+
     /// The refusal 20.
     fn room(&self) -> Result<(), u8> {
         refuse_if(self.used == record_count(self.store), NO_FREE_RECORD)
     }
 
-    fn inserted(&self, record: Record) -> Change {
-        Change::Insert { record, used: self.used }
+    fn inserted(&self, index: usize, record: Record) -> Change {
+        Change::Insert { index, record, used: self.used }
     }
 
     fn removed(&self, index: usize) -> Change {
