@@ -1,17 +1,15 @@
 //! The generator hits what it aims at, the comparison passes what is right and finds what is wrong.
 
+mod damages;
+
 use std::collections::BTreeSet;
 
 use crate::bytes::*;
-use crate::compare::{checks_differ, compare, first_different};
+use crate::compare::{compare, first_different};
 use crate::datagram::{read, PACKET_KINDS};
-use crate::fit::direct::{entries_fit, fit_directly};
-use crate::fit::fit;
-use crate::generate::damage::{converter_answer, damage, KINDS, TWO_OF_ONE_KEY};
-use crate::generate::rng::Rng;
-use crate::generate::{grow, Generator, Origin, Row};
+use crate::generate::{Generator, Origin, Row};
 use crate::history::{self, Truth};
-use crate::places::{frame, record, OUTPUT, PACKET_RECORDS};
+use crate::places::{frame, OUTPUT};
 use crate::shim::{self, closing, handshake, lapse, maker, order, time_out, verdict};
 use crate::store::*;
 use crate::subject::Handle;
@@ -51,69 +49,6 @@ fn wrong_handlers_are_found() {
         let first = first_different(&subject, 20_000, SEED);
         println!("{name}: differs at call {first:?}");
         assert!(first.is_some(), "{name}");
-    }
-}
-
-/// A store whose order is damaged is fit but for that, and with any other damage its records are still in order, unless
-/// two of one key stand apart: so nothing but the damage makes it unfit.
-#[test]
-fn damages_stand_alone() {
-    let mut rng = Rng::new(SEED);
-    let mut met = BTreeSet::new();
-    for _ in 0..20_000 {
-        let mut store = grow::grown(&mut rng);
-        let kind = damage(&mut rng, &mut store);
-        let (mut sorted, twice) = (store.clone(), kind == TWO_OF_ONE_KEY);
-        if records_in(store.len()).is_some() {
-            sort_records(&mut sorted);
-            let keys = |store: &[u8]| records(store).iter().map(|bytes| key_of(bytes)).collect::<Vec<_>>();
-            let in_order = keys(&store) == keys(&sorted);
-            assert!(twice || in_order == (converter_answer(kind) != 0), "{}", KINDS[kind].0);
-        }
-        for check in [fit, fit_directly] {
-            assert!(!check(&store) && check(&sorted) == (converter_answer(kind) == 0), "{}", KINDS[kind].0);
-        }
-        assert!(entries_fit(&store) == (converter_answer(kind) == 0 || twice));
-        met.insert(kind);
-    }
-    assert_eq!(met.len(), KINDS.len());
-}
-
-/// The pass by runs and the definition agree on stores that nobody made fit or unfit: records are copied over others,
-/// change places, or have a number or a bit changed.
-#[test]
-fn checks_agree() {
-    let mut rng = Rng::new(SEED);
-    let mut answers = [0; 2];
-    for _ in 0..20_000 {
-        let grown = grow::grown(&mut rng);
-        assert!(fit(&grown) && fit_directly(&grown));
-        for _ in 0..8 {
-            let mut store = grown.clone();
-            (0..1 + rng.index(3)).for_each(|_| change(&mut rng, &mut store));
-            assert_eq!(checks_differ(&store), None);
-            answers[usize::from(fit(&store))] += 1;
-        }
-    }
-    println!("{answers:?}");
-    assert!(answers.iter().all(|count| *count > 10_000));
-}
-
-/// One change to packet records, mostly to those in use.
-fn change(rng: &mut Rng, store: &mut [u8]) {
-    let most = (used_count(store) + 1).min(record_count(store));
-    let [one, other] = [rng.index(most), rng.index(most)];
-    let place = record_place(one);
-    match rng.below(6) {
-        0 => records_mut(store)[other] = records(store)[one],
-        1 => records_mut(store).swap(one, other),
-        2 => records_mut(store)[one].fill(0),
-        3 => put_u16(store, place + record::KIND, rng.below(6) as u16),
-        4 => put_u64(store, place + record::SEQUENCE, rng.number()),
-        _ => {
-            let at = PACKET_RECORDS + rng.index(store.len() - PACKET_RECORDS);
-            store[at] ^= 1 << rng.below(8);
-        }
     }
 }
 
