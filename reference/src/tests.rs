@@ -10,7 +10,7 @@ use crate::datagram::{read, PACKET_KINDS};
 use crate::generate::{Generator, Origin, Row};
 use crate::history::{self, Truth};
 use crate::places::{frame, OUTPUT};
-use crate::shim::{self, closing, handshake, lapse, maker, order, time_out, verdict};
+use crate::shim::{self, closing, handshake, lapse, maker, order, pass, time_out, verdict};
 use crate::store::*;
 use crate::subject::Handle;
 use crate::table::own_channel;
@@ -41,7 +41,7 @@ fn unmet_cells_are_told() {
 fn wrong_handlers_are_found() {
     let of_packets = shim::WRONG.into_iter().chain(lapse::WRONG).chain(time_out::WRONG);
     let of_steps = handshake::WRONG.into_iter().chain(closing::WRONG);
-    let handlers = of_packets.chain(of_steps).chain(order::WRONG).chain(verdict::WRONG);
+    let handlers = of_packets.chain(of_steps).chain(order::WRONG).chain(pass::WRONG).chain(verdict::WRONG);
     let converters = order::WRONG_CONVERTERS.map(|(name, convert)| (name, shim::with_converter(convert)));
     let makers = maker::WRONG.map(|(name, make)| (name, shim::with_maker(make)));
     let others = makers.into_iter().chain(converters);
