@@ -58,10 +58,10 @@ fn channel_fit(slot: &Slot, next: u64) -> bool {
         && is_padded(&slot[channel::VERSION..])
 }
 
-/// Behind the first zero byte stand only zeros.
+/// Behind the first zero byte stand only zeros. The maker's ends have no version, which is seen at once.
 fn is_padded(version: &[u8]) -> bool {
-    let text = version.iter().position(|byte| *byte == 0).unwrap_or(version.len());
-    all_zero(&version[text..])
+    let text = || version.iter().position(|byte| *byte == 0).unwrap_or(version.len());
+    all_zero(version) || all_zero(&version[text()..])
 }
 
 /// Kind, zero bytes and channel of a packet record as one number. Where the zero bytes are zero, records in order rise
