@@ -39,9 +39,11 @@ pub fn put_u64(bytes: &mut [u8], at: usize, value: u64) {
     put(bytes, at, value.to_le_bytes());
 }
 
-/// Looks at every byte: without an early way out the compiler takes many at a time.
+/// By eight bytes, and without an early way out, so that the compiler takes several of these at a time.
 pub fn all_zero(bytes: &[u8]) -> bool {
-    bytes.iter().fold(0, |seen, byte| seen | byte) == 0
+    let (words, rest) = bytes.as_chunks();
+    let seen = words.iter().fold(0, |seen, word| seen | u64::from_le_bytes(*word));
+    rest.iter().fold(seen, |seen, byte| seen | u64::from(*byte)) == 0
 }
 
 /// Whether a length field of four bytes says exactly this length; a slice may be longer than any field can say.

@@ -3,6 +3,7 @@
 mod converter;
 
 use crate::coverage::Coverage;
+use crate::fit::direct::fit_directly;
 use crate::fit::fit;
 use crate::generate::{Call, Generator, Task};
 use crate::refusal::Line;
@@ -127,18 +128,20 @@ fn first_difference(expected: &[u8], given: &[u8]) -> Option<usize> {
 /// Laws that are independent of how the reference decides: a call made for an answer gets it, the first refusal of the
 /// table is given, a refusal changes nothing, an acceptance leaves a fit store and nothing behind what it emits.
 fn reference_fault(call: &Call, left: &Left, applying: &[Line]) -> Option<String> {
+    if let Some(text) = checks_differ(call.task.store()).or_else(|| checks_differ(&left.store)) {
+        return Some(text);
+    }
     if left.number != applying.first().map_or(0, |line| line.number()) {
         return Some(format!("{applying:?} apply, got {}", left.number));
     }
     if call.intended.is_some_and(|intended| intended != left.number) {
         return Some(format!("made for {:?}, got {}", call.intended, left.number));
     }
-    let (store, output) = match &call.task {
-        Task::Handle { store, output, .. } => (store.as_slice(), output.as_slice()),
-        Task::Make { store, .. } => (store.as_slice(), [].as_slice()),
-        Task::Convert { .. } | Task::StoreLength(_) => return None,
+    let output = match &call.task {
+        Task::Handle { output, .. } => output.as_slice(),
+        _ => &[],
     };
-    let size = left.size as usize;
+    let (store, size) = (call.task.store(), left.size as usize);
     if left.number != 0 && (left.store != store || left.output != output || size != 0) {
         return Some("refusal changed something".to_string());
     }
@@ -146,6 +149,13 @@ fn reference_fault(call: &Call, left: &Left, applying: &[Line]) -> Option<String
         return Some("acceptance left an unfit store or wrote too much".to_string());
     }
     None
+}
+
+/// In words, where the pass by runs answers another thing than the definition. Every store that is made, and every one
+/// that a call leaves, is given to both.
+pub fn checks_differ(store: &[u8]) -> Option<String> {
+    let (by_runs, directly) = (fit(store), fit_directly(store));
+    (by_runs != directly).then(|| format!("store of {}: fit by runs {by_runs}, directly {directly}", store.len()))
 }
 
 pub fn hex(bytes: &[u8]) -> String {

@@ -1,6 +1,6 @@
 //! The converter of a store that is fit but perhaps for the order of its packet records.
 
-use crate::fit::fit_in_any_order;
+use crate::fit::direct::fit_in_any_order;
 use crate::refusal::STORE_NOT_FIT;
 use crate::store::sort_records;
 

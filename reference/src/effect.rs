@@ -3,7 +3,7 @@
 use crate::bytes::*;
 use crate::datagram::Packet;
 use crate::places::{frame, header, packet};
-use crate::store::{channel_place, insert, remove, Channel, Record};
+use crate::store::{channel_place, insert_at, record_place, remove, Channel, Record};
 
 const SENT: u16 = 0x0101;
 const DELIVERED: u16 = 0x0102;
@@ -74,13 +74,23 @@ fn write_packet(packet: &Packet, body: &mut [u8]) -> u32 {
     (frame::BODY + packet::LENGTH) as u32
 }
 
-/// What becomes of the packet records; the others keep their content.
+/// What becomes of the packet records, of which so many are in use before; the others keep their content.
 #[derive(Clone, Copy, Debug)]
 pub enum Change {
-    /// This one is put in at its place.
-    Insert(Record),
+    /// This one is put in at this index.
+    Insert { index: usize, record: Record, used: usize },
     /// The one of this index goes.
-    Remove(usize),
+    Remove { index: usize, used: usize },
+}
+
+impl Change {
+    /// The free records behind those in use are not touched.
+    fn apply(&self, store: &mut [u8]) {
+        match self {
+            Change::Insert { index, record, used } => insert_at(&mut store[..record_place(used + 1)], *index, record),
+            Change::Remove { index, used } => remove(&mut store[..record_place(*used)], *index),
+        }
+    }
 }
 
 /// Everything that an accepted call changes.
@@ -108,11 +118,9 @@ impl Effect {
         if let Some(number) = self.next_channel {
             put_u64(store, header::NEXT_CHANNEL, number);
         }
-        match &self.record {
-            Some(Change::Insert(record)) => insert(store, record),
-            Some(Change::Remove(index)) => remove(store, *index),
-            None => {}
+        if let Some(change) = &self.record {
+            change.apply(store);
         }
-        self.emitted.map_or(0, |emitted| emitted.write(output))
+        self.emitted.as_ref().map_or(0, |emitted| emitted.write(output))
     }
 }

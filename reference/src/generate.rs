@@ -55,16 +55,16 @@ impl Generator {
             self.left = CALLS_PER_STORE;
         }
         self.left -= 1;
-        match self.rng.below(132) {
+        match self.rng.below(140) {
             0..=22 => self.accepted(),
             23..=52 => self.with_faults(false),
             53..=92 => self.with_faults(true),
-            93..=103 => self.damaged(),
-            104..=109 => self.malformed(),
-            110..=112 => self.garbage(),
-            113..=115 => self.flipped(),
-            116..=120 => self.maker(),
-            121 => self.length(),
+            93..=107 => self.damaged(),
+            108..=113 => self.malformed(),
+            114..=116 => self.garbage(),
+            117..=119 => self.flipped(),
+            120..=124 => self.maker(),
+            125 => self.length(),
             _ => self.converter(),
         }
     }

@@ -13,7 +13,7 @@ mod tally;
 use std::collections::BTreeMap;
 
 use crate::bytes::get_u16;
-use crate::compare::differences;
+use crate::compare::{checks_differ, differences};
 use crate::coverage::Table;
 use crate::datagram::*;
 use crate::fit::fit;
@@ -133,6 +133,7 @@ impl History {
         if left.number != 0 {
             return;
         }
+        outcome.differences.extend(checks_differ(&left.store).map(|text| format!("{place}: {text}")));
         if length < OUTPUT || !fit(&left.store) || read(&datagram).is_none() {
             outcome
                 .broken

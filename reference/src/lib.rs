@@ -1,8 +1,9 @@
 //! The reference implementation of the packet handler's rules, independent of the proved code, for comparison.
 //!
-//! It is written from the rules alone, in the most direct way: read the values, ask each refusal in the order of
-//! the places, decide the whole effect, write it. The other modules make calls, hold two implementations against
-//! each other and check whole histories of two ledgers by counting.
+//! It is written from the rules alone: check the store, read the values, ask each refusal in the order of the places,
+//! decide the whole effect, write it. The proved code is measured against it too, so it passes over the records once.
+//! The other modules make calls, hold two implementations against each other and check whole histories of two ledgers
+//! by counting.
 
 pub mod bytes;
 pub mod compare;

@@ -86,6 +86,7 @@ pub mod handshake;
 pub mod lapse;
 pub mod maker;
 pub mod order;
+pub mod pass;
 pub mod time_out;
 mod tools;
 pub mod verdict;

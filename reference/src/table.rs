@@ -7,7 +7,7 @@ mod verdict;
 
 use crate::bytes::*;
 use crate::datagram::*;
-use crate::fit::fit;
+use crate::fit::direct::fit_directly;
 use crate::places::OUTPUT;
 use crate::refusal::*;
 use crate::rules::reached;
@@ -17,7 +17,7 @@ use crate::verdict::{Verdict, NEXT_RECV_EQUALS};
 /// Every line that applies, in the order of the places. Nothing is asked of an unfit store or of malformed bytes, and
 /// of a channel that is not there no more than that.
 pub fn applying(store: &[u8], output_length: usize, bytes: &[u8]) -> Vec<Line> {
-    let is_fit = fit(store);
+    let is_fit = fit_directly(store);
     let datagram = read(bytes);
     let mut numbers =
         vec![(STORE_NOT_FIT, !is_fit), (OUTPUT_SHORT, output_length < OUTPUT), (MALFORMED, datagram.is_none())];

@@ -1,16 +1,19 @@
 //! The generator hits what it aims at, the comparison passes what is right and finds what is wrong.
 
+mod damages;
+
 use std::collections::BTreeSet;
 
+use crate::bytes::*;
 use crate::compare::{compare, first_different};
-use crate::fit::{entries_fit, fit};
-use crate::generate::damage::{converter_answer, damage, KINDS, TWO_OF_ONE_KEY};
-use crate::generate::rng::Rng;
-use crate::generate::{grow, Generator, Origin};
+use crate::datagram::{read, PACKET_KINDS};
+use crate::generate::{Generator, Origin, Row};
 use crate::history::{self, Truth};
-use crate::shim::{self, closing, handshake, lapse, maker, order, time_out, verdict};
-use crate::store::{key_of, records, records_in, sort_records};
+use crate::places::{frame, OUTPUT};
+use crate::shim::{self, closing, handshake, lapse, maker, order, pass, time_out, verdict};
+use crate::store::*;
 use crate::subject::Handle;
+use crate::table::own_channel;
 use crate::workload::{workload, Workload, SEGMENT};
 
 const SEED: u64 = 20_240_601;
@@ -38,7 +41,7 @@ fn unmet_cells_are_told() {
 fn wrong_handlers_are_found() {
     let of_packets = shim::WRONG.into_iter().chain(lapse::WRONG).chain(time_out::WRONG);
     let of_steps = handshake::WRONG.into_iter().chain(closing::WRONG);
-    let handlers = of_packets.chain(of_steps).chain(order::WRONG).chain(verdict::WRONG);
+    let handlers = of_packets.chain(of_steps).chain(order::WRONG).chain(pass::WRONG).chain(verdict::WRONG);
     let converters = order::WRONG_CONVERTERS.map(|(name, convert)| (name, shim::with_converter(convert)));
     let makers = maker::WRONG.map(|(name, make)| (name, shim::with_maker(make)));
     let others = makers.into_iter().chain(converters);
@@ -46,26 +49,6 @@ fn wrong_handlers_are_found() {
         let first = first_different(&subject, 20_000, SEED);
         println!("{name}: differs at call {first:?}");
         assert!(first.is_some(), "{name}");
-    }
-}
-
-/// A store whose order is damaged is fit but for that, and with any other damage its records are still in order, unless
-/// two of one key stand apart: so nothing but the damage makes it unfit.
-#[test]
-fn damages_stand_alone() {
-    let mut rng = Rng::new(SEED);
-    for _ in 0..20_000 {
-        let mut store = grow::grown(&mut rng);
-        let kind = damage(&mut rng, &mut store);
-        let (mut sorted, twice) = (store.clone(), kind == TWO_OF_ONE_KEY);
-        if records_in(store.len()).is_some() {
-            sort_records(&mut sorted);
-            let keys = |store: &[u8]| records(store).iter().map(|bytes| key_of(bytes)).collect::<Vec<_>>();
-            let in_order = keys(&store) == keys(&sorted);
-            assert!(twice || in_order == (converter_answer(kind) != 0), "{}", KINDS[kind].0);
-        }
-        assert!(!fit(&store) && fit(&sorted) == (converter_answer(kind) == 0), "{}", KINDS[kind].0);
-        assert!(entries_fit(&store) == (converter_answer(kind) == 0 || twice));
     }
 }
 
@@ -185,7 +168,7 @@ fn lies_break_promises() {
     assert!(of_ends.iter().all(|name| !openings.contains_key(name) && nothing.contains_key(name)));
 }
 
-/// The measured mixture has all kinds accepted and many refusals, and leaves the store fit.
+/// The measured mixture has all kinds accepted, on ends of all orders, and many refusals, and leaves the store fit.
 #[test]
 fn workload_is_mixed() {
     for records in [8, 64] {
@@ -194,20 +177,26 @@ fn workload_is_mixed() {
         let refusals = workload.answers.range(1..).count();
         assert!(workload.answers[&0] > 2_000 && refusals >= 17 && !workload.answers.contains_key(&1));
         assert!(workload.answers[&20] > 20 && workload.free < 2 * 4_000);
-        assert_eq!(kinds_accepted(&workload), BTreeSet::from([1, 2, 3, 4, 5]));
+        let accepted = rows_accepted(&workload);
+        println!("{accepted:?}");
+        assert_eq!(accepted.iter().map(|row| row.kind).collect::<BTreeSet<_>>(), BTreeSet::from(PACKET_KINDS));
+        assert_eq!(accepted.iter().map(|row| row.order).collect::<BTreeSet<_>>(), BTreeSet::from(ORDERS));
     }
 }
 
-fn kinds_accepted(workload: &Workload) -> BTreeSet<u8> {
+fn rows_accepted(workload: &Workload) -> BTreeSet<Row> {
     let mut store = workload.store.clone();
-    let mut kinds = BTreeSet::new();
-    for (number, datagram) in workload.datagrams.iter().enumerate() {
+    let mut rows = BTreeSet::new();
+    for (number, bytes) in workload.datagrams.iter().enumerate() {
         if number % SEGMENT == 0 {
             store.copy_from_slice(&workload.store);
         }
-        if crate::handle(&mut store, &mut [0; 106], datagram).0 == 0 {
-            kinds.insert(datagram[4]);
+        if crate::handle(&mut store, &mut [0; OUTPUT], bytes).0 == 0 {
+            let body = read(bytes).expect("it was accepted").body;
+            let number = own_channel(&body).expect("it is about a packet");
+            let (_, end) = find_channel(&store, number).expect("it was accepted");
+            rows.insert(Row { kind: get_u16(bytes, frame::KIND), order: end.order });
         }
     }
-    kinds
+    rows
 }

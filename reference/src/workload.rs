@@ -7,22 +7,24 @@ use crate::datagram::*;
 use crate::generate::accept::{accepted, pick_record};
 use crate::generate::draft::Draft;
 use crate::generate::fault;
-use crate::generate::making::openings_of;
+use crate::generate::making::openings;
 use crate::generate::malform::malform;
 use crate::generate::rng::Rng;
 use crate::generate::shape::{channels, fill};
 use crate::places::{opening, OUTPUT};
 use crate::refusal::Line;
+use crate::rules::passed;
 use crate::store::*;
 
 /// After so many calls the store is set back, so that it stays full of the same mixture.
 pub const SEGMENT: usize = 100;
-/// Receipts and acknowledgements written in a segment at most: nothing frees them.
+/// Receipts of both sorts and acknowledgements written in a segment at most: nothing frees them.
 const KEPT: usize = 4;
 /// With more free records than this the next accepted call is a send, so that the store is never far from full.
 const FREE: usize = 2;
-/// The orders of the ends, so that figures can be compared with those from before the third one.
-const MEASURED: [u8; 2] = [ORDERED, UNORDERED];
+/// The ends of the full store, at least so many of each order.
+const ENDS: usize = 8;
+const ENDS_OF_AN_ORDER: usize = 2;
 
 /// Datagrams in segments, each made for the store as the segment's earlier ones leave it.
 pub struct Workload {
@@ -52,12 +54,11 @@ pub fn workload(seed: u64, records: usize, count: usize) -> Workload {
     workload
 }
 
-/// Eight ends of orders 1 and 2 and no free record; at least half of the records are commitments, the rest receipts and
-/// acknowledgements.
+/// Ends of all orders and no free record; records of all kinds, at least half of them commitments.
 fn full(rng: &mut Rng, records: usize) -> Vec<u8> {
     loop {
         let mut store = vec![0; store_length(records)];
-        crate::make_store(&mut store, &openings_of(rng, 8, &MEASURED));
+        crate::make_store(&mut store, &openings(rng, ENDS));
         for (index, end) in channels(&store) {
             Channel { next_sequence_recv: 1 + records as u64, ..end }.write(&mut store[channel_place(index)..]);
         }
@@ -66,12 +67,19 @@ fn full(rng: &mut Rng, records: usize) -> Vec<u8> {
             let next = pick_record(rng, &store, COMMITMENT, end.channel).map_or(1, |(_, record)| record.sequence);
             Channel { next_sequence_ack: next, ..end }.write(&mut store[channel_place(index)..]);
         }
-        let commitments = (0..records).filter(|index| record_at(&store, *index).kind == COMMITMENT).count();
-        let orders = channels(&store).iter().filter(|(_, end)| end.is_ordered()).count();
-        if filled && 2 * commitments >= records && orders == 4 {
+        if filled && is_mixed(&store) {
             return store;
         }
     }
+}
+
+fn is_mixed(store: &[u8]) -> bool {
+    let ends = channels(store);
+    let of_order = |order| ends.iter().filter(|(_, end)| end.order == order).count();
+    let of_kind = |kind| (0..record_count(store)).filter(|index| record_at(store, *index).kind == kind).count();
+    ORDERS.into_iter().all(|order| of_order(order) >= ENDS_OF_AN_ORDER)
+        && (COMMITMENT..=TIMEOUT_RECEIPT).all(|kind| of_kind(kind) > 0)
+        && 2 * of_kind(COMMITMENT) >= record_count(store)
 }
 
 struct Segment {
@@ -106,9 +114,10 @@ impl Segment {
         let any = rng.pick(&[SEND, RECEIVE, WRITE, ACKNOWLEDGE, TIME_OUT]);
         let kind = if free_count(&self.store) > FREE { SEND } else { any };
         let draft = accepted(rng, &self.store, kind)?;
-        let ordered = draft.end().is_ordered();
-        let stays = kind == WRITE || kind == RECEIVE && !ordered;
-        if kind == TIME_OUT && ordered || stays && self.kept >= KEPT {
+        let (end, Context { height, time, .. }) = (draft.end(), draft.context);
+        let has_receipt = end.is_unordered() || end.allows_timeouts() && passed(&draft.packet, height, time);
+        let stays = kind == WRITE || kind == RECEIVE && has_receipt;
+        if kind == TIME_OUT && end.is_ordered() || stays && self.kept >= KEPT {
             return None;
         }
         self.kept += usize::from(stays);
@@ -160,7 +169,7 @@ pub struct Shifting {
 pub fn shifting(seed: u64, records: usize) -> Shifting {
     let mut rng = Rng::new(seed);
     let mut store = vec![0; store_length(records)];
-    let mut list = openings_of(&mut rng, 3, &MEASURED);
+    let mut list = openings(&mut rng, 3);
     (1..=3).zip(list.chunks_exact_mut(opening::LENGTH)).for_each(|(number, it)| put_u32(it, opening::CHANNEL, number));
     crate::make_store(&mut store, &list);
     let (index, end) = find_channel(&store, 2).expect("the maker made it");

@@ -1,6 +1,6 @@
 //! Calls of the converter, each with a call of the handler before it and one behind it.
 
-use super::{differences, note, Report};
+use super::{checks_differ, differences, note, Report};
 use crate::fit::fit;
 use crate::generate::{Call, Origin};
 use crate::places::{OUTPUT, PACKET_RECORDS};
@@ -42,6 +42,9 @@ fn three(store: &[u8], convert: impl Fn(&[u8]) -> Left, handle: impl Fn(&[u8]) -
 /// before the packet records are kept, and these are the same. What was made fit but for the order is refused with 1
 /// before, unless it is in order, and accepted behind it.
 fn reference_fault(call: &Call, store: &[u8], [before, converted, after]: &[Left; 3]) -> Option<String> {
+    if let Some(text) = checks_differ(store).or_else(|| checks_differ(&converted.store)) {
+        return Some(text);
+    }
     if call.intended.is_some_and(|intended| intended != converted.number) {
         return Some(format!("made for {:?}, got {}", call.intended, converted.number));
     }

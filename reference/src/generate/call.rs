@@ -24,6 +24,16 @@ pub enum Task {
     StoreLength(usize),
 }
 
+impl Task {
+    /// The store that is lent; to be asked for a length none is.
+    pub fn store(&self) -> &[u8] {
+        match self {
+            Task::Handle { store, .. } | Task::Make { store, .. } | Task::Convert { store, .. } => store,
+            Task::StoreLength(_) => &[],
+        }
+    }
+}
+
 /// The kind of a datagram and the order of the channel that it was made for: each such row of the table has its own
 /// refusals.
 #[derive(Clone, Copy, Debug, PartialEq, Eq, PartialOrd, Ord)]

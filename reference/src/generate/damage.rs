@@ -6,16 +6,18 @@
 mod end;
 mod order;
 mod record;
+mod run;
 
 use super::rng::Rng;
 use crate::bytes::*;
-use crate::places::{channel, frame, header, HEADER, MAX_RECORDS, PACKET_RECORDS, RECORD};
+use crate::places::{channel, frame, header, record as packet, HEADER, MAX_RECORDS, PACKET_RECORDS, RECORD};
 use crate::store::*;
+use run::Spot;
 
 type Damage = fn(&mut Rng, &mut Vec<u8>) -> Option<()>;
 
 /// Each kind of damage with its name. A kind answers nothing when the store has no place for it.
-pub const KINDS: [(&str, Damage); 42] = [
+pub const KINDS: [(&str, Damage); 62] = [
     ("slice cut short", cut_short),
     ("slice too long", too_long),
     ("record too few or many", record_more_or_less),
@@ -53,6 +55,33 @@ pub const KINDS: [(&str, Damage); 42] = [
     ("not received, timeouts allowed", |rng, store| record::not_taken(rng, store, ACKNOWLEDGEMENT, ALLOW_TIMEOUT)),
     ("not received, unordered", record::not_received_unordered),
     ("free record not zero", record::free_not_zero),
+    ("first record", run::first_record),
+    ("last record of a full table", |rng, store| run::last_record(rng, store, true)),
+    ("record before the first free one", |rng, store| run::last_record(rng, store, false)),
+    ("zeros in the middle of a run", run::zeros_in_the_middle),
+    ("sequence 0 before others", run::zero_before),
+    ("at next send behind others", |rng, store| {
+        let order = rng.pick(&ORDERS);
+        run::at_next(rng, store, COMMITMENT, order)
+    }),
+    ("at next receive behind others, ordered", |rng, store| run::at_next(rng, store, ACKNOWLEDGEMENT, ORDERED)),
+    ("at next receive behind others, timeouts allowed", |rng, store| {
+        run::at_next(rng, store, ACKNOWLEDGEMENT, ALLOW_TIMEOUT)
+    }),
+    ("timeout receipt at next receive behind others", |rng, store| {
+        run::at_next(rng, store, TIMEOUT_RECEIPT, ALLOW_TIMEOUT)
+    }),
+    ("first of a run not received", |rng, store| run::not_received(rng, store, Spot::First)),
+    ("middle of a run not received", |rng, store| run::not_received(rng, store, Spot::Middle)),
+    ("last of a run not received", |rng, store| run::not_received(rng, store, Spot::Last)),
+    ("receipt on the next channel", run::receipt_on_next),
+    ("no receipts before acknowledgements", run::no_receipts),
+    ("first of a run acknowledged and lapsed", |rng, store| run::lapsed_beside(rng, store, Spot::First)),
+    ("middle of a run acknowledged and lapsed", |rng, store| run::lapsed_beside(rng, store, Spot::Middle)),
+    ("last of a run acknowledged and lapsed", |rng, store| run::lapsed_beside(rng, store, Spot::Last)),
+    ("first word behind a free one", |rng, store| run::behind_free(rng, store, packet::ZEROS..packet::CHANNEL)),
+    ("rest of a slot behind a free one", |rng, store| run::behind_free(rng, store, packet::TIMEOUT_HEIGHT..RECORD)),
+    ("last byte of the store", run::last_byte),
     ("two of one key", record::twice),
     ("out of order by channel", |rng, store| order::swapped(rng, store, |one, next| one.channel != next.channel)),
     ("out of order by kind", |rng, store| {
@@ -79,7 +108,10 @@ pub fn converter_answer(kind: usize) -> u8 {
 pub fn damage(rng: &mut Rng, store: &mut Vec<u8>) -> usize {
     loop {
         let kind = if rng.one_in(12) { TWO_OF_ONE_KEY } else { rng.index(KINDS.len()) };
-        if KINDS[kind].1(rng, store).is_some() {
+        // What comes to nothing may have put records in on its way.
+        let mut damaged = store.clone();
+        if KINDS[kind].1(rng, &mut damaged).is_some() {
+            *store = damaged;
             return kind;
         }
     }

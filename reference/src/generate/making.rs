@@ -26,11 +26,6 @@ pub fn records(rng: &mut Rng) -> usize {
 
 /// Well-formed openings with different channel numbers, of all orders.
 pub fn openings(rng: &mut Rng, count: usize) -> Vec<u8> {
-    openings_of(rng, count, &ORDERS)
-}
-
-/// And of these orders alone.
-pub fn openings_of(rng: &mut Rng, count: usize, orders: &[u8]) -> Vec<u8> {
     let mut numbers: Vec<u32> = Vec::new();
     while numbers.len() < count {
         let number = if rng.one_in(8) { rng.draw() as u32 } else { rng.below(40) as u32 };
@@ -38,10 +33,10 @@ pub fn openings_of(rng: &mut Rng, count: usize, orders: &[u8]) -> Vec<u8> {
             numbers.push(number);
         }
     }
-    numbers.into_iter().flat_map(|number| one_opening(rng, number, orders)).collect()
+    numbers.into_iter().flat_map(|number| one_opening(rng, number)).collect()
 }
 
-fn one_opening(rng: &mut Rng, number: u32, orders: &[u8]) -> [u8; opening::LENGTH] {
+fn one_opening(rng: &mut Rng, number: u32) -> [u8; opening::LENGTH] {
     let mut bytes = [0; opening::LENGTH];
     put_u32(&mut bytes, frame::LENGTH, opening::LENGTH as u32);
     put_u16(&mut bytes, frame::KIND, OPENING_KIND);
@@ -49,7 +44,7 @@ fn one_opening(rng: &mut Rng, number: u32, orders: &[u8]) -> [u8; opening::LENGT
     put_u32(&mut bytes, opening::CHANNEL, number);
     put_u16(&mut bytes, opening::COUNTERPARTY_PORT, port(rng));
     put_u32(&mut bytes, opening::COUNTERPARTY_CHANNEL, rng.number() as u32);
-    bytes[opening::ORDER] = rng.pick(orders);
+    bytes[opening::ORDER] = rng.pick(&ORDERS);
     bytes
 }
 

@@ -3,7 +3,7 @@
 use super::handshake::other_end;
 use super::{not_received, Call};
 use crate::datagram::Packet;
-use crate::effect::{Change, Effect, Emitted};
+use crate::effect::{Effect, Emitted};
 use crate::refusal::*;
 use crate::store::*;
 use crate::verdict::*;
@@ -15,24 +15,24 @@ impl Call<'_> {
         Ok(self.moved(Channel { state: CLOSED, ..self.end }))
     }
 
-    pub fn close_confirm(&self, verdict: EndVerdict) -> Result<Effect, u8> {
+    pub fn close_confirm(&self, verdict: &EndVerdict) -> Result<Effect, u8> {
         self.step(OPEN, Channel { state: CLOSED, ..self.end }, self.closed_other(), verdict)
     }
 
     /// Where the other end is CLOSED it takes no packet any more, whatever the timeouts are: a packet that was not
     /// received in the block that shows it so never will be. Neither state nor connection is asked for.
-    pub fn time_out_on_close(&self, packet: Packet, closed: EndVerdict, verdict: Verdict) -> Result<Effect, u8> {
-        refuse_if(!self.sent_here(&packet), WRONG_END)?;
-        let index = self.commitment(&packet).ok_or(NO_COMMITMENT)?;
+    pub fn time_out_on_close(&self, packet: &Packet, closed: &EndVerdict, verdict: &Verdict) -> Result<Effect, u8> {
+        refuse_if(!self.sent_here(packet), WRONG_END)?;
+        let index = self.commitment(packet).ok_or(NO_COMMITMENT)?;
         closed.compare(&self.closed_other())?;
         // Where timeouts are allowed the packet lapsed or was not taken: which of the two, the verdict says itself.
         let claim = self.absence_claim(verdict.claim == TIMEOUT_RECEIPT_PRESENT);
-        verdict.compare(&not_received(claim, &packet, &verdict))?;
+        verdict.compare(&not_received(claim, packet, verdict))?;
         let one_block = closed.proof_height == verdict.proof_height && closed.proof_time == verdict.proof_time;
         refuse_if(!one_block, OTHER_BLOCK)?;
-        let end = self.given_back(&packet, &verdict)?;
+        let end = self.given_back(packet, verdict)?;
         refuse_if(!closed.has_version(&self.end.version), WRONG_VERSION)?;
-        Ok(self.effect(end, Some(Change::Remove(index)), Emitted::TimedOut(packet)))
+        Ok(self.effect(end, Some(self.removed(index)), Emitted::TimedOut(*packet)))
     }
 
     fn closed_other(&self) -> Channel {

@@ -10,7 +10,7 @@ use crate::verdict::*;
 /// The end's counterparty has no channel yet; its port is known.
 pub fn open_init(
     store: &[u8],
-    context: Context,
+    context: &Context,
     counterparty_port: u16,
     order: u8,
     version: &[u8],
@@ -24,10 +24,10 @@ pub fn open_init(
 /// Answers the end that the other ledger made by an init.
 pub fn open_try(
     store: &[u8],
-    context: Context,
+    context: &Context,
     counterparty: (u16, u32),
     order: u8,
-    verdict: EndVerdict,
+    verdict: &EndVerdict,
     version: &[u8],
 ) -> Result<Effect, u8> {
     refuse_if(context.connection != 1, CONNECTION_NOT_OPEN)?;
@@ -42,19 +42,19 @@ pub fn open_try(
 
 impl Call<'_> {
     /// The initiator learns which end answers it.
-    pub fn open_acknowledge(&self, counterparty_channel: u32, verdict: EndVerdict) -> Result<Effect, u8> {
+    pub fn open_acknowledge(&self, counterparty_channel: u32, verdict: &EndVerdict) -> Result<Effect, u8> {
         let named = Channel { counterparty_channel, ..self.end };
         let opened = Channel { state: OPEN, ..named };
         self.step(INIT, opened, Channel { state: TRYOPEN, ..other_end(&named) }, verdict)
     }
 
-    pub fn open_confirm(&self, verdict: EndVerdict) -> Result<Effect, u8> {
+    pub fn open_confirm(&self, verdict: &EndVerdict) -> Result<Effect, u8> {
         let opened = Channel { state: OPEN, ..self.end };
         self.step(TRYOPEN, opened, Channel { state: OPEN, ..other_end(&self.end) }, verdict)
     }
 
     /// From its prior state the end becomes this one, when the verdict shows the other end.
-    pub fn step(&self, prior: u8, end: Channel, other: Channel, verdict: EndVerdict) -> Result<Effect, u8> {
+    pub fn step(&self, prior: u8, end: Channel, other: Channel, verdict: &EndVerdict) -> Result<Effect, u8> {
         refuse_if(self.context.connection != 1, CONNECTION_NOT_OPEN)?;
         verdict.compare(&other)?;
         refuse_if(self.end.state != prior, NOT_PRIOR_STATE)?;
@@ -100,8 +100,8 @@ pub fn other_end(end: &Channel) -> Channel {
     fresh(end.counterparty_port, end.counterparty_channel, named, end.order, end.version)
 }
 
-fn made(store: &[u8], context: Context, index: usize, end: Channel) -> Effect {
-    let Context { height, time, .. } = context;
+fn made(store: &[u8], context: &Context, index: usize, end: Channel) -> Effect {
+    let Context { height, time, .. } = *context;
     let emitted = Some(Emitted::EndMade { port: end.port, channel: end.channel });
     Effect { height, time, end: (index, end), next_channel: Some(next_channel(store) + 1), record: None, emitted }
 }

@@ -4,7 +4,8 @@ use std::slice::{from_raw_parts, from_raw_parts_mut};
 
 use super::tools::remove_all;
 use crate::bytes::*;
-use crate::fit::{entries_fit, fit, fit_in_any_order};
+use crate::fit::direct::{entries_fit, fit_in_any_order};
+use crate::fit::fit;
 use crate::places::{header, PACKET_RECORDS};
 use crate::store::*;
 use crate::subject::{ConvertStore, Handle};
