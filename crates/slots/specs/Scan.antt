@@ -53,6 +53,10 @@ tableFrom g start n bs i = map (slotIn g) (slotsFrom start n bs i)
 abbrev pub placeOf : Key → List (Option Record) → ℕ
 placeOf k rs = count (λ r. isBefore (keyOf r) k) rs
 
+-- HOW MANY SLOTS hold an entry. In a table in order they are the first so many
+abbrev pub usedSlots : {A : Type 0} → List (Option A) → ℕ
+usedSlots xs = count (λ x. true) xs
+
 -- bytes of so many packet records, at least one, which are in order
 pub record RecordsInOrder (bs : List ℕ) (count : ℕ) : Type 0 where
   pub low : 1 ≤ count
