@@ -9,7 +9,7 @@ use Rattle.slots.specs.declared.Found.{Found}
 use Rattle.slots.specs.declared.Found.the-variants.{At, Nothing}
 use Rattle.slots.specs.Table.{isNumbered}
 use Rattle.slots.specs.Layout.{Store, storeIn}
-use Rattle.slots.specs.Scan.{firstFree, firstThat}
+use Rattle.slots.specs.Scan.{firstFree, firstThat, usedSlots}
 use Rattle.slots.specs.Effect.{withChannelSlot}
 use Rattle.slots.specs.Fit.{isFit}
 use Rattle.datagram.specs.Datagram.{datagramIn, isSound}
@@ -38,8 +38,9 @@ abbrev pub withEnd : Store → Found → Channel → Store
 withEnd s (At j) c = withChannelSlot s j (some c)
 withEnd s Nothing c = s
 
--- the slots of the end and of the packet record that it changes, and the next channel number
+-- the slots of the end and of the packet record that it changes, the next channel number, and the slots in use
 pub record Placed (s : Store) (p : Plan) : Type 0 where
   pub end : p .at ≡ endSlot (endsBy (p .decision)) (s .channels)
   pub next : p .next ≡ numberAfter (endsBy (p .decision)) (s .next)
   pub edit : p .slot ≡ slotOf (editBy (p .decision .edit)) (s .records)
+  pub used : p .used ≡ usedSlots (s .records)

@@ -28,6 +28,7 @@ ghost use Rattle.slots.specs.declared.Found.the-variants.{At};
 ghost use Rattle.slots.specs.Limits.{channelLimit, top};
 ghost use Rattle.slots.specs.Table.{channelAt};
 ghost use Rattle.slots.specs.Layout.{recordsFrom, bytesOf, storeIn};
+ghost use Rattle.slots.specs.Scan.{usedSlots};
 ghost use Rattle.slots.specs.Effect.{Exact};
 ghost use Rattle.slots.specs.Fit.{isFit};
 ghost use Rattle.datagram.specs.Datagram.{datagramIn};
@@ -39,13 +40,14 @@ ghost use Rattle.effects.specs.Decided.{endEditOf, effectBy};
 ghost use Rattle.acceptance.specs.Planned.{Ready, endSlot, withEnd, Placed};
 
 // What is carried out: the times, what the datagram does, the next channel number, and the slots of the end (`at`) and
-// of the packet record.
+// of the packet record; and how many packet records are in use.
 struct Plan {
     decision: Decision,
     context: Context,
     next: u64,
     at: Found,
     slot: Found,
+    used: usize,
 }
 
 // The channel end of this number, or zeros: a datagram that makes an end is about none.
@@ -84,8 +86,8 @@ fn number_after(ends: EndAction, end: Channel, next: u64) -> u64
 }
 
 // All that is read of the store.
-fn plan_for(store: &[u8], datagram: &[u8]) -> Plan
-    requires { ⌜ Ready (now store) (now datagram) ⌝ }
+fn plan_for(store: &[u8], datagram: &[u8], used: usize) -> Plan
+    requires { ⌜ Ready (now store) (now datagram) × (used ≡ usedSlots (storeIn (now store) .records)) ⌝ }
     ensures context { λ r. ⌜ r .context ≡ datagramIn (now (datagram .entry)) .context ⌝ }
     ensures effect { λ r. ⌜
         effectBy (r .decision) ≡ effectIn (storeIn (now (store .entry))) (datagramIn (now (datagram .entry)))
@@ -105,6 +107,7 @@ fn plan_for(store: &[u8], datagram: &[u8]) -> Plan
         next: number_after(ends, end, next),
         at: end_slot(store, ends, end),
         slot: slot_of(store, edit),
+        used: used,
     }
 }
 
@@ -133,12 +136,15 @@ fn carry_out(store: &mut [u8], p: Plan)
     put_end(store, at, end);
     let slot = p.slot;
     let edit = p.decision.edit;
-    edit_records(store, slot, edit);
+    edit_records(store, slot, p.used, edit);
 }
 
-// Carries out a datagram that the table of answers accepts. Returns the length of the record that it emits.
-pub fn accept(store: &mut [u8], output: &mut [u8], datagram: &[u8]) -> u32
-    requires { ⌜ answerTo (now store) (now output) (now datagram) ≡ 0 ⌝ }
+// Carries out a datagram that the table of answers accepts; so many packet records are in use. Returns the length of
+// the record that it emits.
+pub fn accept(store: &mut [u8], output: &mut [u8], datagram: &[u8], used: usize) -> u32
+    requires { ⌜
+        (answerTo (now store) (now output) (now datagram) ≡ 0) × (used ≡ usedSlots (storeIn (now store) .records))
+        ⌝ }
     ensures size { λ r. ⌜
         r ≡ length (effectIn (storeIn (now (store .entry))) (datagramIn (now (datagram .entry))) .emitted)
         ⌝ }
@@ -151,7 +157,7 @@ pub fn accept(store: &mut [u8], output: &mut [u8], datagram: &[u8]) -> u32
         (now (output .entry))
         ⌝ }
 {
-    let p = plan_for(store, datagram);
+    let p = plan_for(store, datagram, used);
     carry_out(store, p);
     let emission = p.decision.emission;
     emit_record(output, emission)

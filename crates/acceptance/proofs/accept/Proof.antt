@@ -24,7 +24,7 @@ abbrev output : tie.Start → List ℕ
 output o = now (o .args .output)
 
 accepted : (o : tie.Start) → Ready (store o) (now (o .args .datagram))
-accepted o = ready (store o) (output o) (now (o .args .datagram)) (o .pre)
+accepted o = ready (store o) (output o) (now (o .args .datagram)) (o .pre .0)
 
 abbrev start : tie.After-plan-for → tie.Start
 start p = p .before .before .before .before .before
@@ -35,7 +35,7 @@ carry-out-requires c κs = let p = c .before in (accepted (start p) .fit, p .pla
 emit-record-requires : tie.Need-emit-record-requires
 emit-record-requires c κs =
     let o = start (c .before .before .before .before .before .before) in
-    output-room (store o) (output o) (now (o .args .datagram)) (o .pre)
+    output-room (store o) (output o) (now (o .args .datagram)) (o .pre .0)
 
 returns : tie.Need-returns
 unfolding nextStore
@@ -60,5 +60,5 @@ pub accept-spec : {M : Type 1} → statement M
 accept-spec =
     tie.close
     (tie.spec
-    (λ c κs. accepted (c .before .before .before .before)) carry-out-requires emit-record-requires (λ c. search needs)
+    (λ c κs. let o = c .before .before .before .before in (accepted o, o .pre .1)) carry-out-requires emit-record-requires (λ c. search needs)
     (λ c. search needs) returns)

@@ -28,10 +28,10 @@ abbrev datagramGot : tie.Start → List ℕ
 datagramGot o = now (o .args .datagram)
 
 sound : (o : tie.Start) → Sound (datagramGot o)
-sound o = sound-is (datagramGot o) (o .pre .sound)
+sound o = sound-is (datagramGot o) (o .pre .0 .sound)
 
 room : (o : tie.Start) → recordsFrom ≤ length (store o)
-room o = omega (arith, fit-in-order (store o) (o .pre .fit) .size)
+room o = omega (arith, fit-in-order (store o) (o .pre .0 .fit) .size)
 
 -- WHAT IS READ: the channel, its end, and the next channel number
 abbrev start : tie.After-channel-in → tie.Start
@@ -66,7 +66,7 @@ decide-requires c κs =
     let k = ap kindOf kind in (
       ap isSome k ∙ s .known,
       rw k (omega (arith, s .size)),
-      planned-left (store o) (datagramGot o) kind (next c) (end (c .before)) (o .pre),
+      planned-left (store o) (datagramGot o) kind (next c) (end (c .before)) (o .pre .0),
     )
 
 number-after-requires : tie.Need-number-after-requires
@@ -77,7 +77,7 @@ number-after-requires c κs =
     let o = start i in
     let below : u .u64-at .result ≤ top = omega arith in
     planned-number (store o) (datagramGot o) (i .before .kind-in .ensures) (next u) (end (u .before))
-    (decision .decide .ensures) below (o .pre)
+    (decision .decide .ensures) below (o .pre .0)
 
 returns : tie.Need-returns
 unfolding datagramIn
@@ -97,6 +97,7 @@ returns c =
           end = slot .end-slot .ensures;
           next = after .number-after .ensures ∙ ap (numberAfter (endsBy (decision .decide .result))) (next u);
           edit = c .slot-of .ensures;
+          used = o .pre .1;
         },
       ),
     )
@@ -109,4 +110,4 @@ plan-for-spec =
     (λ c κs. omega (arith, room (start (c .before)))) decide-requires
     (λ c κs. omega (arith, sound (start (c .before .before .before .before .before)) .size)) number-after-requires
     (λ c κs. room (start (c .before .before .before .before .before .before .before)))
-    (λ c κs. start (c .before .before .before .before .before .before .before .before) .pre .fit) returns)
+    (λ c κs. start (c .before .before .before .before .before .before .before .before) .pre .0 .fit) returns)
