@@ -47,8 +47,7 @@ pub spare-room : (k : Key) (rs : List (Option Record)) (i : ℕ) → slotFor k r
     let n = spareSlot (length rs) (usedSlots rs) in (i ≤ n) × (n < length rs)
 spare-room k rs i h =
     let at = slot-for k rs i h in
-    let low = place-used rs k in
-    (
+    let low = place-used rs k in (
       cases (ltb (usedSlots rs) (length rs)) (λ e. rw e (omega arith)) (λ e. rw e (omega (arith, at .1))),
       spare rs (omega (arith, at .1)) .0,
     )
