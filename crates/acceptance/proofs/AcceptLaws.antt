@@ -147,7 +147,8 @@ module _ (s d : List ℕ) {k n : ℕ} {c : Channel} (p : k ≡ kindIn d) (q : n 
       numberAfter (e .ends) n ≤ top
   planned-number h below o = rw h (number-fits (kindOf k) n c (datagramOf (kindOf k) d) below (planned-left o))
 
-  pub planned-slot : (x : EndAction) (e : Channel) → endEditOf x e ≡ effectFor (kindOf k) n c (datagramOf (kindOf k) d) .ends →
+  pub planned-slot : (x : EndAction) (e : Channel) →
+      endEditOf x e ≡ effectFor (kindOf k) n c (datagramOf (kindOf k) d) .ends →
       Ready s d → {at : Found} → at ≡ firstThat (isNumbered (datagramIn d .channel)) (storeIn s .channels) →
       slotBy x at (storeIn s .channels) ≡ endSlot (endEditOf x e) (storeIn s .channels)
   unfolding datagramIn

@@ -105,7 +105,8 @@ returns c =
         record {
           end =
               slot .end-slot .ensures ∙ planned-slot (store o) (datagramGot o) kind (next u) (end (u .before))
-              (decision .decide .result .ends) (decision .decide .result .end) ends (o .pre .0) (found (u .before .before));
+              (decision .decide .result .ends) (decision .decide .result .end) ends (o .pre .0)
+              (found (u .before .before));
           next = after .number-after .ensures ∙ ap (numberAfter (endsBy (decision .decide .result))) (next u);
           edit = c .slot-of .ensures;
           used = o .pre .1;
@@ -118,8 +119,8 @@ plan-for-spec =
     tie.close
     (tie.spec
     (λ c κs. omega (arith, sound (c .before .before) .size)) channel-in-requires (λ c κs. room (start c))
-    (λ c κs. (room (start (c .before)), c .find-channel .ensures)) (λ c κs. omega (arith, room (start (c .before .before))))
-    decide-requires
+    (λ c κs. (room (start (c .before)), c .find-channel .ensures))
+    (λ c κs. omega (arith, room (start (c .before .before)))) decide-requires
     (λ c κs. omega (arith, sound (start (c .before .before .before .before .before .before)) .size))
     number-after-requires
     (λ c κs. room (start (c .before .before .before .before .before .before .before .before)))
