@@ -26,8 +26,9 @@ ghost use Prim.Native.Nat.{ℕ, _≤_, _<_};
 ghost use lib.ListN.{length};
 ghost use Rattle.slots.specs.declared.Found.the-variants.{At};
 ghost use Rattle.slots.specs.Limits.{channelLimit, top};
-ghost use Rattle.slots.specs.Table.{channelAt};
+ghost use Rattle.slots.specs.Table.{isNumbered, channelAt};
 ghost use Rattle.slots.specs.Layout.{recordsFrom, bytesOf, storeIn};
+ghost use Rattle.slots.specs.Scan.{firstThat, usedSlots};
 ghost use Rattle.slots.specs.Effect.{Exact};
 ghost use Rattle.slots.specs.Fit.{isFit};
 ghost use Rattle.datagram.specs.Datagram.{datagramIn};
@@ -36,37 +37,40 @@ ghost use Rattle.rules.specs.Refusals.{orNone};
 ghost use Rattle.rules.specs.Acceptance.{numberAfter, applied};
 ghost use Rattle.rules.specs.Call.{answerTo, effectIn, nextStore};
 ghost use Rattle.effects.specs.Decided.{endEditOf, effectBy};
-ghost use Rattle.acceptance.specs.Planned.{Ready, endSlot, withEnd, Placed};
+ghost use Rattle.acceptance.specs.Planned.{Ready, slotBy, withEnd, Placed};
 
 // What is carried out: the times, what the datagram does, the next channel number, and the slots of the end (`at`) and
-// of the packet record.
+// of the packet record; and how many packet records are in use.
 struct Plan {
     decision: Decision,
     context: Context,
     next: u64,
     at: Found,
     slot: Found,
+    used: usize,
 }
 
-// The channel end of this number, or zeros: a datagram that makes an end is about none.
-fn end_of(store: &[u8], number: u32) -> Channel
-    requires { ⌜ recordsFrom ≤ length (now store) ⌝ }
+// The channel end of this number, which was found at a slot, or zeros: a datagram that makes an end is about none.
+fn end_of(store: &[u8], number: u32, at: Found) -> Channel
+    requires { ⌜
+        (recordsFrom ≤ length (now store)) × (at ≡ firstThat (isNumbered number) (storeIn (now store) .channels))
+        ⌝ }
     ensures { λ r. ⌜ r ≡ orNone (channelAt number (storeIn (now (store .entry)) .channels)) ⌝ }
 {
-    let Found::At(j) = find_channel(store, number) else {
+    let Found::At(j) = at else {
         return no_channel();
     };
     channel_at(store, Layout::HEADER + Layout::SLOT * j)
 }
 
-// The slot of the end that changes, or the free one of lowest index.
-fn end_slot(store: &[u8], ends: EndAction, end: Channel) -> Found
+// The slot of the end that changes, which is that of the datagram's end, or the free one of lowest index.
+fn end_slot(store: &[u8], ends: EndAction, at: Found) -> Found
     requires { ⌜ recordsFrom ≤ length (now store) ⌝ }
-    ensures { λ r. ⌜ r ≡ endSlot (endEditOf ends end) (storeIn (now (store .entry)) .channels) ⌝ }
+    ensures { λ r. ⌜ r ≡ slotBy ends at (storeIn (now (store .entry)) .channels) ⌝ }
 {
     match ends {
         EndAction::Leaves => Found::Nothing,
-        EndAction::Puts => find_channel(store, end.own.channel),
+        EndAction::Puts => at,
         EndAction::Adds => find_free_channel(store),
     }
 }
@@ -84,8 +88,8 @@ fn number_after(ends: EndAction, end: Channel, next: u64) -> u64
 }
 
 // All that is read of the store.
-fn plan_for(store: &[u8], datagram: &[u8]) -> Plan
-    requires { ⌜ Ready (now store) (now datagram) ⌝ }
+fn plan_for(store: &[u8], datagram: &[u8], used: usize) -> Plan
+    requires { ⌜ Ready (now store) (now datagram) × (used ≡ usedSlots (storeIn (now store) .records)) ⌝ }
     ensures context { λ r. ⌜ r .context ≡ datagramIn (now (datagram .entry)) .context ⌝ }
     ensures effect { λ r. ⌜
         effectBy (r .decision) ≡ effectIn (storeIn (now (store .entry))) (datagramIn (now (datagram .entry)))
@@ -93,7 +97,9 @@ fn plan_for(store: &[u8], datagram: &[u8]) -> Plan
     ensures slots { λ r. ⌜ Placed (storeIn (now (store .entry))) r ⌝ }
 {
     let kind = kind_in(datagram);
-    let c = end_of(store, channel_in(datagram, kind));
+    let number = channel_in(datagram, kind);
+    let found = find_channel(store, number);
+    let c = end_of(store, number, found);
     let next = u64_at(store, 28);
     let decision = decide(datagram, kind, next, c);
     let ends = decision.ends;
@@ -103,8 +109,9 @@ fn plan_for(store: &[u8], datagram: &[u8]) -> Plan
         decision: decision,
         context: context_in(datagram),
         next: number_after(ends, end, next),
-        at: end_slot(store, ends, end),
+        at: end_slot(store, ends, found),
         slot: slot_of(store, edit),
+        used: used,
     }
 }
 
@@ -133,12 +140,15 @@ fn carry_out(store: &mut [u8], p: Plan)
     put_end(store, at, end);
     let slot = p.slot;
     let edit = p.decision.edit;
-    edit_records(store, slot, edit);
+    edit_records(store, slot, p.used, edit);
 }
 
-// Carries out a datagram that the table of answers accepts. Returns the length of the record that it emits.
-pub fn accept(store: &mut [u8], output: &mut [u8], datagram: &[u8]) -> u32
-    requires { ⌜ answerTo (now store) (now output) (now datagram) ≡ 0 ⌝ }
+// Carries out a datagram that the table of answers accepts; so many packet records are in use. Returns the length of
+// the record that it emits.
+pub fn accept(store: &mut [u8], output: &mut [u8], datagram: &[u8], used: usize) -> u32
+    requires { ⌜
+        (answerTo (now store) (now output) (now datagram) ≡ 0) × (used ≡ usedSlots (storeIn (now store) .records))
+        ⌝ }
     ensures size { λ r. ⌜
         r ≡ length (effectIn (storeIn (now (store .entry))) (datagramIn (now (datagram .entry))) .emitted)
         ⌝ }
@@ -151,7 +161,7 @@ pub fn accept(store: &mut [u8], output: &mut [u8], datagram: &[u8]) -> u32
         (now (output .entry))
         ⌝ }
 {
-    let p = plan_for(store, datagram);
+    let p = plan_for(store, datagram, used);
     carry_out(store, p);
     let emission = p.decision.emission;
     emit_record(output, emission)

@@ -1,7 +1,7 @@
 // Changes of a lent store, as acceptance makes them, a step at a time: the times, the next channel number, one channel
 // end, the packet records from one on. Each step leaves the bytes of the store with that part replaced, and no other
 // byte changed.
-mod shift; // slots moved up or down by one
+mod shift; // bytes moved up or down by a slot
 
 use shift::shift_down;
 use shift::shift_up;
@@ -56,20 +56,20 @@ pub fn insert_record(s: &mut [u8], i: usize, m: usize, r: Record)
         ⌝ }
 {
     let at = Layout::RECORDS_FROM + Layout::SLOT * i;
-    shift_up(s, at, m);
+    shift_up(s, at, Layout::SLOT * m);
     put_record(s, at, r);
 }
 
-// The slots behind index `i` take what stood one behind them, and the last one becomes free.
-pub fn remove_record(s: &mut [u8], i: usize)
-    requires { ⌜ Exact (now s) × (i < length (storeIn (now s) .records)) ⌝ }
+// `m` slots from index `i` on take what stood one behind them, and the one behind these becomes free.
+pub fn remove_record(s: &mut [u8], i: usize, m: usize)
+    requires { ⌜ Exact (now s) × (i + m < length (storeIn (now s) .records)) ⌝ }
     ensures { λ _. ⌜
         now (s .exit) ≡
-        bytesOf (withRecords (storeIn (now (s .entry))) (removedAt i (storeIn (now (s .entry)) .records)))
+        bytesOf (withRecords (storeIn (now (s .entry))) (removedAt i m (storeIn (now (s .entry)) .records)))
         ⌝ }
 {
     let at = Layout::RECORDS_FROM + Layout::SLOT * i;
-    let last = s.len() - Layout::SLOT;
-    shift_down(s, at, (last - at) / Layout::SLOT);
-    put_zeros(s, last, Layout::SLOT);
+    let size = Layout::SLOT * m;
+    shift_down(s, at, size);
+    put_zeros(s, at + size, Layout::SLOT);
 }

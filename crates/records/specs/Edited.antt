@@ -1,6 +1,7 @@
 -- The edit that a struct by value tells, the slot that an edit is on, and the store that it leaves.
 use mathlib.Core.List.{List}
 use mathlib.Core.Option.{Option}
+use Prim.Native.Nat.{ℕ, _-_}
 use lib.Dec.{ltb}
 use lib.ListN.{length}
 use Rattle.wire.specs.Choice.{pick}
@@ -35,6 +36,10 @@ abbrev pub slotOf : Edit → List (Option Record) → Found
 slotOf keeps rs = Nothing
 slotOf (writes r) rs = slotFor (keyOf r) rs
 slotOf (frees k) rs = firstThat (hasKey k) rs
+
+-- where the slots end that move up in a table of so many, with so many in use: at the first free one, or the last one
+abbrev pub spareSlot : (count used : ℕ) → ℕ
+spareSlot n used = pick (ltb used n) used (n - 1)
 
 -- a store whose packet records alone are others: those that an edit leaves
 abbrev pub withEdit : Store → Edit → Store

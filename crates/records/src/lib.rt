@@ -13,14 +13,15 @@ use tables::halves::find_record;
 use tables::halves::place_of;
 ghost use mathlib.Core.Path.{_≡_};
 ghost use mathlib.Core.Bool.{true};
+ghost use Prim.Native.Nat.{_≤_};
 ghost use Rattle.wire.specs.Bytes.{noDigest};
 ghost use Rattle.slots.specs.Table.{commitmentKey, inOrder, keyOf, precedes};
 ghost use Rattle.slots.specs.Layout.{bytesOf, storeIn};
-ghost use Rattle.slots.specs.Scan.{RecordsInOrder};
+ghost use Rattle.slots.specs.Scan.{usedSlots, RecordsInOrder};
 ghost use Rattle.slots.specs.Effect.{Exact};
 ghost use Rattle.slots.specs.Fit.{isFit};
 ghost use Rattle.rules.specs.Ordering.{keeps, writes, frees, plainRecord, receivedEdit};
-ghost use Rattle.records.specs.Edited.{withEdit, editBy, slotFor, slotOf};
+ghost use Rattle.records.specs.Edited.{withEdit, editBy, slotFor, slotOf, spareSlot};
 
 pub enum Action {
     Keeps,
@@ -129,22 +130,34 @@ pub fn slot_of(store: &[u8], e: RecordEdit) -> Found
     }
 }
 
-pub fn edit_records(store: &mut [u8], at: Found, e: RecordEdit)
+// Where the slots end that move up for a new record: the first free one, or the last one of a full table.
+fn spare_slot(count: usize, used: usize) -> usize
+    requires { ⌜ 1 ≤ count ⌝ }
+    ensures { λ r. ⌜ r ≡ spareSlot count used ⌝ }
+{
+    if used < count {
+        return used;
+    }
+    count - 1
+}
+
+// Only slots that are in use move.
+pub fn edit_records(store: &mut [u8], at: Found, used: usize, e: RecordEdit)
     requires { ⌜
         Exact (now store) × (inOrder precedes (storeIn (now store) .records) ≡ true) ×
-        (at ≡ slotOf (editBy e) (storeIn (now store) .records))
+        (used ≡ usedSlots (storeIn (now store) .records)) × (at ≡ slotOf (editBy e) (storeIn (now store) .records))
         ⌝ }
     ensures { λ _. ⌜ now (store .exit) ≡ bytesOf (withEdit (storeIn (now (store .entry))) (editBy e)) ⌝ }
 {
     let Found::At(i) = at else {
         return;
     };
-    let behind = (store.len() - Layout::RECORDS_FROM) / Layout::SLOT - 1 - i;
+    let spare = spare_slot((store.len() - Layout::RECORDS_FROM) / Layout::SLOT, used);
     let action = e.action;
     let about = e.about;
     match action {
         Action::Keeps => {}
-        Action::Writes => insert_record(store, i, behind, about),
-        Action::Frees => remove_record(store, i),
+        Action::Writes => insert_record(store, i, spare - i, about),
+        Action::Frees => remove_record(store, i, used - 1 - i),
     }
 }

@@ -1,6 +1,6 @@
 -- Laws of tables in order, whatever the entries are and whatever order they have. Assumes nothing.
 use Rattle.wire.proofs.Prelude.{_≡_, refl, ap, Bool, true, false, not, List, [], _∷_, _++_, Option, none, some, ℕ, zero}
-use Rattle.wire.proofs.Prelude.{suc, replicate, not-true, not-false}
+use Rattle.wire.proofs.Prelude.{suc, take, drop, replicate, not-true, not-false}
 use Rattle.wire.specs.Names.{isSome}
 use Rattle.wire.proofs.Laws.{and-both, both-and, clash, of-pick, none-if}
 use Rattle.slots.specs.Names.{find, push, place, takeOut, distinct, mayLead, inOrder}
@@ -29,6 +29,15 @@ module _ {A : Type 0} where
   free-end [] h = tt
   free-end (none ∷ xs) h = free-end xs h
   free-end (some x ∷ xs) h = absurd h
+
+  -- a free slot more, at the end or before those that are free
+  pub free-end-at : (m : ℕ) (xs : List (Option A)) → Free (drop m xs) →
+      xs ++ (none ∷ []) ≡ take m xs ++ (none ∷ drop m xs)
+  free-end-at zero [] h = refl
+  free-end-at zero (none ∷ xs) h = ap (λ (l : List (Option A)). none ∷ l) (free-end-at zero xs h)
+  free-end-at zero (some x ∷ xs) h = absurd h
+  free-end-at (suc m) [] h = refl
+  free-end-at (suc m) (x ∷ xs) h = ap (λ (l : List (Option A)). x ∷ l) (free-end-at m xs h)
 
   free-take-out : (t : A → Bool) (xs : List (Option A)) → Free xs → Free (takeOut t xs)
   unfolding takeOut

@@ -21,6 +21,7 @@ use Rattle.slots.specs.Layout.{headerSize, slotSize, recordsFrom, roomIn
 use Rattle.slots.specs.Layout.{channelIn, recordIn, slotIn, tableIn, storeIn}
 use Rattle.slots.specs.Scan.{indexWhere, isFree, holds, firstFree, firstThat, slotAt, tableFrom}
 use Rattle.slots.specs.Effect.{removedAt}
+use Rattle.slots.proofs.OrderLaws.{Free, free-end-at}
 use Rattle.slots.proofs.FitLaws.{length-read}
 
 -- the slot at an index is the first that passes a test
@@ -85,18 +86,25 @@ module _ {A : Type 0} where
         set xs i y ≡ replace t y xs
     set-replace y i xs h = replace-first y i xs (first-of (holds t) i xs h)
 
-    -- or is taken out
-    take-out-first : (i : ℕ) (xs : List (Option A)) → First (holds t) i xs → takeOut t xs ≡ removedAt i xs
+    -- or is taken out, where all behind those that move is free
+    take-out-first : (i m : ℕ) (xs : List (Option A)) → First (holds t) i xs → Free (drop (suc (i + m)) xs) →
+        takeOut t xs ≡ removedAt i m xs
     unfolding takeOut
-    take-out-first i [] h = absurd h
-    take-out-first zero (none ∷ xs) h = clash {b = false} h refl
-    take-out-first zero (some x ∷ xs) h = rw h
-    take-out-first (suc i) (none ∷ xs) h = ap (λ (l : List (Option A)). none ∷ l) (take-out-first i xs (h .1))
-    take-out-first (suc i) (some x ∷ xs) h =
-        rw (h .0) (ap (λ (l : List (Option A)). some x ∷ l) (take-out-first i xs (h .1)))
+    take-out-first i m [] h f = absurd h
+    take-out-first zero m (none ∷ xs) h f = clash {b = false} h refl
+    take-out-first zero m (some x ∷ xs) h f =
+        let z = zero-add m in
+        rw (h, z) (free-end-at m xs (rw z at f))
+    take-out-first (suc i) m (none ∷ xs) h f =
+        let z = suc-add i m in
+        rw z (ap (λ (l : List (Option A)). none ∷ l) (take-out-first i m xs (h .1) (rw z at f)))
+    take-out-first (suc i) m (some x ∷ xs) h f =
+        let z = suc-add i m in
+        rw (h .0, z) (ap (λ (l : List (Option A)). some x ∷ l) (take-out-first i m xs (h .1) (rw z at f)))
 
-    pub take-out-found : (i : ℕ) (xs : List (Option A)) → firstThat t xs ≡ At i → takeOut t xs ≡ removedAt i xs
-    take-out-found i xs h = take-out-first i xs (first-of (holds t) i xs h)
+    pub take-out-found : (i m : ℕ) (xs : List (Option A)) → firstThat t xs ≡ At i → Free (drop (suc (i + m)) xs) →
+        takeOut t xs ≡ removedAt i m xs
+    take-out-found i m xs h f = take-out-first i m xs (first-of (holds t) i xs h) f
 
     -- and is what the table is asked for by that test
     find-first : (i : ℕ) (xs : List (Option A)) → First (holds t) i xs →

@@ -1,23 +1,23 @@
 -- What a search of a table in order tells of it: how many entries precede another one is its place, where it is found
 -- and put in. Assumes nothing.
-use Rattle.wire.proofs.Prelude.{_≡_, refl, sym, ap, _∙_, Bool, true, false, not, List, [], _∷_}
-use Rattle.wire.proofs.Prelude.{Option, none, some, ℕ, zero, suc, _+_, _≤_, arith, ltb, length, take, drop, getD}
-use Rattle.wire.proofs.Prelude.{append-nil, le-ltb, lt-ltb}
+use Rattle.wire.proofs.Prelude.{_≡_, refl, sym, ap, _∙_, Bool, true, false, not, List, [], _∷_, _++_}
+use Rattle.wire.proofs.Prelude.{Option, none, some, ℕ, zero, suc, _+_, _≤_, _<_, arith, ltb, length, take, drop, getD}
+use Rattle.wire.proofs.Prelude.{le-ltb, lt-ltb}
 use native.Mathlib.Nat.{zero-add, add-zero, suc-add, add-suc}
 use lib.Dec.{leb·suc-suc}
-use lib.ListN.{drop-of-length-le}
 use Rattle.wire.specs.Names.{pick}
 use Rattle.wire.proofs.Laws.{clash, cases}
 use Rattle.slots.specs.declared.Record.{Record}
 use Rattle.slots.specs.declared.Found.the-variants.{At, Nothing}
 use Rattle.slots.specs.Names.{push, place, hasFree, count, Key, keyOf, hasKey, isBefore, precedes, insert}
 use Rattle.slots.specs.Names.{noTimeout}
-use Rattle.slots.specs.Scan.{indexWhere, isFree, holds, firstThat, placeOf}
+use Rattle.slots.specs.Scan.{indexWhere, isFree, holds, firstThat, placeOf, usedSlots}
 use Rattle.slots.specs.Effect.{insertedAt}
 use Rattle.slots.proofs.TableLaws.{Each, each-map}
 use Rattle.slots.proofs.OrderLaws.{Free, each-free, Strict, Rising, rising}
 use Rattle.slots.proofs.KeyLaws.{key-of, strict}
 use Rattle.slots.proofs.RecordLaws.{Ordered}
+use Rattle.slots.proofs.ScanLaws.{First, first-of}
 
 module _ {A : Type 0} (t : A → Bool) where
   -- NONE PASSES
@@ -59,10 +59,53 @@ module _ {A : Type 0} where
   free-at (suc i) (none ∷ xs) h = free-at i xs h
   free-at i (some x ∷ xs) h = absurd h
 
-  free-take : (xs : List (Option A)) → Free xs → take (length xs) (none ∷ xs) ≡ xs
-  free-take [] h = refl
-  free-take (none ∷ xs) h = ap (λ (l : List (Option A)). none ∷ l) (free-take xs h)
-  free-take (some x ∷ xs) h = absurd h
+  free-moved : (m : ℕ) (xs : List (Option A)) → Free xs → m ≤ length xs → xs ≡ take m (none ∷ xs) ++ drop m xs
+  free-moved zero xs h l = refl
+  free-moved (suc m) [] h l = absurd (omega arith)
+  free-moved (suc m) (none ∷ xs) h l = ap (λ (l : List (Option A)). none ∷ l) (free-moved m xs h (omega arith))
+  free-moved (suc m) (some x ∷ xs) h l = absurd h
+
+  free-drop : (n : ℕ) (xs : List (Option A)) → Free xs → Free (drop n xs)
+  free-drop zero xs h = h
+  free-drop (suc n) [] h = tt
+  free-drop (suc n) (none ∷ xs) h = free-drop n xs h
+  free-drop (suc n) (some x ∷ xs) h = absurd h
+
+  -- SLOTS IN USE: behind them all are free, and an entry that is found is one of them
+  used-rising : (u : A → A → Bool) (n : ℕ) (xs : List (Option A)) → Rising u xs → usedSlots xs ≤ n → Free (drop n xs)
+  unfolding count
+  used-rising u zero [] h l = tt
+  used-rising u (suc n) [] h l = tt
+  used-rising u n (none ∷ xs) h l = free-drop n (none ∷ xs) h
+  used-rising u zero (some x ∷ xs) h l = absurd (omega arith)
+  used-rising u (suc n) (some x ∷ xs) h l = used-rising u n xs (h .1) (omega arith)
+
+  first-not-free : (t : A → Bool) (i : ℕ) (xs : List (Option A)) → Free xs → First (holds t) i xs → ⊥
+  first-not-free t i [] h f = f
+  first-not-free t zero (none ∷ xs) h f = clash {b = false} f refl
+  first-not-free t (suc i) (none ∷ xs) h f = first-not-free t i xs h (f .1)
+  first-not-free t i (some x ∷ xs) h f = h
+
+  first-used : (u : A → A → Bool) (t : A → Bool) (i : ℕ) (xs : List (Option A)) → Rising u xs → First (holds t) i xs →
+      i < usedSlots xs
+  unfolding count
+  first-used u t i [] h f = absurd f
+  first-used u t i (none ∷ xs) h f = absurd (first-not-free t i (none ∷ xs) h f)
+  first-used u t zero (some x ∷ xs) h f = omega arith
+  first-used u t (suc i) (some x ∷ xs) h f = let k = first-used u t i xs (h .1) (f .1) in omega arith
+
+  count-used : (t : A → Bool) (xs : List (Option A)) → count t xs ≤ usedSlots xs
+  unfolding count
+  count-used t [] = omega arith
+  count-used t (none ∷ xs) = count-used t xs
+  count-used t (some x ∷ xs) =
+      let ih = count-used t xs in
+      cases (t x) (λ e. let z : count t (some x ∷ xs) ≡ suc (count t xs) = cc in omega arith)
+      (λ e. let z : count t (some x ∷ xs) ≡ count t xs = cc in omega arith)
+
+  -- what stands at an index can go: it is the table's last slot, or all in use stand before it
+  abbrev pub Spare : (index : ℕ) → List (Option A) → Type 0
+  Spare n xs = (n < length xs) × (suc n < length xs → usedSlots xs ≤ n)
 
   -- ROOM is where the last slot is free
   rising-last : (u : A → A → Bool) (i : ℕ) (xs : List (Option A)) → Rising u xs → suc i ≡ length xs →
@@ -121,32 +164,34 @@ module _ {A : Type 0} (u : A → A → Bool) (strict : Strict u) (y : A) where
         (h .0)) in
         rw (e, z, f, add-zero n))
 
-  -- PUT IN: one moves up for another, and the last slot's content is gone
-  push-take : (x : A) (xs : List (Option A)) → Rising u xs → push x xs ≡ take (length xs) (some x ∷ xs)
-  unfolding push
-  push-take x [] h = refl
-  push-take x (none ∷ xs) h = ap (λ (l : List (Option A)). some x ∷ l) (sym (free-take xs h))
-  push-take x (some z ∷ xs) h = ap (λ (l : List (Option A)). some x ∷ l) (push-take z xs (h .1))
+  -- PUT IN: those from its place on move up by one, as far as a slot whose content can go
+  push-inserted : (x : A) (m : ℕ) (xs : List (Option A)) → Rising u xs → Spare m xs → push x xs ≡ insertedAt 0 m x xs
+  unfolding push count
+  push-inserted x m [] h s = absurd (omega (arith, s .0))
+  push-inserted x m (none ∷ xs) h s =
+      rw (zero-add m) (ap (λ (l : List (Option A)). some x ∷ l) (free-moved m xs h (omega (arith, s .0))))
+  push-inserted x zero (some z ∷ []) h s = refl
+  push-inserted x zero (some z ∷ (w ∷ xs)) h s = let k = s .1 (omega arith) in absurd (omega arith)
+  push-inserted x (suc m) (some z ∷ xs) h s =
+      let ih = push-inserted z m xs (h .1) (omega (arith, s .0), λ k. omega (arith, s .1 (omega arith))) in
+      rw (zero-add (suc m), ih, zero-add m)
 
-  push-inserted : (m : ℕ) (xs : List (Option A)) → Rising u xs → suc m ≡ length xs → push y xs ≡ insertedAt 0 m y xs
-  push-inserted m xs h l =
-      let d : drop (suc (0 + m)) xs ≡ [] = drop-of-length-le xs {i = suc (0 + m)} (omega arith) in
-      push-take y xs h ∙ rw (← l, d, append-nil)
-
-  place-inserted : (m : ℕ) (xs : List (Option A)) → Rising u xs → count ahead xs + suc m ≡ length xs →
+  place-inserted : (m : ℕ) (xs : List (Option A)) → Rising u xs → Spare (count ahead xs + m) xs →
       place (λ x. not (u x y)) y xs ≡ insertedAt (count ahead xs) m y xs
   unfolding count place push
-  place-inserted m [] h l = absurd (omega arith)
-  place-inserted m (none ∷ xs) h l =
+  place-inserted m [] h s = absurd (omega (arith, s .0))
+  place-inserted m (none ∷ xs) h s =
       let z = count-fails ahead xs (each-free _ xs h) in
-      rw z (push-inserted m (none ∷ xs) h (omega arith))
-  place-inserted m (some x ∷ xs) h l =
+      rw z (push-inserted y m (none ∷ xs) h (omega (arith, s .0), λ k. omega (arith, s .1 (omega arith))))
+  place-inserted m (some x ∷ xs) h s =
       let ih = place-inserted m xs (h .1) in
       cases (u x y)
       (λ e. let z : count ahead (some x ∷ xs) ≡ suc (count ahead xs) = cc in
-      rw (e, ih (omega arith), ← suc-add (count ahead xs) m))
+      let tail : Spare (count ahead xs + m) xs = (omega (arith, s .0), λ k. omega (arith, s .1 (omega arith))) in
+      rw (e, ih tail, ← suc-add (count ahead xs) m))
       (λ e. let z = count-fails ahead (some x ∷ xs) (e, behind x xs e (h .0)) in
-      rw (z, e) (push-inserted m (some x ∷ xs) h (omega arith)))
+      let here : Spare m (some x ∷ xs) = (omega (arith, s .0), λ k. omega (arith, s .1 (omega arith))) in
+      rw (z, e) (push-inserted y m (some x ∷ xs) h here))
 
   place-full : (xs : List (Option A)) → length xs ≤ count ahead xs → place (λ x. not (u x y)) y xs ≡ xs
   unfolding count place
@@ -178,9 +223,9 @@ module _ (k : Key) (rs : List (Option Record)) where
         (rising precedes strict rs order) ∙ rw (zero-add (placeOf k rs))
 
 module _ (r : Record) (rs : List (Option Record)) where
-  pub insert-place : Ordered rs → (m : ℕ) → placeOf (keyOf r) rs + suc m ≡ length rs →
+  pub insert-place : Ordered rs → (m : ℕ) → Spare (placeOf (keyOf r) rs + m) rs →
       insert r rs ≡ insertedAt (placeOf (keyOf r) rs) m r rs
-  insert-place order m l = place-inserted precedes strict r m rs (rising precedes strict rs order) l
+  insert-place order m s = place-inserted precedes strict r m rs (rising precedes strict rs order) s
 
   -- one that would stand behind all of a full table is not put in
   pub insert-full : length rs ≤ placeOf (keyOf r) rs → insert r rs ≡ rs
@@ -189,3 +234,18 @@ module _ (r : Record) (rs : List (Option Record)) where
 pub free-last : (rs : List (Option Record)) → Ordered rs → (i : ℕ) → suc i ≡ length rs →
     hasFree rs ≡ isFree (getD rs i none)
 free-last rs order i l = rising-last precedes i rs (rising precedes strict rs order) l
+
+-- SLOTS IN USE of packet records in order
+module _ (rs : List (Option Record)) where
+  pub place-used : (k : Key) → placeOf k rs ≤ usedSlots rs
+  place-used k = count-used (λ r. isBefore (keyOf r) k) rs
+
+  pub used-length : usedSlots rs ≤ length rs
+  used-length = count-length (λ x. true) rs
+
+  module _ (order : Ordered rs) where
+    pub free-behind : (n : ℕ) → usedSlots rs ≤ n → Free (drop n rs)
+    free-behind n l = used-rising precedes n rs (rising precedes strict rs order) l
+
+    pub found-used : (t : Record → Bool) (i : ℕ) → firstThat t rs ≡ At i → i < usedSlots rs
+    found-used t i h = first-used precedes t i rs (rising precedes strict rs order) (first-of (holds t) i rs h)

@@ -44,6 +44,6 @@ withRecords s rs =
 abbrev pub insertedAt : {A : Type 0} → (index m : ℕ) → A → List (Option A) → List (Option A)
 insertedAt i m y xs = take i xs ++ (some y ∷ (take m (drop i xs) ++ drop (suc (i + m)) xs))
 
--- the slots behind an index take what stood one behind them, and the last one becomes free
-abbrev pub removedAt : {A : Type 0} → (index : ℕ) → List (Option A) → List (Option A)
-removedAt i xs = take i xs ++ (drop (suc i) xs ++ (none ∷ []))
+-- m slots from an index on take what stood one behind them, and the one behind these becomes free
+abbrev pub removedAt : {A : Type 0} → (index m : ℕ) → List (Option A) → List (Option A)
+removedAt i m xs = take i xs ++ (take m (drop (suc i) xs) ++ (none ∷ drop (suc (i + m)) xs))

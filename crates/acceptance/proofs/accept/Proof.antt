@@ -24,10 +24,13 @@ abbrev output : tie.Start → List ℕ
 output o = now (o .args .output)
 
 accepted : (o : tie.Start) → Ready (store o) (now (o .args .datagram))
-accepted o = ready (store o) (output o) (now (o .args .datagram)) (o .pre)
+accepted o = ready (store o) (output o) (now (o .args .datagram)) (o .pre .0)
 
 abbrev start : tie.After-plan-for → tie.Start
 start p = p .before .before .before .before .before
+
+plan-for-requires : tie.Need-plan-for-requires
+plan-for-requires c κs = let o = c .before .before .before .before in (accepted o, o .pre .1)
 
 carry-out-requires : tie.Need-carry-out-requires
 carry-out-requires c κs = let p = c .before in (accepted (start p) .fit, p .plan-for .ensures .1 .1)
@@ -35,7 +38,7 @@ carry-out-requires c κs = let p = c .before in (accepted (start p) .fit, p .pla
 emit-record-requires : tie.Need-emit-record-requires
 emit-record-requires c κs =
     let o = start (c .before .before .before .before .before .before) in
-    output-room (store o) (output o) (now (o .args .datagram)) (o .pre)
+    output-room (store o) (output o) (now (o .args .datagram)) (o .pre .0)
 
 returns : tie.Need-returns
 unfolding nextStore
@@ -60,5 +63,4 @@ pub accept-spec : {M : Type 1} → statement M
 accept-spec =
     tie.close
     (tie.spec
-    (λ c κs. accepted (c .before .before .before .before)) carry-out-requires emit-record-requires (λ c. search needs)
-    (λ c. search needs) returns)
+    plan-for-requires carry-out-requires emit-record-requires (λ c. search needs) (λ c. search needs) returns)

@@ -7,6 +7,7 @@ use denote.Ref.{now}
 use borrow.Author.Needs.{needs}
 use Rattle.wire.proofs.PartLaws.{bytes-getD, bytes-array}
 use Rattle.slots.specs.Layout.{Store, bytesOf, storeIn}
+use Rattle.slots.specs.Scan.{usedSlots}
 use Rattle.slots.specs.Effect.{withTimes, withNext}
 use Rattle.slots.proofs.Laws.{ChannelFields, Ordered, fit-store, fit-fields, fit-ordered}
 use Rattle.slots.proofs.HeldLaws.{Held, fit-exact, held-store, held-exact, held-times, held-next}
@@ -118,6 +119,7 @@ edit-records-requires c κs =
       held-exact (ended-held e),
       subst (λ (s : Store). Ordered (s .records)) (sym (left e))
           (fit-ordered (store o) (fit-store (now (o .args .store)) (o .pre .0))),
+      o .pre .1 .used ∙ ap (λ (s : Store). usedSlots (s .records)) (sym (left e)),
       o .pre .1 .edit ∙
           ap (λ (s : Store). slotOf (editBy (o .args .p .decision .edit)) (s .records)) (sym (left e)),
     )

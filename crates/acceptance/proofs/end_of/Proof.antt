@@ -1,4 +1,4 @@
--- The end at the index that the scan finds. Assumes nothing.
+-- The end at the index that was found. Assumes nothing.
 use mathlib.Core.Path.{_≡_, sym, ap, _∙_}
 use Prim.Native.Nat.{ℕ, _<_}
 use native.Mathlib.Omega.{arith}
@@ -18,22 +18,21 @@ use Rattle.acceptance.proofs.end_of.Tie as tie
 returns : tie.Need-returns
 returns c =
     let k = c .before in
-    let scan = k .before .before in
-    let o = scan .before .before in
-    let told = sym (scan .find-channel .ensures) ∙ k .enum-told .given .1 in
+    let o = k .before .before .before in
+    let told = sym (o .pre .1) ∙ k .enum-told .given .1 in
     c .no-channel .ensures ∙
     sym (ap orNone (find-nothing (isNumbered (o .args .number)) 0 (storeIn (now (o .args .store)) .channels) told))
 
 -- the index that was found
 abbrev start : tie.After-known-told → tie.Start
-start k = k .before .before .before .before .before
+start k = k .before .before .before .before
 
 abbrev index : tie.After-known-told → ℕ
-index k = k .before .j .given .0 .0
+index k = k .before .at .given .0 .0
 
 found : (k : tie.After-known-told) →
     firstThat (isNumbered (start k .args .number)) (storeIn (now (start k .args .store)) .channels) ≡ At (index k)
-found k = sym (k .before .before .before .find-channel .ensures) ∙ k .before .j .given .1
+found k = sym (start k .pre .1) ∙ k .before .at .given .1
 
 below : (k : tie.After-known-told) → index k < channelLimit
 below k =
@@ -51,5 +50,5 @@ pub end-of-spec : {M : Type 1} → statement M
 end-of-spec =
     tie.close
     (tie.spec
-    (λ c κs. search needs) (λ c. search needs) (λ c. search needs) (λ c κs. search needs) returns
-    (λ c. omega (arith, below c)) (λ c. omega (arith, below c)) (λ c κs. omega (arith, below c)) returns-2)
+    (λ c. search needs) (λ c. search needs) (λ c κs. search needs) returns (λ c. omega (arith, below c))
+    (λ c. omega (arith, below c)) (λ c κs. omega (arith, below c)) returns-2)

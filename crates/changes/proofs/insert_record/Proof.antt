@@ -41,4 +41,5 @@ insert-record-spec =
     tie.close
     (tie.spec
     (λ c. omega (arith, exact-room _ (c .before .pre .0))) (λ c. omega (arith, exact-room _ (c .before .pre .0)))
+    (λ c. omega (arith, exact-room _ (c .before .before .pre .0)))
     (λ c κs. omega (arith, exact-room _ (c .before .before .pre .0))) put-record-requires (λ c. search needs) returns)

@@ -1,15 +1,14 @@
--- Slots move down, and zeros are stored over the last one: `exact-removed`. Assumes nothing.
+-- Slots move down, and zeros are stored over the one behind them: `exact-removed`. Assumes nothing.
 use mathlib.Core.Path.{_≡_, ap, _∙_}
-use mathlib.Core.List.{List}
-use Prim.Native.Nat.{ℕ, suc, _+_, _*_, _-_, _/_}
+use Prim.Native.Nat.{_+_, _*_}
 use native.Mathlib.Omega.{arith}
 use lib.ListN.{length, replicate}
 use denote.Ref.{now}
 use borrow.Author.Needs.{needs}
-use Rattle.wire.specs.Bytes.{part, patch}
+use Rattle.wire.specs.Bytes.{patch}
 use Rattle.wire.proofs.PartLaws.{bytes-array}
 use Rattle.wire.proofs.PatchLaws.{length-patch}
-use Rattle.slots.specs.Layout.{slotSize, recordsFrom, storeIn}
+use Rattle.slots.specs.Layout.{slotSize, recordsFrom}
 use Rattle.slots.proofs.EffectLaws.{exact-room}
 use Rattle.changes.proofs.ShiftLaws.{exact-removed}
 use Rattle.changes.proofs.remove_record.Statement.{statement}
@@ -28,16 +27,10 @@ returns c =
     let first = shift .before .before in
     let o = first .before in
     let a = o .args in
-    let bs : List ℕ = now (a .s) in
-    let zeros : List ℕ = replicate slotSize 0 in
-    let at : ℕ = recordsFrom + slotSize * a .i in
-    let m : ℕ = (length bs - slotSize - at) / slotSize in
-    let size = exact-room bs (o .pre .0) in
-    let all : suc (a .i + m) ≡ length (storeIn bs .records) = omega (arith, size, o .pre .1) in
-    let last : length bs - slotSize ≡ at + slotSize * m = omega (arith, size, o .pre .1) in
-    put .put-zeros .ensures ∙ ap (patch (length bs - slotSize) zeros) (shift .shift-down .ensures) ∙
-    ap (λ (k : ℕ). patch k zeros (patch at (part (at + slotSize) (slotSize * m) bs) bs)) last ∙
-    exact-removed bs (o .pre .0) (bytes-array bs (first .slice-known .given)) (a .i) m all
+    let bytes = bytes-array (now (a .s)) (first .slice-known .given) in
+    put .put-zeros .ensures ∙
+    ap (patch (recordsFrom + slotSize * a .i + slotSize * a .m) (replicate slotSize 0)) (shift .shift-down .ensures) ∙
+    exact-removed (now (a .s)) (o .pre .0) bytes (a .i) (a .m) (o .pre .1)
 
 pub remove-record-spec : {M : Type 1} → statement M
 remove-record-spec =
@@ -45,5 +38,6 @@ remove-record-spec =
     (tie.spec
     (λ c. omega (arith, exact-room _ (c .before .pre .0))) (λ c. omega (arith, exact-room _ (c .before .pre .0)))
     (λ c. omega (arith, exact-room _ (c .before .pre .0)))
-    (λ c. omega (arith, exact-room _ (c .before .before .pre .0)))
-    (λ c κs. omega (arith, exact-room _ (c .before .before .pre .0))) put-zeros-requires (λ c. search needs) returns)
+    (λ c κs. omega (arith, exact-room _ (c .before .before .pre .0)))
+    (λ c. omega (arith, exact-room _ (c .before .before .before .before .before .before .pre .0))) put-zeros-requires
+    (λ c. search needs) returns)
