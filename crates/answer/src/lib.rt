@@ -1,5 +1,5 @@
-// The answer to a datagram: the number of the first line of the table that applies, 0 where none does. Lines 1 to 4 are
-// for every kind, 5 and 7 for those about an end, 6 for the kinds 1 to 4. They stand here in their order.
+// The answer to a datagram on a fit store: the number of the first line of the table that applies, 0 where none does.
+// Lines 2 to 4 are for every kind, 5 and 7 for those about an end, 6 for the kinds 1 to 4. They stand here in their order.
 use closing::close_confirm_row;
 use closing::close_init_row;
 use closing::time_out_on_close_row;
@@ -17,7 +17,6 @@ use datagram::read::packet_in;
 use datagram::read::sequence_in;
 use datagram::read::timeout_in;
 use datagram::read::verdict_in;
-use fit::is_fit;
 use handshake::no_channel;
 use heights::goes_back;
 use rows::acknowledge_row;
@@ -63,17 +62,15 @@ const OPEN_INIT: u16 = 6;
 
 const OPEN_TRY: u16 = 7;
 
-// Lines 1 to 3: a fit store, room for every record that is emitted, a sound datagram.
+// Lines 2 and 3, behind a fit store (1): room for every record that is emitted, a sound datagram.
 pub fn answer(store: &[u8], room: usize, datagram: &[u8]) -> u8
+    requires { ⌜ isFit (now store) ≡ true ⌝ }
     ensures { λ r. ⌜
         r ≡
         firstGiven (datagramIn (now (datagram .entry)) .kind)
         (refusals (now (store .entry)) room (now (datagram .entry)))
         ⌝ }
 {
-    if !is_fit(store) {
-        return 1;
-    }
     if room < Layout::OUTPUT {
         return 2;
     }

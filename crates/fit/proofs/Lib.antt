@@ -5,3 +5,4 @@ mod IndexLaws
 mod BesideEndLaws
 mod WholeLaws
 mod PassLaws
+pub mod UsedLaws
