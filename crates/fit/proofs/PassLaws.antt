@@ -25,9 +25,11 @@ use Rattle.slots.specs.Scan.{slotAt, firstThat, usedSlots}
 use Rattle.slots.proofs.ScanLaws.{channel-found, find-nothing}
 use Rattle.slots.proofs.KeyLaws.{Before, is-before, before-is}
 use Rattle.runs.specs.Each.{each}
-use Rattle.runs.specs.Run.{recordAt, keyAt, zerosAt, Ahead, Run, RunEnd, Passed, hasCompanion, fitsBeside}
+use Rattle.runs.specs.Run.{recordAt, keyAt, zerosAt, Ahead, plainSize, isPlain, RunEnd, Passed, hasCompanion}
+use Rattle.runs.specs.Run.{fitsBeside}
 use Rattle.runs.proofs.EachLaws.{each-all, each-at}
 use Rattle.runs.proofs.RunLaws.{sequence-at}
+use Rattle.runs.proofs.KindLaws.{fits-plain}
 use Rattle.fit.specs.EverySlot.{isExact}
 use Rattle.fit.specs.Pass.{recordsFit, isAhead, startsRun, usedIf}
 use Rattle.fit.proofs.ExactLaws.{record-exact-at}
@@ -105,15 +107,20 @@ sequence-taken bs bytes k l =
     let f = eqb-true (field (at + 8) 8 bs) 0 e in
     absurd (omega (arith, f, sequence-at bs k, l))) (λ z. z)
 
+-- a run with the zero bytes of its kind
+abbrev OwnRunEnd : List ℕ → (n i e : ℕ) → Type 0
+OwnRunEnd bs n i e = RunEnd bs n (plainSize (keyAt bs i .kind)) i e
+
 -- WHAT HOLDS after i slots, the last run of which starts at p, on the channel end of index j
 pub record Gone (bs : List ℕ) (n i j p : ℕ) : Type 0 where
   pub within : i ≤ n
   pub low : p ≤ i
+  pub near : 0 < i → p < i
   pub used : (k : ℕ) → k < i → Taken bs k
   pub fitting : (k : ℕ) → k < i → Fitting bs k
   pub ordered : (m k : ℕ) → m < k → k < i → isBefore (keyAt bs m) (keyAt bs k) ≡ true
   pub before : (m : ℕ) → m < p → Ahead (keyAt bs m) (keyAt bs p)
-  pub last : 0 < i → RunEnd bs n p i
+  pub last : 0 < i → OwnRunEnd bs n p i
   pub end : p < i → firstThat (isNumbered (keyAt bs p .channel)) (storeIn bs .channels) ≡ At j
 
 pub gone-none : (bs : List ℕ) (n : ℕ) → Gone bs n 0 0 0
@@ -121,6 +128,7 @@ gone-none bs n =
     record {
       within = omega arith;
       low = omega arith;
+      near = λ l. absurd (omega arith);
       used = λ k l. absurd (omega arith);
       fitting = λ k l. absurd (omega arith);
       ordered = λ m k l h. absurd (omega arith);
@@ -166,26 +174,33 @@ module _ (bs : List ℕ) (bytes : Bytes bs) (n : ℕ) (size : length bs ≡ size
         eqb-true (zerosAt bs k) 0
         (sym (record-exact-at (recordsFrom + slotSize * k) bs bytes (omega arith)) ∙ h)
 
+    -- what goes on with a run that ended is not fit
+    stopped : (q e : ℕ) → OwnRunEnd bs n q e → e < n → Fitting bs e → zerosAt bs q ≡ 0 →
+        keyAt bs e .kind ≡ keyAt bs q .kind → keyAt bs e .channel ≡ keyAt bs q .channel →
+        (q < e → keyAt bs (e - 1) .sequence < keyAt bs e .sequence) → ⊥
+    stopped q e stop l f z k c r =
+        stop .stopped l (zeros-exact e l (f .exact) ∙ sym z) k c (leb-true 1 (keyAt bs e .sequence) (f .sequence)) r
+        (ap (λ (x : ℕ). isPlain bs (plainSize x) e) (sym k) ∙ fits-plain bs bytes (hasCompanion bs e) e (f .end) (f .fits))
+
     -- behind the last run one of another kind or channel
     goes-on : recordsFit bs n ≡ true → Taken bs i → 0 < i → Ahead (keyAt bs p) (keyAt bs i)
     goes-on w t l =
         let last = g .last l in
-        let run = last .run in
-        let low = run .low in
-        let k = run .kinds (i - 1) (omega arith) (omega arith) in
-        let c = run .channels (i - 1) (omega arith) (omega arith) in
+        let low = g .near l in
+        let k = last .run .kinds (i - 1) (omega arith) (omega arith) in
+        let c = last .run .channels (i - 1) (omega arith) (omega arith) in
         step last low k c
         (is-before (keyAt bs (i - 1)) (keyAt bs i) (order bs n size w (i - 1) i (omega arith) more t .1))
       where
-        step : RunEnd bs n p i → p < i → keyAt bs (i - 1) .kind ≡ keyAt bs p .kind →
+        step : OwnRunEnd bs n p i → p < i → keyAt bs (i - 1) .kind ≡ keyAt bs p .kind →
             keyAt bs (i - 1) .channel ≡ keyAt bs p .channel → Before (keyAt bs (i - 1)) (keyAt bs i) →
             Ahead (keyAt bs p) (keyAt bs i)
         step last low k c (inl q) = inl (omega arith)
         step last low k c (inr (d, inl q)) = inr (sym c ∙ d, omega arith)
         step last low k c (inr (d, inr (f, q))) =
-            let own = zeros-exact i more (fits-before bs n size w i more t .exact) in
             let first = zeros-exact p (omega arith) (g .fitting p low .exact) in
-            absurd (last .stopped more (own ∙ sym first) (sym f ∙ k) (sym d ∙ c) q)
+            absurd
+            (stopped p i last more (fits-before bs n size w i more t) first (sym f ∙ k) (sym d ∙ c) (λ o. q))
 
     pub unfit-start : Taken bs i → startsRun bs p i ≡ false → Nothing ≡ usedIf (recordsFit bs n) bs
     unfolding _or_
@@ -196,7 +211,7 @@ module _ (bs : List ℕ) (bytes : Bytes bs) (n : ℕ) (size : length bs ≡ size
         cases (eqb p i) (λ e. rw e)
         (λ e. let low = g .low in
         rw (e, ahead-is (keyAt bs p) (keyAt bs i) (goes-on w t (omega (arith, eqb-false p i e))))) in
-        clash (both-and (both-and (eq-eqb (zerosAt bs i) 0 (zeros-exact i more (f .exact))) (f .sequence)) first) h)
+        clash (both-and (eq-eqb (zerosAt bs i) 0 (zeros-exact i more (f .exact))) first) h)
 
     pub unfit-end : Taken bs i → firstThat (isNumbered (keyAt bs i .channel)) (storeIn bs .channels) ≡ Nothing →
         Nothing ≡ usedIf (recordsFit bs n) bs
@@ -208,10 +223,7 @@ module _ (bs : List ℕ) (bytes : Bytes bs) (n : ℕ) (size : length bs ≡ size
     -- A RUN STARTS at i
     module _ (starts : startsRun bs p i ≡ true) where
       zeros : zerosAt bs i ≡ 0
-      zeros = eqb-true (zerosAt bs i) 0 (and-both (and-both starts .0) .0)
-
-      sequence : 1 ≤ keyAt bs i .sequence
-      sequence = leb-true 1 (keyAt bs i .sequence) (and-both (and-both starts .0) .1)
+      zeros = eqb-true (zerosAt bs i) 0 (and-both starts .0)
 
       follows : p < i → Ahead (keyAt bs p) (keyAt bs i)
       unfolding _or_
@@ -223,7 +235,7 @@ module _ (bs : List ℕ) (bytes : Bytes bs) (n : ℕ) (size : length bs ≡ size
       passed =
           record {
             low = g .low;
-            near = λ l. g .last l .run .low;
+            near = g .near;
             run = λ l. g .last (omega arith) .run;
             before = g .before;
             follows = follows;
@@ -232,30 +244,30 @@ module _ (bs : List ℕ) (bytes : Bytes bs) (n : ℕ) (size : length bs ≡ size
       ahead-all : (m : ℕ) → m < i → Ahead (keyAt bs m) (keyAt bs i)
       ahead-all m l =
           let last = g .last (omega arith) .run in
+          let low = follows (g .near (omega arith)) in
           cases (ltb m p)
-          (λ e.
-          ahead-onward (keyAt bs m) (keyAt bs p) (keyAt bs i) (g .before m (ltb-true m p e)) (follows (last .low)))
+          (λ e. ahead-onward (keyAt bs m) (keyAt bs p) (keyAt bs i) (g .before m (ltb-true m p e)) low)
           (λ e. let a = ltb-false m p e in
-          ahead-alike (keyAt bs m) (keyAt bs p) (keyAt bs i) (last .channels m a l) (last .kinds m a l)
-          (follows (last .low)))
+          ahead-alike (keyAt bs m) (keyAt bs p) (keyAt bs i) (last .channels m a l) (last .kinds m a l) low)
+
+      -- it has no record where not even the first one passes
+      pub unfit-first : Taken bs i → (e : ℕ) → OwnRunEnd bs n i e → e ≡ i → Nothing ≡ usedIf (recordsFit bs n) bs
+      unfit-first t e stop same =
+          unfit (λ w.
+          stopped i i (subst (OwnRunEnd bs n i) same stop) more (fits-before bs n size w i more t) zeros refl refl
+          (λ l. absurd (omega arith)))
 
       -- on its channel end, up to e
       module _ (end : ℕ) (found : firstThat (isNumbered (keyAt bs i .channel)) (storeIn bs .channels) ≡ At end)
-          (e : ℕ) (stop : RunEnd bs n i e) where
+          (e : ℕ) (stop : OwnRunEnd bs n i e) (any : i < e) where
         abbrev c : Channel
         c = channelIn (slotAt headerSize bs end)
 
         abbrev test : ℕ → Bool
         test k = fitsBeside (hasCompanion bs k) (recordAt bs k) c
 
-        sequence-run : (k : ℕ) → i ≤ k → k < e → 1 ≤ keyAt bs k .sequence
-        sequence-run k l m =
-            cases (eqb i k)
-            (λ q. subst (λ (x : ℕ). 1 ≤ keyAt bs x .sequence) (eqb-true i k q) sequence)
-            (λ q. let r = stop .run .rises i k (omega arith) (omega (arith, eqb-false i k q)) m in omega arith)
-
         taken-run : (k : ℕ) → i ≤ k → k < e → Taken bs k
-        taken-run k l m = sequence-taken bs bytes k (sequence-run k l m)
+        taken-run k l m = sequence-taken bs bytes k (stop .run .first k l m)
 
         found-run : (k : ℕ) → i ≤ k → k < e → channelAt (keyAt bs k .channel) (storeIn bs .channels) ≡ some c
         found-run k l m =
@@ -264,7 +276,6 @@ module _ (bs : List ℕ) (bytes : Bytes bs) (n : ℕ) (size : length bs ≡ size
 
         pub unfit-run : each test i (e - i) ≡ false → Nothing ≡ usedIf (recordsFit bs n) bs
         unfit-run h =
-            let low = stop .run .low in
             let high = stop .high in
             unfit (λ w.
             clash (each-all test i (e - i) (λ k l m.
@@ -280,7 +291,7 @@ module _ (bs : List ℕ) (bytes : Bytes bs) (n : ℕ) (size : length bs ≡ size
             record {
               exact =
                   record-exact-at (recordsFrom + slotSize * k) bs bytes (omega arith) ∙ eq-eqb (zerosAt bs k) 0 exact;
-              sequence = le-leb 1 (keyAt bs k .sequence) (sequence-run k l m);
+              sequence = le-leb 1 (keyAt bs k .sequence) (stop .run .first k l m);
               end = c;
               found = found-run k l m;
               fits = each-at test i (e - i) h k l (omega arith);
@@ -305,10 +316,10 @@ module _ (bs : List ℕ) (bytes : Bytes bs) (n : ℕ) (size : length bs ≡ size
 
         pub gone-run : each test i (e - i) ≡ true → Gone bs n e end i
         gone-run h =
-            let low = stop .run .low in
             record {
               within = stop .high;
               low = omega arith;
+              near = λ l. any;
               used = λ k l.
                   cases (ltb k i) (λ f. g .used k (ltb-true k i f)) (λ f. taken-run k (ltb-false k i f) l);
               fitting = λ k l.

@@ -2,7 +2,7 @@
 use mathlib.Core.Bool.{Bool}
 use mathlib.Core.List.{List}
 use Prim.Native.Nat.{ℕ}
-use lib.Dec.{ltb, leb, eqb}
+use lib.Dec.{ltb, eqb}
 use Rattle.wire.specs.Choice.{_and_, _or_, pick}
 use Rattle.slots.specs.declared.Key.{Key}
 use Rattle.slots.specs.declared.Found.{Found}
@@ -20,14 +20,14 @@ recordsFit bs n =
     everySlot (slotFits recordBytes recordIn (recordFits (storeIn bs)) anywhere) (slotsFrom recordsFrom n bs 0) and
     inOrder precedes (storeIn bs .records)
 
--- A RUN STARTS at i behind the one from p on, if any: its first record is laid out exactly, has a sequence of at least 1,
--- and stands behind by channel, then kind
+-- A RUN STARTS at i behind the one from p on, if any: its first record is laid out exactly, and stands behind by channel,
+-- then kind
 abbrev pub isAhead : Key → Key → Bool
 isAhead a b = pick (eqb (a .channel) (b .channel)) (ltb (a .kind) (b .kind)) (ltb (a .channel) (b .channel))
 
 abbrev pub startsRun : List ℕ → (p i : ℕ) → Bool
 startsRun bs p i =
-    eqb (zerosAt bs i) 0 and leb 1 (keyAt bs i .sequence) and (eqb p i or isAhead (keyAt bs p) (keyAt bs i))
+    eqb (zerosAt bs i) 0 and (eqb p i or isAhead (keyAt bs p) (keyAt bs i))
 
 -- HOW MANY packet records are in use, where a test passes
 abbrev pub usedIf : Bool → List ℕ → Found

@@ -6,7 +6,7 @@ use entries::record_fits;
 use exact::is_channel_exact;
 use exact::is_header_exact;
 use exact::is_record_exact;
-use runs::run_end;
+use runs::own_run_end;
 use runs::run_fits;
 use slots::Found;
 use slots::Layout;
@@ -150,7 +150,7 @@ fn starts_run(s: &[u8], p: usize, i: usize) -> bool
     ensures { λ r. ⌜ r ≡ startsRun (now (s .entry)) p i ⌝ }
 {
     let at = Layout::RECORDS_FROM + Layout::SLOT * i;
-    (u16_at(s, at + 2) == 0) & (1 <= u64_at(s, at + 8)) & ((p == i) | is_ahead(s, p, i))
+    (u16_at(s, at + 2) == 0) & ((p == i) | is_ahead(s, p, i))
 }
 
 // The channel end of slot i's record: that of the run before it, from p on, of index j, where the channel is the same.
@@ -195,7 +195,10 @@ fn records_used(s: &[u8], count: usize) -> Found
         let Found::At(end) = end_index(s, p, i, j) else {
             return Found::Nothing;
         };
-        let e = run_end(s, count, i);
+        let e = own_run_end(s, count, i);
+        if e == i {
+            return Found::Nothing;
+        }
         if !run_fits(
             s,
             p,

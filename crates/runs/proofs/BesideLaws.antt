@@ -12,7 +12,7 @@ use Rattle.wire.proofs.ChoiceLaws.{cases, clash, and-both, both-and, of-pick}
 use Rattle.slots.specs.declared.Key.{Key}
 use Rattle.slots.specs.Table.{hasKey}
 use Rattle.slots.proofs.KeyLaws.{has-key, not-key}
-use Rattle.runs.specs.Run.{recordAt, keyAt, Ahead, Run, Passed, companionOf, hasBefore, Beside, Reached}
+use Rattle.runs.specs.Run.{recordAt, keyAt, Ahead, OwnRun, Passed, companionOf, hasBefore, Beside, Reached}
 use Rattle.runs.proofs.EachLaws.{any-at, any-none}
 
 -- A COMPANION IS THERE where it is at the first slot whose sequence is not below
@@ -76,7 +76,7 @@ ahead-other : (a b : Key) → Ahead a b → a .channel ≡ b .channel → a .kin
 ahead-other a b (inl p) h k = omega arith
 ahead-other a b (inr p) h k = omega (arith, p .1)
 
-pub beside-run : (bs : List ℕ) (kind p i e : ℕ) → Run bs i e → Passed bs p i → keyAt bs i .kind ≡ suc kind →
+pub beside-run : (bs : List ℕ) (kind p i e : ℕ) → OwnRun bs i e → Passed bs p i → keyAt bs i .kind ≡ suc kind →
     Beside bs kind
     (pick (ltb p i and eqb (keyAt bs p .kind) kind and eqb (keyAt bs p .channel) (keyAt bs i .channel)) p i) i e
 beside-run bs kind p i e r t own =

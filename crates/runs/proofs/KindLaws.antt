@@ -6,11 +6,11 @@ use mathlib.Core.List.{List}
 use Prim.Native.Nat.{ℕ, suc, _+_, _*_, _-_, _≤_, _<_}
 use native.Mathlib.Omega.{arith}
 use lib.Dec.{ltb, eqb}
-use borrow.Author.Tests.{eq-eqb, ne-eqb}
+use borrow.Author.Tests.{eqb-true, eqb-false, ne-eqb}
 use Rattle.wire.specs.Choice.{_and_, pick}
-use Rattle.wire.specs.Bytes.{Bytes, areZero, part, field}
-use Rattle.wire.proofs.BytesLaws.{bytes-part}
-use Rattle.wire.proofs.PartLaws.{part-part, field-part, part-split, areZero-append, areZero-number}
+use Rattle.wire.specs.Bytes.{Bytes, areZero, part}
+use Rattle.wire.proofs.PartLaws.{part-part, field-part}
+use Rattle.wire.proofs.ChoiceLaws.{cases, and-both, and-true, clash}
 use Rattle.slots.specs.declared.Channel.{Channel}
 use Rattle.slots.specs.declared.Record.{Record}
 use Rattle.slots.specs.Codes.{commitmentKind, receiptKind, acknowledgementKind, timeoutReceiptKind}
@@ -19,9 +19,9 @@ use Rattle.slots.specs.Layout.{slotSize, recordsFrom, recordIn}
 use Rattle.slots.specs.Ordering.{allowsTimeouts, mayHaveReceipt, mayHaveTimeoutReceipt}
 use Rattle.slots.specs.Fit.{hasZeroTimeoutsAndDigest}
 use Rattle.runs.specs.Each.{each}
-use Rattle.runs.specs.Run.{recordAt, keyAt, Run, hasBefore, hasCompanion, fitsBeside}
+use Rattle.runs.specs.Run.{recordAt, keyAt, plainSize, isPlain, OwnRun, hasBefore, hasCompanion, fitsBeside}
 use Rattle.runs.proofs.EachLaws.{each-fails, each-alike, each-both, each-same}
-use Rattle.runs.proofs.RunLaws.{run-below}
+use Rattle.runs.proofs.RunLaws.{zero-split, zero-number, run-below}
 
 -- A RECORD, by its kind
 module _ (b : Bool) (r : Record) (c : Channel) where
@@ -49,10 +49,6 @@ module _ (b : Bool) (r : Record) (c : Channel) where
   fits-none p q s t = rw (ne-eqb _ _ p, ne-eqb _ _ q, ne-eqb _ _ t, ne-eqb _ _ s)
 
 -- ITS FIELDS BEHIND THE KEY, in the bytes
-number-zero : (bs : List ℕ) → Bytes bs → (i : ℕ) → eqb (field i 8 bs) 0 ≡ areZero (part i 8 bs)
-unfolding field
-number-zero bs bytes i = sym (areZero-number (part i 8 bs) (bytes-part i 8 bs bytes))
-
 module _ (bs : List ℕ) (bytes : Bytes bs) (k : ℕ) where
   abbrev start : ℕ
   start = recordsFrom + slotSize * k
@@ -64,11 +60,10 @@ module _ (bs : List ℕ) (bytes : Bytes bs) (k : ℕ) where
       rw (
         field-part 16 8 start slotSize bs (omega arith),
         field-part 24 8 start slotSize bs (omega arith),
-        number-zero bs bytes (start + 16),
-        number-zero bs bytes (start + 24),
+        ← zero-number (start + 16) bs bytes,
+        ← zero-number (start + 24) bs bytes,
         z,
-        part-split 8 8 (start + 16) bs,
-        areZero-append (part (start + 16) 8 bs),
+        zero-split 8 8 (start + 16) bs,
       )
 
   zero-behind : hasZeroTimeoutsAndDigest (recordAt bs k) ≡ areZero (part (start + 16) 48 bs)
@@ -79,44 +74,72 @@ module _ (bs : List ℕ) (bytes : Bytes bs) (k : ℕ) where
         zero-timeouts,
         part-part 32 32 start slotSize bs (omega arith),
         z,
-        part-split 16 32 (start + 16) bs,
-        areZero-append (part (start + 16) 16 bs),
+        zero-split 16 32 (start + 16) bs,
       )
 
+-- a record that fits has so many zero bytes behind its key
+module _ (bs : List ℕ) (bytes : Bytes bs) (b : Bool) (k : ℕ) (c : Channel)
+    (h : fitsBeside b (recordAt bs k) c ≡ true) where
+  none-plain : isPlain bs 0 k ≡ true
+  unfolding part areZero
+  none-plain = refl
+
+  -- of a kind that is neither a commitment nor an acknowledgement
+  all-plain : (keyAt bs k .kind ≡ commitmentKind → ⊥) → (keyAt bs k .kind ≡ acknowledgementKind → ⊥) →
+      hasZeroTimeoutsAndDigest (recordAt bs k) ≡ true
+  all-plain p q =
+      cases (eqb (keyAt bs k .kind) receiptKind)
+      (λ e. and-both (sym (fits-receipt b (recordAt bs k) c (eqb-true (keyAt bs k .kind) receiptKind e)) ∙ h) .1)
+      (λ e. cases (eqb (keyAt bs k .kind) timeoutReceiptKind)
+      (λ f.
+      and-both (and-both
+      (sym (fits-timeout-receipt b (recordAt bs k) c (eqb-true (keyAt bs k .kind) timeoutReceiptKind f)) ∙ h) .0) .1)
+      (λ f. clash h (fits-none b (recordAt bs k) c p (eqb-false (keyAt bs k .kind) receiptKind e) q
+      (eqb-false (keyAt bs k .kind) timeoutReceiptKind f))))
+
+  pub fits-plain : isPlain bs (plainSize (keyAt bs k .kind)) k ≡ true
+  fits-plain =
+      cases (eqb (keyAt bs k .kind) commitmentKind) (λ e. rw e none-plain)
+      (λ e. cases (eqb (keyAt bs k .kind) acknowledgementKind)
+      (λ f.
+      let z = and-both
+      (sym (fits-acknowledgement b (recordAt bs k) c (eqb-true (keyAt bs k .kind) acknowledgementKind f)) ∙ h) .0 in
+      rw (e, f) (sym (zero-timeouts bs bytes k) ∙ z))
+      (λ f. rw (e, f)
+      (sym (zero-behind bs bytes k) ∙
+      all-plain (eqb-false (keyAt bs k .kind) commitmentKind e) (eqb-false (keyAt bs k .kind) acknowledgementKind f))))
+
 -- A RUN, by the kind of its first record
-module _ (bs : List ℕ) (bytes : Bytes bs) (i e : ℕ) (r : Run bs i e) (c : Channel) where
+module _ (bs : List ℕ) (bytes : Bytes bs) (i e : ℕ) (r : OwnRun bs i e) (more : i < e) (c : Channel) where
   abbrev pub runTest : (k : ℕ) → Bool
   runTest k = fitsBeside (hasCompanion bs k) (recordAt bs k) c
 
-  abbrev pub plain : (size k : ℕ) → Bool
-  plain size k = areZero (part (recordsFrom + slotSize * k + 16) size bs)
-
-  -- of the number of its records
-  more : 0 < e - i
-  more = let l = r .low in omega arith
-
-  -- each by a test of its own
-  by-kind : (u : ℕ → Bool) → ((k : ℕ) → keyAt bs k .kind ≡ keyAt bs i .kind → runTest k ≡ u k) →
-      each runTest i (e - i) ≡ each u i (e - i)
+  -- each by a test of its own, where the bytes behind its key are zero
+  by-kind : (u : ℕ → Bool) →
+      ((k : ℕ) → keyAt bs k .kind ≡ keyAt bs i .kind → isPlain bs (plainSize (keyAt bs i .kind)) k ≡ true →
+      runTest k ≡ u k) → each runTest i (e - i) ≡ each u i (e - i)
   by-kind u h =
-      let l = r .low in
-      each-alike runTest u i (e - i) (λ k a b. h k (r .kinds k a (omega arith)))
+      each-alike runTest u i (e - i) (λ k a b. h k (r .kinds k a (omega arith)) (r .plain k a (omega arith)))
 
   pub commitments : keyAt bs i .kind ≡ commitmentKind →
       each runTest i (e - i) ≡ ltb (keyAt bs (e - 1) .sequence) (c .next .send)
   commitments h =
       by-kind (λ k. ltb (keyAt bs k .sequence) (c .next .send))
-      (λ k q. fits-commitment (hasCompanion bs k) (recordAt bs k) c (q ∙ h)) ∙
-      run-below bs i e (c .next .send) r
+      (λ k q z. fits-commitment (hasCompanion bs k) (recordAt bs k) c (q ∙ h)) ∙
+      run-below bs _ i e (c .next .send) r more
 
-  pub receipts : keyAt bs i .kind ≡ receiptKind →
-      each runTest i (e - i) ≡ (mayHaveReceipt c and each (plain 48) i (e - i))
+  -- zero bytes behind the key, by a kind that asks for them
+  plain-as : (kind size : ℕ) → plainSize kind ≡ size → keyAt bs i .kind ≡ kind → (k : ℕ) →
+      isPlain bs (plainSize (keyAt bs i .kind)) k ≡ true → isPlain bs size k ≡ true
+  plain-as kind size f h k z =
+      ap (λ (x : ℕ). isPlain bs x k) (sym (ap plainSize h ∙ f)) ∙ z
+
+  pub receipts : keyAt bs i .kind ≡ receiptKind → each runTest i (e - i) ≡ mayHaveReceipt c
   receipts h =
-      by-kind (λ k. mayHaveReceipt c and plain 48 k)
-      (λ k q. fits-receipt (hasCompanion bs k) (recordAt bs k) c (q ∙ h) ∙
-      ap (λ (b : Bool). mayHaveReceipt c and b) (zero-behind bs bytes k)) ∙
-      each-both (λ k. mayHaveReceipt c) (plain 48) i (e - i) ∙
-      ap (λ (b : Bool). b and each (plain 48) i (e - i)) (each-same (mayHaveReceipt c) i (e - i) more)
+      by-kind (λ k. mayHaveReceipt c)
+      (λ k q z. fits-receipt (hasCompanion bs k) (recordAt bs k) c (q ∙ h) ∙
+      rw (zero-behind bs bytes k, plain-as receiptKind 48 refl h k z, and-true)) ∙
+      each-same (mayHaveReceipt c) i (e - i) (omega arith)
 
   -- the companion of its kind
   receipt-before : (k : ℕ) → keyAt bs k .kind ≡ acknowledgementKind → hasCompanion bs k ≡ hasBefore bs receiptKind k
@@ -130,34 +153,29 @@ module _ (bs : List ℕ) (bytes : Bytes bs) (i e : ℕ) (r : Run bs i e) (c : Ch
     told : (k : ℕ) → Bool
     told k = pick (mayHaveReceipt c) (hasBefore bs receiptKind k) (ltb (keyAt bs k .sequence) (c .next .receive))
 
-    acknowledgements : each runTest i (e - i) ≡ (each (plain 16) i (e - i) and each told i (e - i))
-    unfolding told
+    acknowledgements : each runTest i (e - i) ≡ each told i (e - i)
+    unfolding told _and_
     acknowledgements =
-        by-kind (λ k. plain 16 k and told k)
-        (λ k q. fits-acknowledgement (hasCompanion bs k) (recordAt bs k) c (q ∙ h) ∙
-        rw (zero-timeouts bs bytes k, receipt-before k (q ∙ h))) ∙ each-both (plain 16) told i (e - i)
+        by-kind told
+        (λ k q z. fits-acknowledgement (hasCompanion bs k) (recordAt bs k) c (q ∙ h) ∙
+        rw (zero-timeouts bs bytes k, plain-as acknowledgementKind 16 refl h k z, receipt-before k (q ∙ h)))
 
-    pub not-plain : each (plain 16) i (e - i) ≡ false → each runTest i (e - i) ≡ false
-    unfolding _and_
-    not-plain f = rw (acknowledgements, f)
+    pub with-receipts : mayHaveReceipt c ≡ true → each runTest i (e - i) ≡ each (hasBefore bs receiptKind) i (e - i)
+    unfolding told
+    with-receipts m =
+        acknowledgements ∙ each-alike told (hasBefore bs receiptKind) i (e - i) (λ k a b. rw m)
 
-    module _ (f : each (plain 16) i (e - i) ≡ true) where
-      pub with-receipts : mayHaveReceipt c ≡ true → each runTest i (e - i) ≡ each (hasBefore bs receiptKind) i (e - i)
-      unfolding _and_ told
-      with-receipts m =
-          rw (acknowledgements, f) (each-alike told (hasBefore bs receiptKind) i (e - i) (λ k a b. rw m))
-
-      pub with-counter : mayHaveReceipt c ≡ false →
-          each runTest i (e - i) ≡ ltb (keyAt bs (e - 1) .sequence) (c .next .receive)
-      unfolding _and_ told
-      with-counter m =
-          rw (acknowledgements, f)
-          (each-alike told (λ k. ltb (keyAt bs k .sequence) (c .next .receive)) i (e - i) (λ k a b. rw m) ∙
-          run-below bs i e (c .next .receive) r)
+    pub with-counter : mayHaveReceipt c ≡ false →
+        each runTest i (e - i) ≡ ltb (keyAt bs (e - 1) .sequence) (c .next .receive)
+    unfolding told
+    with-counter m =
+        acknowledgements ∙
+        each-alike told (λ k. ltb (keyAt bs k .sequence) (c .next .receive)) i (e - i) (λ k a b. rw m) ∙
+        run-below bs _ i e (c .next .receive) r more
 
   pub timeout-receipts : keyAt bs i .kind ≡ timeoutReceiptKind →
       each runTest i (e - i) ≡
-      (mayHaveTimeoutReceipt c (keyAt bs (e - 1) .sequence) and each (plain 48) i (e - i) and
+      (mayHaveTimeoutReceipt c (keyAt bs (e - 1) .sequence) and
       each (λ k. not (hasBefore bs acknowledgementKind k)) i (e - i))
   unfolding mayHaveTimeoutReceipt
   timeout-receipts h =
@@ -165,18 +183,20 @@ module _ (bs : List ℕ) (bytes : Bytes bs) (i e : ℕ) (r : Run bs i e) (c : Ch
       let apart : ℕ → Bool = λ k. not (hasBefore bs acknowledgementKind k) in
       let limit : each may i (e - i) ≡ mayHaveTimeoutReceipt c (keyAt bs (e - 1) .sequence) =
       each-both (λ k. allowsTimeouts c) (λ k. ltb (keyAt bs k .sequence) (c .next .receive)) i (e - i) ∙
-      rw (each-same (allowsTimeouts c) i (e - i) more, run-below bs i e (c .next .receive) r) in
-      by-kind (λ k. may k and plain 48 k and apart k)
-      (λ k q. fits-timeout-receipt (hasCompanion bs k) (recordAt bs k) c (q ∙ h) ∙
-      rw (zero-behind bs bytes k, acknowledgement-before k (q ∙ h))) ∙
-      each-both (λ k. may k and plain 48 k) apart i (e - i) ∙
-      ap (λ (b : Bool). b and each apart i (e - i))
-      (each-both may (plain 48) i (e - i) ∙ ap (λ (b : Bool). b and each (plain 48) i (e - i)) limit)
+      rw (each-same (allowsTimeouts c) i (e - i) (omega arith), run-below bs _ i e (c .next .receive) r more) in
+      by-kind (λ k. may k and apart k)
+      (λ k q z. fits-timeout-receipt (hasCompanion bs k) (recordAt bs k) c (q ∙ h) ∙
+      rw (
+        zero-behind bs bytes k,
+        plain-as timeoutReceiptKind 48 refl h k z,
+        and-true,
+        acknowledgement-before k (q ∙ h),
+      )) ∙
+      each-both may apart i (e - i) ∙ ap (λ (b : Bool). b and each apart i (e - i)) limit
 
   pub no-kind : (keyAt bs i .kind ≡ commitmentKind → ⊥) → (keyAt bs i .kind ≡ receiptKind → ⊥) →
       (keyAt bs i .kind ≡ acknowledgementKind → ⊥) → (keyAt bs i .kind ≡ timeoutReceiptKind → ⊥) →
       each runTest i (e - i) ≡ false
   no-kind p q s t =
-      let l = r .low in
       each-fails runTest i (e - i) i (omega arith) (omega arith)
       (fits-none (hasCompanion bs i) (recordAt bs i) c p q s t)

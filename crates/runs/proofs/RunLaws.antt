@@ -10,13 +10,13 @@ use lib.Dec.{ltb, eqb}
 use lib.ListN.{length}
 use borrow.Author.Tests.{eqb-true, eqb-false, ltb-true, ltb-false, lt-ltb, le-ltb}
 use Rattle.wire.specs.Choice.{_and_}
-use Rattle.wire.specs.Bytes.{Bytes, field}
+use Rattle.wire.specs.Bytes.{Bytes, areZero, part, field}
 use Rattle.wire.proofs.ChoiceLaws.{cases}
-use Rattle.wire.proofs.BytesLaws.{field-below}
-use Rattle.wire.proofs.PartLaws.{field-part, field-split}
+use Rattle.wire.proofs.BytesLaws.{field-below, bytes-part}
+use Rattle.wire.proofs.PartLaws.{part-split, field-part, field-split, areZero-append, areZero-number}
 use Rattle.slots.specs.Layout.{slotSize, recordsFrom, sizeFor, recordIn}
 use Rattle.runs.specs.Each.{each}
-use Rattle.runs.specs.Run.{keyAt, zerosAt, Run, RunEnd}
+use Rattle.runs.specs.Run.{keyAt, zerosAt, isPlain, Run}
 use Rattle.runs.proofs.EachLaws.{each-all, each-fails}
 
 -- A KEY in the bytes
@@ -70,32 +70,43 @@ module _ (bs : List ℕ) (bytes : Bytes bs) where
         keyAt bs k .channel ≡ keyAt bs i .channel → word k ≡ word i
     same-word a b c = omega (arith, word-parts i room, word-parts k room', a, b, c)
 
--- A RUN of one slot, and one that goes on by one
-pub run-one : (bs : List ℕ) (i : ℕ) → Run bs i (i + 1)
-run-one bs i =
+-- ZERO BYTES, n and then m of them; and a number that is zero
+pub zero-split : (n m i : ℕ) (bs : List ℕ) →
+    areZero (part i (n + m) bs) ≡ (areZero (part i n bs) and areZero (part (i + n) m bs))
+zero-split n m i bs = ap areZero (part-split n m i bs) ∙ areZero-append (part i n bs) (part (i + n) m bs)
+
+pub zero-number : (i : ℕ) (bs : List ℕ) → Bytes bs → areZero (part i 8 bs) ≡ eqb (field i 8 bs) 0
+unfolding field
+zero-number i bs bytes = areZero-number (part i 8 bs) (bytes-part i 8 bs bytes)
+
+-- A RUN of no slot, and one that goes on by one
+pub run-none : (bs : List ℕ) (size i : ℕ) → Run bs size i i
+run-none bs size i =
     record {
       low = omega arith;
-      zeros = λ k l m. ap (zerosAt bs) (same k l m);
-      kinds = λ k l m. ap (λ (n : ℕ). keyAt bs n .kind) (same k l m);
-      channels = λ k l m. ap (λ (n : ℕ). keyAt bs n .channel) (same k l m);
+      zeros = λ k l m. absurd (omega arith);
+      kinds = λ k l m. absurd (omega arith);
+      channels = λ k l m. absurd (omega arith);
+      first = λ k l m. absurd (omega arith);
       rises = λ m k a b c. absurd (omega arith);
+      plain = λ k l m. absurd (omega arith);
     }
-  where
-    same : (k : ℕ) → i ≤ k → k < i + 1 → k ≡ i
-    same k l m = omega arith
 
-pub run-more : (bs : List ℕ) (i e : ℕ) → Run bs i e →
+pub run-more : (bs : List ℕ) (size i e : ℕ) → Run bs size i e →
     (keyAt bs e .kind ≡ keyAt bs i .kind) × (zerosAt bs e ≡ zerosAt bs i) ×
-    (keyAt bs e .channel ≡ keyAt bs i .channel) →
-    keyAt bs (e - 1) .sequence < keyAt bs e .sequence → Run bs i (e + 1)
-run-more bs i e r (a, b, c) h =
+    (keyAt bs e .channel ≡ keyAt bs i .channel) → 1 ≤ keyAt bs e .sequence →
+    (i < e → keyAt bs (e - 1) .sequence < keyAt bs e .sequence) → isPlain bs size e ≡ true → Run bs size i (e + 1)
+run-more bs size i e r (a, b, c) one h z =
     record {
       low = let l = r .low in omega arith;
       zeros = λ k l m. by (λ n. zerosAt bs n ≡ zerosAt bs i) k m (r .zeros k l) b;
       kinds = λ k l m. by (λ n. keyAt bs n .kind ≡ keyAt bs i .kind) k m (r .kinds k l) a;
       channels = λ k l m. by (λ n. keyAt bs n .channel ≡ keyAt bs i .channel) k m (r .channels k l) c;
+      first = λ k l m. by (λ n. 1 ≤ keyAt bs n .sequence) k m (r .first k l) one;
       rises = λ m k l n o.
-          by (λ x. keyAt bs m .sequence < keyAt bs x .sequence) k o (r .rises m k l n) (last m l (omega arith));
+          by (λ x. m < x → keyAt bs m .sequence < keyAt bs x .sequence) k o (λ p q. r .rises m k l q p)
+          (λ q. last m l q) n;
+      plain = λ k l m. by (λ n. isPlain bs size n ≡ true) k m (r .plain k l) z;
     }
   where
     by : (P : ℕ → Type 0) (k : ℕ) → k < e + 1 → (k < e → P k) → P e → P k
@@ -105,15 +116,16 @@ run-more bs i e r (a, b, c) h =
 
     last : (m : ℕ) → i ≤ m → m < e → keyAt bs m .sequence < keyAt bs e .sequence
     last m l n =
-        cases (ltb m (e - 1)) (λ f. let g = ltb-true m (e - 1) f in omega (arith, r .rises m (e - 1) l g (omega arith), h))
+        let before = h (omega arith) in
+        cases (ltb m (e - 1))
+        (λ f. let g = ltb-true m (e - 1) f in omega (arith, r .rises m (e - 1) l g (omega arith), before))
         (λ f. let z : e - 1 ≡ m = (let g = ltb-false m (e - 1) f in omega arith) in
-        subst (λ (x : ℕ). keyAt bs x .sequence < keyAt bs e .sequence) z h)
+        subst (λ (x : ℕ). keyAt bs x .sequence < keyAt bs e .sequence) z before)
 
 -- OF A LIMIT only the last sequence is asked
-pub run-below : (bs : List ℕ) (i e limit : ℕ) → Run bs i e →
+pub run-below : (bs : List ℕ) (size i e limit : ℕ) → Run bs size i e → i < e →
     each (λ k. ltb (keyAt bs k .sequence) limit) i (e - i) ≡ ltb (keyAt bs (e - 1) .sequence) limit
-run-below bs i e limit r =
-    let low = r .low in
+run-below bs size i e limit r low =
     cases (ltb (keyAt bs (e - 1) .sequence) limit)
     (λ h. each-all (λ k. ltb (keyAt bs k .sequence) limit) i (e - i)
     (λ k l m. lt-ltb (keyAt bs k .sequence) limit

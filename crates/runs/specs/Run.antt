@@ -1,13 +1,13 @@
 -- Runs of packet records: neighbours of one kind and channel, whose sequences rise. What is asked of a record is asked of
 -- it beside those before it alone.
 use mathlib.Core.Path.{_≡_}
-use mathlib.Core.Bool.{Bool, not, false}
+use mathlib.Core.Bool.{Bool, true, not}
 use mathlib.Core.List.{List}
 use mathlib.Core.Logic.{_⊎_}
 use Prim.Native.Nat.{ℕ, suc, _+_, _*_, _-_, _≤_, _<_}
 use lib.Dec.{ltb, eqb}
 use Rattle.wire.specs.Choice.{_and_, pick}
-use Rattle.wire.specs.Bytes.{field}
+use Rattle.wire.specs.Bytes.{areZero, part, field}
 use Rattle.slots.specs.declared.Channel.{Channel}
 use Rattle.slots.specs.declared.Record.{Record}
 use Rattle.slots.specs.Codes.{commitmentKind, receiptKind, acknowledgementKind, timeoutReceiptKind}
@@ -35,26 +35,41 @@ zerosAt bs i = field (recordsFrom + slotSize * i + 2) 2 bs
 abbrev pub Ahead : Key → Key → Type 0
 Ahead a b = (a .channel < b .channel) ⊎ ((a .channel ≡ b .channel) × (a .kind < b .kind))
 
--- A RUN from index i up to e
-pub record Run (bs : List ℕ) (i e : ℕ) : Type 0 where
-  pub low : i < e
+-- how many bytes behind the key are zero in a record of this kind: no byte of a commitment has to be, of an
+-- acknowledgement the timeouts, of the others all
+abbrev pub plainSize : (kind : ℕ) → ℕ
+plainSize kind = pick (eqb kind commitmentKind) 0 (pick (eqb kind acknowledgementKind) 16 48)
+
+abbrev pub isPlain : List ℕ → (size i : ℕ) → Bool
+isPlain bs size i = areZero (part (recordsFrom + slotSize * i + 16) size bs)
+
+-- A RUN from index i up to e, with so many zero bytes behind each key
+pub record Run (bs : List ℕ) (size i e : ℕ) : Type 0 where
+  pub low : i ≤ e
   pub zeros : (k : ℕ) → i ≤ k → k < e → zerosAt bs k ≡ zerosAt bs i
   pub kinds : (k : ℕ) → i ≤ k → k < e → keyAt bs k .kind ≡ keyAt bs i .kind
   pub channels : (k : ℕ) → i ≤ k → k < e → keyAt bs k .channel ≡ keyAt bs i .channel
+  pub first : (k : ℕ) → i ≤ k → k < e → 1 ≤ keyAt bs k .sequence
   pub rises : (m k : ℕ) → i ≤ m → m < k → k < e → keyAt bs m .sequence < keyAt bs k .sequence
+  pub plain : (k : ℕ) → i ≤ k → k < e → isPlain bs size k ≡ true
 
 -- which ends there: of n slots none is left, or the next one does not go on with it
-pub record RunEnd (bs : List ℕ) (n i e : ℕ) : Type 0 where
-  pub run : Run bs i e
+pub record RunEnd (bs : List ℕ) (n size i e : ℕ) : Type 0 where
+  pub run : Run bs size i e
   pub high : e ≤ n
   pub stopped : e < n → zerosAt bs e ≡ zerosAt bs i → keyAt bs e .kind ≡ keyAt bs i .kind →
-      keyAt bs e .channel ≡ keyAt bs i .channel → keyAt bs (e - 1) .sequence < keyAt bs e .sequence → ⊥
+      keyAt bs e .channel ≡ keyAt bs i .channel → 1 ≤ keyAt bs e .sequence →
+      (i < e → keyAt bs (e - 1) .sequence < keyAt bs e .sequence) → isPlain bs size e ≡ true → ⊥
+
+-- that of the kind of its first record
+abbrev pub OwnRun : List ℕ → (i e : ℕ) → Type 0
+OwnRun bs i e = Run bs (plainSize (keyAt bs i .kind)) i e
 
 -- WHAT STANDS BEFORE a run that starts at i: the run from p on, if any, and before it only what is ahead of it
 pub record Passed (bs : List ℕ) (p i : ℕ) : Type 0 where
   pub low : p ≤ i
   pub near : 0 < i → p < i
-  pub run : p < i → Run bs p i
+  pub run : p < i → OwnRun bs p i
   pub before : (m : ℕ) → m < p → Ahead (keyAt bs m) (keyAt bs p)
   pub follows : p < i → Ahead (keyAt bs p) (keyAt bs i)
 
@@ -74,7 +89,7 @@ hasCompanion bs i = hasBefore bs (companionKind (keyAt bs i .kind)) i
 
 -- where the records of that kind, on the channel of the run from i to e, are those from q to i
 pub record Beside (bs : List ℕ) (kind q i e : ℕ) : Type 0 where
-  pub run : Run bs i e
+  pub run : OwnRun bs i e
   pub low : q ≤ i
   pub own : keyAt bs i .kind ≡ suc kind
   pub kinds : (m : ℕ) → q ≤ m → m < i → keyAt bs m .kind ≡ kind

@@ -19,49 +19,79 @@ ghost use Rattle.wire.specs.Bytes.{part, areZero};
 ghost use Rattle.slots.specs.Codes.{acknowledgementKind, timeoutReceiptKind};
 ghost use Rattle.slots.specs.Layout.{recordsFrom, slotSize, sizeFor};
 ghost use Rattle.runs.specs.Each.{each};
-ghost use Rattle.runs.specs.Run.{recordAt, keyAt, Run, RunEnd, Passed, Beside, hasBefore, hasCompanion, fitsBeside};
+ghost use Rattle.runs.specs.Run.{recordAt, keyAt, plainSize, RunEnd, OwnRun, Passed, Beside, hasBefore};
+ghost use Rattle.runs.specs.Run.{hasCompanion, fitsBeside};
 ghost use Rattle.runs.specs.Run.{Reached};
 
-// Where the run that starts at slot i ends. The first eight bytes of a record are its kind, two zero bytes and its
-// channel: they are compared as one number.
-pub fn run_end(s: &[u8], count: usize, i: usize) -> usize
-    requires { ⌜ (length (now s) ≡ sizeFor count) × (i < count) ⌝ }
-    ensures { λ e. ⌜ RunEnd (now (s .entry)) count i e ⌝ }
+// Eight bytes are zero, and sixteen, as two words that are both looked at.
+fn is_zero_word(s: &[u8], at: usize) -> bool
+    requires { ⌜ at + 8 ≤ length (now s) ⌝ }
+    ensures { λ r. ⌜ r ≡ areZero (part at 8 (now (s .entry))) ⌝ }
+{
+    u64_at(s, at) == 0
+}
+
+fn are_zero_two(s: &[u8], at: usize) -> bool
+    requires { ⌜ at + 16 ≤ length (now s) ⌝ }
+    ensures { λ r. ⌜ r ≡ areZero (part at 16 (now (s .entry))) ⌝ }
+{
+    is_zero_word(s, at) & is_zero_word(s, at + 8)
+}
+
+// The bytes behind a key, 0, 16 or 48 of them as its kind has it, are zero. They are taken as words, all of which are
+// looked at: so the compiler joins the tests.
+fn is_plain(s: &[u8], at: usize, size: usize) -> bool
+    requires { ⌜ at + size ≤ length (now s) ⌝ }
+    ensures { λ r. ⌜ r ≡ areZero (part at size (now (s .entry))) ⌝ }
+{
+    if size == 16 {
+        return are_zero_two(s, at);
+    }
+    if size == 48 {
+        return are_zero_two(s, at) & are_zero_two(s, at + 16) & are_zero_two(s, at + 32);
+    }
+    are_zero(s, at, size)
+}
+
+// Where the run that starts at slot i ends, with so many zero bytes behind each key. The first eight bytes of a record
+// are its kind, two zero bytes and its channel: they are compared as one number. Where not even slot i passes, it ends
+// there.
+fn run_end(s: &[u8], count: usize, i: usize, size: usize) -> usize
+    requires { ⌜ ((length (now s) ≡ sizeFor count) × (i < count)) × (16 + size ≤ slotSize) ⌝ }
+    ensures { λ e. ⌜ RunEnd (now (s .entry)) count size i e ⌝ }
 {
     let first = Layout::RECORDS_FROM + Layout::SLOT * i;
     let word = u64_at(s, first);
-    let mut last = u64_at(s, first + 8);
-    let mut e = i + 1;
-    while e < count {
-        let at = Layout::RECORDS_FROM + Layout::SLOT * e;
+    let end = Layout::RECORDS_FROM + Layout::SLOT * count;
+    let mut last: u64 = 0;
+    let mut at = first;
+    while at < end {
         if u64_at(s, at) != word {
-            return e;
+            return (at - Layout::RECORDS_FROM) / Layout::SLOT;
         }
         let next = u64_at(s, at + 8);
         if next <= last {
-            return e;
+            return (at - Layout::RECORDS_FROM) / Layout::SLOT;
+        }
+        if !is_plain(s, at + 16, size) {
+            return (at - Layout::RECORDS_FROM) / Layout::SLOT;
         }
         last = next;
-        e += 1;
+        at += Layout::SLOT;
     }
-    e
+    (at - Layout::RECORDS_FROM) / Layout::SLOT
 }
 
-// The `size` bytes behind the key are zero in each slot from i up to e.
-fn are_plain(s: &[u8], i: usize, e: usize, size: usize) -> bool
-    requires { ⌜ (sizeFor e ≤ length (now s)) × (i ≤ e) × (16 + size ≤ slotSize) ⌝ }
-    ensures { λ r. ⌜
-        r ≡ each (λ k. areZero (part (recordsFrom + slotSize * k + 16) size (now (s .entry)))) i (e - i)
-        ⌝ }
+// The same by the kind of its first record: a loop for each number of zero bytes.
+pub fn own_run_end(s: &[u8], count: usize, i: usize) -> usize
+    requires { ⌜ (length (now s) ≡ sizeFor count) × (i < count) ⌝ }
+    ensures { λ e. ⌜ RunEnd (now (s .entry)) count (plainSize (keyAt (now (s .entry)) i .kind)) i e ⌝ }
 {
-    let mut k = i;
-    while k < e {
-        if !are_zero(s, Layout::RECORDS_FROM + Layout::SLOT * k + 16, size) {
-            return false;
-        }
-        k += 1;
+    match u16_at(s, Layout::RECORDS_FROM + Layout::SLOT * i) {
+        Record::COMMITMENT => run_end(s, count, i, 0),
+        Record::ACKNOWLEDGEMENT => run_end(s, count, i, 16),
+        _ => run_end(s, count, i, 48),
     }
-    true
 }
 
 // Where the records of this kind begin that the run from slot i on is held against: with the run before it, from p on,
@@ -130,19 +160,16 @@ fn are_beside(s: &[u8], q: usize, i: usize, e: usize, kind: u16, wanted: bool) -
     true
 }
 
-// Zero timeouts; on an unordered channel each has its receipt, else all are below next receive, as the last one is.
+// On an unordered channel each has its receipt, else all are below next receive, as the last one is.
 fn acknowledgements_fit(s: &[u8], p: usize, i: usize, e: usize, c: Channel) -> bool
     requires { ⌜
-        ((sizeFor e ≤ length (now s)) × Run (now s) i e × Passed (now s) p i) ×
+        ((sizeFor e ≤ length (now s)) × (i < e) × OwnRun (now s) i e × Passed (now s) p i) ×
         (keyAt (now s) i .kind ≡ acknowledgementKind)
         ⌝ }
     ensures { λ r. ⌜
         r ≡ each (λ k. fitsBeside (hasCompanion (now (s .entry)) k) (recordAt (now (s .entry)) k) c) i (e - i)
         ⌝ }
 {
-    if !are_plain(s, i, e, 16) {
-        return false;
-    }
     if may_have_receipt(c) {
         let q = companions_from(s, p, i, Record::RECEIPT);
         return are_beside(s, q, i, e, Record::RECEIPT, true);
@@ -150,10 +177,10 @@ fn acknowledgements_fit(s: &[u8], p: usize, i: usize, e: usize, c: Channel) -> b
     u64_at(s, Layout::RECORDS_FROM + Layout::SLOT * (e - 1) + 8) < c.next.receive
 }
 
-// Where timeouts are allowed, below next receive; zero timeouts and digest; none beside its acknowledgement.
+// Where timeouts are allowed, below next receive; none beside its acknowledgement.
 fn timeout_receipts_fit(s: &[u8], p: usize, i: usize, e: usize, c: Channel) -> bool
     requires { ⌜
-        ((sizeFor e ≤ length (now s)) × Run (now s) i e × Passed (now s) p i) ×
+        ((sizeFor e ≤ length (now s)) × (i < e) × OwnRun (now s) i e × Passed (now s) p i) ×
         (keyAt (now s) i .kind ≡ timeoutReceiptKind)
         ⌝ }
     ensures { λ r. ⌜
@@ -162,14 +189,12 @@ fn timeout_receipts_fit(s: &[u8], p: usize, i: usize, e: usize, c: Channel) -> b
 {
     let last = u64_at(s, Layout::RECORDS_FROM + Layout::SLOT * (e - 1) + 8);
     let q = companions_from(s, p, i, Record::ACKNOWLEDGEMENT);
-    may_have_timeout_receipt(c, last)
-        & are_plain(s, i, e, 48)
-        & are_beside(s, q, i, e, Record::ACKNOWLEDGEMENT, false)
+    may_have_timeout_receipt(c, last) & are_beside(s, q, i, e, Record::ACKNOWLEDGEMENT, false)
 }
 
 // The records of the run from i to e on their channel end, by kind. The run before it starts at p.
 pub fn run_fits(s: &[u8], p: usize, i: usize, e: usize, c: Channel) -> bool
-    requires { ⌜ (sizeFor e ≤ length (now s)) × Run (now s) i e × Passed (now s) p i ⌝ }
+    requires { ⌜ (sizeFor e ≤ length (now s)) × (i < e) × OwnRun (now s) i e × Passed (now s) p i ⌝ }
     ensures { λ r. ⌜
         r ≡ each (λ k. fitsBeside (hasCompanion (now (s .entry)) k) (recordAt (now (s .entry)) k) c) i (e - i)
         ⌝ }
@@ -177,7 +202,7 @@ pub fn run_fits(s: &[u8], p: usize, i: usize, e: usize, c: Channel) -> bool
     match u16_at(s, Layout::RECORDS_FROM + Layout::SLOT * i) {
         Record::COMMITMENT => u64_at(s, Layout::RECORDS_FROM + Layout::SLOT * (e - 1) + 8)
             < c.next.send,
-        Record::RECEIPT => may_have_receipt(c) & are_plain(s, i, e, 48),
+        Record::RECEIPT => may_have_receipt(c),
         Record::ACKNOWLEDGEMENT => acknowledgements_fit(s, p, i, e, c),
         Record::TIMEOUT_RECEIPT => timeout_receipts_fit(s, p, i, e, c),
         _ => false,

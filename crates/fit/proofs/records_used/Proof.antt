@@ -7,8 +7,10 @@ use native.Mathlib.Omega.{arith}
 use lib.ListN.{length}
 use denote.Ref.{now}
 use borrow.Author.Needs.{needs}
-use borrow.Author.Tests.{not-true, not-false}
+use lib.Dec.{eqb}
+use borrow.Author.Tests.{not-true, not-false, eqb-true, eqb-false}
 use Rattle.wire.specs.Bytes.{Bytes, areZero}
+use Rattle.wire.proofs.ChoiceLaws.{cases}
 use Rattle.wire.proofs.PartLaws.{bytes-array}
 use Rattle.slots.specs.declared.Channel.{Channel}
 use Rattle.slots.specs.declared.Found.the-variants.{At}
@@ -21,7 +23,7 @@ use Rattle.runs.specs.Each.{each}
 use Rattle.runs.specs.Run.{recordAt, keyAt, hasCompanion, fitsBeside}
 use Rattle.fit.specs.Pass.{startsRun}
 use Rattle.fit.proofs.PassLaws.{Gone, gone-none, gone-all, gone-rest, unfit-rest, unfit-start, unfit-end}
-use Rattle.fit.proofs.PassLaws.{passed, unfit-run, gone-run}
+use Rattle.fit.proofs.PassLaws.{passed, unfit-first, unfit-run, gone-run}
 use Rattle.fit.proofs.records_used.Statement.{statement}
 use Rattle.fit.proofs.records_used.Tie as tie
 
@@ -63,6 +65,9 @@ head k = k .before .before .before
 
 taken : (k : tie.Else1 Inv-loop μ-loop) → areZero (slotAt recordsFrom (bytes (head k)) (head k .loop .i)) ≡ false
 taken k = sym (k .before .are-zero .ensures) ∙ k .if1 .left
+
+inside : (k : tie.Else1 Inv-loop μ-loop) → head k .loop .i < head k .before .before .args .count
+inside k = omega arith
 
 starts-run-requires : tie.Need-starts-run-requires Inv-loop μ-loop
 starts-run-requires c κs = (omega arith, head c .loop .inv .low)
@@ -118,63 +123,88 @@ below k =
     let l = loop k in
     channel-index (index k) (bytes l) (holds (isNumbered (keyAt (bytes l) (l .loop .i) .channel))) (found k)
 
-run-end-requires : tie.Need-run-end-requires Inv-loop μ-loop
-run-end-requires c κs = (loop c .before .before .pre, omega arith)
-
-run-fits-requires : tie.Need-run-fits-requires Inv-loop μ-loop
-run-fits-requires c κs =
-    let k = c .before .before in
-    let l = loop k in
-    let o = l .before .before in
-    let stop = c .before .run-end .ensures in (
-      omega (arith, stop .high),
-      stop .run,
-      passed (bytes l) (known l) (o .args .count) (o .pre) (l .loop .i) (l .loop .j) (l .loop .p) (l .loop .inv)
-          (omega arith) (starts (start k)),
-    )
-
--- what the test of the run tells
-tested : (r : tie.After-run-fits Inv-loop μ-loop) → let run = r .before .before in let k = run .before in
-    let l = loop k in
-    r .run-fits .result ≡
-    each (λ m. fitsBeside (hasCompanion (bytes l) m) (recordAt (bytes l) m)
-    (channelIn (slotAt headerSize (bytes l) (index k)))) (l .loop .i) (run .run-end .result - l .loop .i)
-tested r =
-    let run = r .before .before in
-    let l = loop (run .before) in
-    r .run-fits .ensures ∙
-    ap (λ (x : Channel). each (λ m. fitsBeside (hasCompanion (bytes l) m) (recordAt (bytes l) m) x) (l .loop .i)
-    (run .run-end .result - l .loop .i)) (r .before .channel-at .ensures)
+own-run-end-requires : tie.Need-own-run-end-requires Inv-loop μ-loop
+own-run-end-requires c κs = (loop c .before .before .pre, inside (first (start c)))
 
 returns-5 : tie.Need-returns-5 Inv-loop μ-loop
 returns-5 c =
-    let call = c .before in
-    let run = call .before .before in
+    let run = c .before in
     let k = run .before in
     let l = loop k in
     let o = l .before .before in
+    unfit-first (bytes l) (known l) (o .args .count) (o .pre) (l .loop .i) (l .loop .j) (l .loop .p) (l .loop .inv)
+    (inside (first (start k))) (starts (start k)) (taken (first (start k))) (run .own-run-end .result) (run .own-run-end .ensures)
+    (c .if4 .taken)
+
+-- A RUN that has a record
+abbrev known-end : tie.Else4 Inv-loop μ-loop → tie.After-known-told Inv-loop μ-loop
+known-end r = r .before .before
+
+more : (r : tie.Else4 Inv-loop μ-loop) → loop (known-end r) .loop .i < r .before .own-run-end .result
+more r =
+    let low = r .before .own-run-end .ensures .run .low in
+    cases (eqb (loop (known-end r) .loop .i) (r .before .own-run-end .result))
+    (λ e. absurd (r .if4 .left (sym (eqb-true _ _ e))))
+    (λ e. omega (arith, low, eqb-false (loop (known-end r) .loop .i) (r .before .own-run-end .result) e))
+
+run-fits-requires : tie.Need-run-fits-requires Inv-loop μ-loop
+run-fits-requires c κs =
+    let r = c .before in
+    let k = known-end r in
+    let l = loop k in
+    let o = l .before .before in
+    let stop = r .before .own-run-end .ensures in (
+      omega (arith, stop .high),
+      more r,
+      stop .run,
+      passed (bytes l) (known l) (o .args .count) (o .pre) (l .loop .i) (l .loop .j) (l .loop .p) (l .loop .inv)
+          (inside (first (start k))) (starts (start k)),
+    )
+
+-- what the test of the run tells
+tested : (t : tie.After-run-fits Inv-loop μ-loop) → let r = t .before .before in let k = known-end r in
+    let l = loop k in
+    t .run-fits .result ≡
+    each (λ m. fitsBeside (hasCompanion (bytes l) m) (recordAt (bytes l) m)
+    (channelIn (slotAt headerSize (bytes l) (index k)))) (l .loop .i) (r .before .own-run-end .result - l .loop .i)
+tested t =
+    let r = t .before .before in
+    let l = loop (known-end r) in
+    t .run-fits .ensures ∙
+    ap (λ (x : Channel). each (λ m. fitsBeside (hasCompanion (bytes l) m) (recordAt (bytes l) m) x) (l .loop .i)
+    (r .before .own-run-end .result - l .loop .i)) (t .before .channel-at .ensures)
+
+returns-6 : tie.Need-returns-6 Inv-loop μ-loop
+returns-6 c =
+    let call = c .before in
+    let r = call .before .before in
+    let k = known-end r in
+    let l = loop k in
+    let o = l .before .before in
+    let run = r .before .own-run-end in
     unfit-run (bytes l) (known l) (o .args .count) (o .pre) (l .loop .i) (l .loop .j) (l .loop .p) (l .loop .inv)
-    (omega arith) (starts (start k)) (index k) (found k) (run .run-end .result) (run .run-end .ensures)
-    (sym (tested call) ∙ not-true (call .run-fits .result) (c .if4 .taken))
+    (inside (first (start k))) (starts (start k)) (index k) (found k) (run .result) (run .ensures) (more r)
+    (sym (tested call) ∙ not-true (call .run-fits .result) (c .if5 .taken))
 
 loop-less : tie.Need-loop-less Inv-loop μ-loop
 loop-less c =
-    let stop = c .before .before .before .run-end .ensures in
-    omega (arith, stop .run .low, stop .high)
+    let r = c .before .before .before in
+    omega (arith, more r, r .before .own-run-end .ensures .high)
 
 loop-again : tie.Need-loop-again Inv-loop μ-loop
 loop-again c =
     let call = c .before in
-    let run = call .before .before in
-    let k = run .before in
+    let r = call .before .before in
+    let k = known-end r in
     let l = loop k in
     let o = l .before .before in
+    let run = r .before .own-run-end in
     gone-run (bytes l) (known l) (o .args .count) (o .pre) (l .loop .i) (l .loop .j) (l .loop .p) (l .loop .inv)
-    (omega arith) (starts (start k)) (index k) (found k) (run .run-end .result) (run .run-end .ensures)
-    (sym (tested call) ∙ not-false (call .run-fits .result) (c .if4 .left))
+    (inside (first (start k))) (starts (start k)) (index k) (found k) (run .result) (run .ensures) (more r)
+    (sym (tested call) ∙ not-false (call .run-fits .result) (c .if5 .left))
 
-returns-6 : tie.Need-returns-6 Inv-loop μ-loop
-returns-6 c =
+returns-7 : tie.Need-returns-7 Inv-loop μ-loop
+returns-7 c =
     let l = c .before in
     let o = l .before .before in
     gone-all (bytes l) (known l) (o .args .count) (o .pre) (l .loop .i) (l .loop .j) (l .loop .p) (l .loop .inv)
@@ -186,6 +216,6 @@ records-used-spec =
     (tie.spec
     Inv-loop μ-loop loop-holds (λ c. omega arith) (λ c. omega arith) (λ c κs. omega arith) (λ c. omega arith)
     (λ c. omega arith) (λ c κs. omega arith) returns returns-2 starts-run-requires returns-3 end-index-requires
-    (λ c. search needs) (λ c. search needs) returns-4 run-end-requires (λ c. omega (arith, below (c .before)))
-    (λ c. omega (arith, below (c .before))) (λ c κs. omega (arith, below (c .before))) run-fits-requires returns-5
-    loop-less loop-again returns-6)
+    (λ c. search needs) (λ c. search needs) returns-4 own-run-end-requires returns-5
+    (λ c. omega (arith, below (known-end c))) (λ c. omega (arith, below (known-end c)))
+    (λ c κs. omega (arith, below (known-end c))) run-fits-requires returns-6 loop-less loop-again returns-7)

@@ -1,25 +1,17 @@
 -- The tests of `startsRun`, in the bytes. Assumes nothing.
 use native.Mathlib.Omega.{arith}
-use denote.Ref.{now}
 use Rattle.wire.specs.Choice.{_and_, _or_}
-use Rattle.runs.proofs.RunLaws.{sequence-at}
 use Rattle.fit.proofs.starts_run.Statement.{statement}
 use Rattle.fit.proofs.starts_run.Tie as tie
 
 returns : tie.Need-returns
 unfolding _and_ _or_
 returns c =
-    let a = c .before .before .before .before .args in
-    rw (
-      sequence-at (now (a .s)) (a .i),
-      ← c .before .before .u16-at .ensures,
-      ← c .before .u64-at .ensures,
-      ← c .is-ahead .ensures,
-    )
+    rw (← c .before .u16-at .ensures, ← c .is-ahead .ensures)
 
 pub starts-run-spec : {M : Type 1} → statement M
 starts-run-spec =
     tie.close
     (tie.spec
-    (λ c. omega arith) (λ c. omega arith) (λ c. omega arith) (λ c κs. omega arith) (λ c. omega arith)
-    (λ c κs. omega arith) (λ c κs. (omega arith, omega arith)) returns)
+    (λ c. omega arith) (λ c. omega arith) (λ c. omega arith) (λ c κs. omega arith) (λ c κs. (omega arith, omega arith))
+    returns)
