@@ -19,6 +19,12 @@ use Rattle.slots.proofs.KeyLaws.{key-of, strict}
 use Rattle.slots.proofs.RecordLaws.{Ordered}
 use Rattle.slots.proofs.ScanLaws.{First, first-of}
 
+used-all : {A : Type 0} (xs : List (Option A)) → usedSlots xs ≤ length xs
+unfolding count
+used-all [] = omega arith
+used-all (none ∷ xs) = let ih = used-all xs in omega arith
+used-all (some x ∷ xs) = let ih = used-all xs in omega arith
+
 module _ {A : Type 0} (t : A → Bool) where
   -- NONE PASSES
   abbrev Fails : List (Option A) → Type 0
@@ -43,14 +49,18 @@ module _ {A : Type 0} (t : A → Bool) where
   index-fails n (none ∷ xs) h = index-fails (suc n) xs h
   index-fails n (some x ∷ xs) h = rw (h .0) (index-fails (suc n) xs (h .1))
 
-  count-length : (xs : List (Option A)) → count t xs ≤ length xs
+  -- or some do, not more than there are
+  count-used : (xs : List (Option A)) → count t xs ≤ usedSlots xs
   unfolding count
-  count-length [] = omega arith
-  count-length (none ∷ xs) = let ih = count-length xs in omega arith
-  count-length (some x ∷ xs) =
-      let ih = count-length xs in
+  count-used [] = omega arith
+  count-used (none ∷ xs) = count-used xs
+  count-used (some x ∷ xs) =
+      let ih = count-used xs in
       cases (t x) (λ e. let z : count t (some x ∷ xs) ≡ suc (count t xs) = cc in omega arith)
       (λ e. let z : count t (some x ∷ xs) ≡ count t xs = cc in omega arith)
+
+  count-length : (xs : List (Option A)) → count t xs ≤ length xs
+  count-length xs = omega (arith, count-used xs, used-all xs)
 
 module _ {A : Type 0} where
   free-at : (i : ℕ) (xs : List (Option A)) → Free xs → isFree (getD xs i none) ≡ true
@@ -93,15 +103,6 @@ module _ {A : Type 0} where
   first-used u t i (none ∷ xs) h f = absurd (first-not-free t i (none ∷ xs) h f)
   first-used u t zero (some x ∷ xs) h f = omega arith
   first-used u t (suc i) (some x ∷ xs) h f = let k = first-used u t i xs (h .1) (f .1) in omega arith
-
-  count-used : (t : A → Bool) (xs : List (Option A)) → count t xs ≤ usedSlots xs
-  unfolding count
-  count-used t [] = omega arith
-  count-used t (none ∷ xs) = count-used t xs
-  count-used t (some x ∷ xs) =
-      let ih = count-used t xs in
-      cases (t x) (λ e. let z : count t (some x ∷ xs) ≡ suc (count t xs) = cc in omega arith)
-      (λ e. let z : count t (some x ∷ xs) ≡ count t xs = cc in omega arith)
 
   -- what stands at an index can go: it is the table's last slot, or all in use stand before it
   abbrev pub Spare : (index : ℕ) → List (Option A) → Type 0
@@ -241,7 +242,7 @@ module _ (rs : List (Option Record)) where
   place-used k = count-used (λ r. isBefore (keyOf r) k) rs
 
   pub used-length : usedSlots rs ≤ length rs
-  used-length = count-length (λ x. true) rs
+  used-length = used-all rs
 
   module _ (order : Ordered rs) where
     pub free-behind : (n : ℕ) → usedSlots rs ≤ n → Free (drop n rs)

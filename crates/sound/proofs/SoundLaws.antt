@@ -1,17 +1,19 @@
 -- A sound datagram by its frame, its length, its context and its body. Assumes nothing.
-use mathlib.Core.Path.{_≡_, refl, sym}
+use mathlib.Core.Path.{_≡_, refl, sym, ap, _∙_}
 use mathlib.Core.Bool.{Bool, true, false}
 use mathlib.Core.List.{List, [], _∷_}
-use Prim.Native.Nat.{ℕ, zero, suc, _≤_, _<_}
+use Prim.Native.Nat.{ℕ, zero, suc, _+_, _*_, _≤_, _<_}
 use native.Mathlib.Omega.{arith}
-use lib.Dec.{leb, eqb}
+use lib.Dec.{leb, ltb, eqb}
 use lib.ListN.{length, getD}
-use borrow.Author.Tests.{eqb-true, ne-eqb, le-leb, lt-leb}
+use borrow.Author.Tests.{eqb-true, eqb-false, ne-eqb, leb-true, leb-false, le-leb, lt-leb, lt-ltb, le-ltb}
 use Rattle.wire.specs.Choice.{_and_, isSome, isIn, withNumber}
-use Rattle.wire.specs.Bytes.{field}
+use Rattle.wire.specs.Bytes.{Bytes, areZero, part, field}
 use Rattle.wire.specs.declared.Frame.the-variants.{Whole, Malformed}
 use Rattle.wire.specs.Frame.{frameIn}
 use Rattle.wire.proofs.ChoiceLaws.{and-both, and-assoc, and-false, clash, cases}
+use Rattle.wire.proofs.BytesLaws.{field-below, bytes-part}
+use Rattle.wire.proofs.PartLaws.{field-split, field-one, areZero-number}
 use Rattle.wire.specs.Frame.{frameSize}
 use Rattle.datagram.specs.Kind.{kindOf, isSized}
 use Rattle.datagram.specs.Claim.{claimOf}
@@ -23,6 +25,27 @@ pub getD-there : (bs : List ℕ) (i x y : ℕ) → i < length bs → getD bs i x
 getD-there [] i x y h = absurd (omega arith)
 getD-there (b ∷ bs) zero x y h = refl
 getD-there (b ∷ bs) (suc i) x y h = getD-there bs i x y (omega arith)
+
+-- THE CONTEXT'S LAST WORD: two bytes of the port, one of the connection, and five that are zero
+word-below : (w port connection zeros : ℕ) → port < 65536 → w ≡ port + 65536 * (connection + 256 * zeros) →
+    ltb w 131072 ≡ (eqb zeros 0 and leb connection 1)
+unfolding _and_
+word-below w p c z h e = by-cases (eqb z 0) refl (leb c 1) refl where
+  by-cases : (x : Bool) → eqb z 0 ≡ x → (y : Bool) → leb c 1 ≡ y → ltb w 131072 ≡ (x and y)
+  by-cases true q true r = lt-ltb w 131072 (omega (arith, eqb-true z 0 q, leb-true c 1 r))
+  by-cases true q false r = le-ltb w 131072 (omega (arith, leb-false c 1 r))
+  by-cases false q y r = le-ltb w 131072 (omega (arith, eqb-false z 0 q))
+
+pub context-word : (d : List ℕ) → Bytes d → 38 ≤ length d →
+    ltb (field 30 8 d) 131072 ≡ (areZero (part 33 5 d) and leb (getD d 32 9) 1)
+unfolding field
+context-word d b l =
+    let split = field-split 2 6 30 d (omega arith) in
+    let rest = field-split 1 5 32 d (omega arith) in
+    let connection : field 32 1 d ≡ getD d 32 9 = field-one 32 d (omega arith) ∙ getD-there d 32 0 9 (omega arith) in
+    let zeros = areZero-number (part 33 5 d) (bytes-part 33 5 d b) in
+    word-below (field 30 8 d) (field 30 2 d) (getD d 32 9) (field 33 5 d) (field-below 30 2 d b) (omega arith) ∙
+    ap (λ (x : Bool). x and leb (getD d 32 9) 1) (sym zeros)
 
 -- the claims are those from 1 to 6
 above : (n : ℕ) → 7 ≤ n → isSome (claimOf n) ≡ isIn 1 6 n

@@ -11,7 +11,6 @@ use datagram::read::sequence_in;
 use slots::Channel;
 use wire::DIGEST;
 use wire::FRAME;
-use wire::are_zero;
 use wire::u16_at;
 use wire::u64_at;
 ghost use mathlib.Core.Path.{_≡_};
@@ -69,12 +68,12 @@ fn is_sized(kind: u16, size: usize) -> bool
     }
 }
 
-// The context ends in five zero bytes, behind the connection's state, 0 or 1.
+// The context's last word is the port, the connection's state, 0 or 1, and five zero bytes: below 2 times 2^16.
 fn is_context_sound(d: &[u8]) -> bool
     requires { ⌜ bodyFrom ≤ length (now d) ⌝ }
     ensures { λ r. ⌜ r ≡ isContextSound (now (d .entry)) ⌝ }
 {
-    are_zero(d, FRAME + 27, 5) & (d[FRAME + 26] <= 1) & (0 < u64_at(d, FRAME))
+    (u64_at(d, FRAME + 24) < 131072) & (0 < u64_at(d, FRAME))
 }
 
 // The claims, in either form of verdict, are those from 1 to 6.

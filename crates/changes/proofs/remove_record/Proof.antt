@@ -1,5 +1,5 @@
 -- Slots move down, and zeros are stored over the one behind them: `exact-removed`. Assumes nothing.
-use mathlib.Core.Path.{_≡_, ap, _∙_}
+use mathlib.Core.Path.{ap, _∙_}
 use Prim.Native.Nat.{_+_, _*_}
 use native.Mathlib.Omega.{arith}
 use lib.ListN.{length, replicate}
