@@ -11,9 +11,9 @@ use Rattle.wire.specs.Choice.{_and_}
 use Rattle.slots.specs.Layout.{roomIn}
 use Rattle.slots.specs.Fit.{sizeFits, isLaidOut}
 use Rattle.slots.proofs.FitLaws.{Sized, fits-size}
-use Rattle.fit.proofs.EverySlotLaws.{entries-parts}
-use Rattle.fit.proofs.entries_fit.Statement.{statement}
-use Rattle.fit.proofs.entries_fit.Tie as tie
+use Rattle.front.proofs.EverySlotLaws.{entries-parts}
+use Rattle.sorting.proofs.any_order.entries_fit.Statement.{statement}
+use Rattle.sorting.proofs.any_order.entries_fit.Tie as tie
 
 -- behind the first test the number of bytes fits
 abbrev bytes : tie.Else1 → List ℕ

@@ -7,10 +7,10 @@ use native.Mathlib.Omega.{arith}
 use denote.Ref.{now}
 use Rattle.slots.specs.Layout.{recordsFrom, recordBytes, recordIn, storeIn}
 use Rattle.slots.specs.Fit.{recordFits}
-use Rattle.fit.specs.EverySlot.{anywhere, slotFits}
-use Rattle.fit.proofs.EverySlotLaws.{everyFrom, fails, passes, passed}
-use Rattle.fit.proofs.records_fit.Statement.{statement}
-use Rattle.fit.proofs.records_fit.Tie as tie
+use Rattle.front.specs.EverySlot.{anywhere, slotFits}
+use Rattle.front.proofs.EverySlotLaws.{everyFrom, fails, passes, passed}
+use Rattle.sorting.proofs.any_order.records_fit.Statement.{statement}
+use Rattle.sorting.proofs.any_order.records_fit.Tie as tie
 
 abbrev test : List ℕ → List ℕ → List (List ℕ) → Bool
 test s = slotFits recordBytes recordIn (recordFits (storeIn s)) anywhere

@@ -8,11 +8,11 @@ use Rattle.wire.proofs.ChoiceLaws.{and-true}
 use Rattle.slots.specs.Layout.{recordsFrom, recordBytes, recordIn, storeIn}
 use Rattle.slots.specs.Fit.{recordFits}
 use Rattle.slots.specs.Scan.{slotAt, slotsFrom}
-use Rattle.fit.specs.EverySlot.{anywhere}
-use Rattle.fit.proofs.EverySlotLaws.{slot-free, slot-taken}
+use Rattle.front.specs.EverySlot.{anywhere}
+use Rattle.front.proofs.EverySlotLaws.{slot-free, slot-taken}
 use borrow.Author.Needs.{needs}
-use Rattle.fit.proofs.record_slot_fits.Statement.{statement}
-use Rattle.fit.proofs.record_slot_fits.Tie as tie
+use Rattle.sorting.proofs.any_order.record_slot_fits.Statement.{statement}
+use Rattle.sorting.proofs.any_order.record_slot_fits.Tie as tie
 
 -- the slot, and those behind it
 abbrev slot : tie.Start → List ℕ
@@ -35,8 +35,8 @@ returns-2 c =
     let o = d .before .before .before in
     sym (and-true (e .is-record-exact .result and c .record-fits .result)) ∙
     slot-taken recordBytes recordIn (recordFits (storeIn (now (o .args .s)))) anywhere (slot o) (behind o)
-    (d .before .are-zero .ensures) (d .if1 .left) (c .before .record-at .ensures) (e .is-record-exact .ensures)
-    (c .record-fits .ensures) refl
+    (d .before .are-zero .ensures) (d .if1 .left) {q = e .is-record-exact .result and c .record-fits .result}
+    (rw (e .is-record-exact .ensures, c .record-fits .ensures, c .before .record-at .ensures)) refl
 
 pub record-slot-fits-spec : {M : Type 1} → statement M
 record-slot-fits-spec =

@@ -26,8 +26,8 @@ use Rattle.slots.specs.Fit.{channelFits, channelsFit, isBelow, numbersFit, reco
 use Rattle.slots.specs.Fit.{sizeFits, isLaidOut}
 use Rattle.slots.proofs.LayoutLaws.{length-header, length-channel, length-record}
 use Rattle.slots.proofs.FitLaws.{fits-size, length-read}
-use Rattle.fit.specs.EverySlot.{everySlot, fitsBelow, isExact, isLone, anywhere, slotFits, frontFits}
-use Rattle.fit.proofs.FieldLaws.{same-zeros}
+use Rattle.front.specs.EverySlot.{everySlot, fitsBelow, isExact, isLone, anywhere, slotFits, frontFits}
+use Rattle.front.proofs.FieldLaws.{same-zeros}
 
 -- A TURN: after i turns the answer for all slots is the answer for those that are left. The test came to r
 module _ (t : List ℕ → List (List ℕ) → Bool) (start n : ℕ) (bs : List ℕ) where
@@ -48,18 +48,17 @@ module _ (t : List ℕ → List (List ℕ) → Bool) (start n : ℕ) (bs : List 
     unfolding everySlot
     passed h = rw (left, pieces-end slotSize start n bs i h)
 
--- A SLOT: its bytes are zero; or x is read there, is exact as e tells, and passes as r tells, and b tells of the slots
--- behind it
+-- A SLOT: its bytes are zero; or q tells whether what is read there is exact and passes, and b tells of the other slots
 module _ {A : Type 0} (write : A → List ℕ) (g : List ℕ → A) (t : A → Bool) (v : A → List (Option A) → Bool)
     (p : List ℕ) (ps : List (List ℕ)) {zero : Bool} (bytes : zero ≡ areZero p) where
   pub slot-free : zero ≡ true → true ≡ slotFits write g t v p ps
   unfolding slotFits _or_
   slot-free h = let z = sym bytes ∙ h in rw z
 
-  pub slot-taken : zero ≡ false → {x : A} {e r b : Bool} → x ≡ g p → e ≡ isExact write g p → r ≡ t x →
-      b ≡ v x (map (slotIn g) ps) → (e and r and b) ≡ slotFits write g t v p ps
+  pub slot-taken : zero ≡ false → {q b : Bool} → q ≡ (isExact write g p and t (g p)) →
+      b ≡ v (g p) (map (slotIn g) ps) → (q and b) ≡ slotFits write g t v p ps
   unfolding slotFits _or_
-  slot-taken h read exact tested behind = let z = sym bytes ∙ h in rw (z, exact, tested, behind, read)
+  slot-taken h passes others = let z = sym bytes ∙ h in rw (z, passes, others)
 
 -- A TABLE that is read, with any bytes behind it. `d` says of the whole table what `t` and `v` say of each entry
 no-turn : (a : Bool) {b : Bool} → b ≡ true → (a and b) ≡ (true and a)
