@@ -38,9 +38,8 @@ pub fn channel_fits(s: &[u8], at: usize) -> bool
     if ((Channel::INIT <= state) & (state <= Channel::CLOSED))
         & ((Channel::ORDERED <= order) & (order <= Channel::ALLOW_TIMEOUT))
         & ((1 <= u64_at(s, at + 16)) & (1 <= u64_at(s, at + 24)) & (1 <= u64_at(s, at + 32)))
-        & ((state != Channel::INIT) | (u32_at(s, at + 12) == 0))
     {
-        return is_padded(s, at + 40);
+        return is_padded(s, at + 40) & ((state != Channel::INIT) | (u32_at(s, at + 12) == 0));
     }
     false
 }

@@ -21,7 +21,8 @@ use Rattle.runs.specs.Each.{each}
 use Rattle.runs.proofs.EachLaws.{each-all, each-at}
 use Rattle.front.specs.EverySlot.{isExact, isLone, slotFits}
 use Rattle.front.proofs.EverySlotLaws.{everyFrom}
-use Rattle.front.proofs.IndexLaws.{slot-some, slot-none, not-none, index-find, find-index, every-index, index-every}
+use Rattle.front.proofs.IndexLaws.{slot-some, slot-none, not-none, index-find, find-index, every-index}
+use Rattle.front.proofs.IndexLaws.{index-every}
 
 module _ {A : Type 0} (f : A → List ℕ) (g : List ℕ → A) (t : A → Bool) (u : A → A → Bool) (start : ℕ)
     (bs : List ℕ) where

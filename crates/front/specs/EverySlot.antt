@@ -26,20 +26,20 @@ fitsBelow n c = channelFits c and isBelow n c
 abbrev pub isExact : {A : Type 0} → (A → List ℕ) → (List ℕ → A) → List ℕ → Bool
 isExact f g p = same (f (g p)) p
 
--- TESTS of the slots behind an entry: no entry there has its name; any may stand there
+-- TESTS of an entry beside other slots: no entry there has its name; any may stand there
 abbrev pub isLone : {A : Type 0} → (A → A → Bool) → A → List (Option A) → Bool
 isLone u x xs = not (isSome (find (u x) xs))
 
 abbrev pub anywhere : {A : Type 0} → A → List (Option A) → Bool
 anywhere x xs = true
 
--- a slot is free; or it is exact, its entry passes a test, and another with the slots behind it
+-- a slot is free; or it is exact, its entry passes a test, and another beside other slots
 unfoldable pub slotFits : {A : Type 0} → (A → List ℕ) → (List ℕ → A) → (A → Bool) → (A → List (Option A) → Bool) →
     List ℕ → List (List ℕ) → Bool
-slotFits f g t v p behind = areZero p or (isExact f g p and t (g p) and v (g p) (map (slotIn g) behind))
+slotFits f g t v p others = areZero p or (isExact f g p and t (g p) and v (g p) (map (slotIn g) others))
 
--- all before the packet records, of which there are so many: the header is exact, the next channel number is at least 1,
--- and each channel record is laid out exactly, fits below that number and has a number of its own
+-- all before the packet records, of which there are so many: the header is exact, the next channel number is at least
+-- 1, and each channel record is laid out exactly, fits below that number and has a number of its own
 unfoldable pub frontFits : List ℕ → (records : ℕ) → Bool
 frontFits bs n =
     same (headerBytes (field 8 8 bs) (field 16 8 bs) n (field 28 8 bs)) (part 0 headerSize bs) and
