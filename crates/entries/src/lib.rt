@@ -35,11 +35,13 @@ pub fn channel_fits(s: &[u8], at: usize) -> bool
 {
     let state = s[at + 2];
     let order = s[at + 3];
-    ((Channel::INIT <= state) & (state <= Channel::CLOSED))
+    if ((Channel::INIT <= state) & (state <= Channel::CLOSED))
         & ((Channel::ORDERED <= order) & (order <= Channel::ALLOW_TIMEOUT))
         & ((1 <= u64_at(s, at + 16)) & (1 <= u64_at(s, at + 24)) & (1 <= u64_at(s, at + 32)))
-        & is_padded(s, at + 40)
-        & ((state != Channel::INIT) | (u32_at(s, at + 12) == 0))
+    {
+        return is_padded(s, at + 40) & ((state != Channel::INIT) | (u32_at(s, at + 12) == 0));
+    }
+    false
 }
 
 fn is_no_timeout(t: Timeout) -> bool

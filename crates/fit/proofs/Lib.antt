@@ -1,6 +1,3 @@
-mod FieldLaws
-mod ExactLaws
-pub mod EverySlotLaws
 mod IndexLaws
 mod BesideEndLaws
 mod WholeLaws

@@ -30,10 +30,10 @@ use Rattle.runs.specs.Run.{fitsBeside}
 use Rattle.runs.proofs.EachLaws.{each-all, each-at}
 use Rattle.runs.proofs.RunLaws.{sequence-at}
 use Rattle.runs.proofs.KindLaws.{fits-plain}
-use Rattle.fit.specs.EverySlot.{isExact}
+use Rattle.front.specs.EverySlot.{isExact}
 use Rattle.fit.specs.Pass.{recordsFit, isAhead, startsRun, usedIf}
-use Rattle.fit.proofs.ExactLaws.{record-exact-at}
-use Rattle.fit.proofs.IndexLaws.{not-none}
+use Rattle.front.proofs.ExactLaws.{record-exact-at}
+use Rattle.front.proofs.IndexLaws.{not-none}
 use Rattle.fit.proofs.WholeLaws.{Fitting, Taken, order, fits-before, all-fit}
 
 -- BY CHANNEL, THEN KIND

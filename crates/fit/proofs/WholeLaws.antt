@@ -29,21 +29,12 @@ use Rattle.slots.proofs.KeyLaws.{key-of, has-key, strict}
 use Rattle.slots.proofs.OrderLaws.{rising, in-order}
 use Rattle.runs.specs.Run.{recordAt, keyAt, companionOf, hasBefore, hasCompanion, fitsBeside}
 use Rattle.runs.proofs.EachLaws.{any-at, any-some}
-use Rattle.fit.specs.EverySlot.{everySlot, isExact, anywhere, slotFits}
+use Rattle.front.specs.EverySlot.{everySlot, isExact, anywhere, slotFits}
 use Rattle.fit.specs.Pass.{recordsFit}
-use Rattle.fit.proofs.EverySlotLaws.{everyFrom}
-use Rattle.fit.proofs.IndexLaws.{rising-index, upto-rising, upto-used, index-find, find-index, every-index}
-use Rattle.fit.proofs.IndexLaws.{index-every, not-none, Upto, behind-index}
+use Rattle.front.proofs.EverySlotLaws.{everyFrom}
+use Rattle.front.proofs.IndexLaws.{slot-some, slot-none, not-none, index-find, find-index, every-index, index-every}
+use Rattle.fit.proofs.IndexLaws.{rising-index, upto-rising, upto-used, Upto, behind-index}
 use Rattle.fit.proofs.BesideEndLaws.{end-beside, beside-end, end-received, end-lapsed, beside-apart}
-
--- a slot in use, and one that is free
-slot-some : (p : List ℕ) → areZero p ≡ false → slotIn recordIn p ≡ some (recordIn p)
-unfolding slotIn
-slot-some p h = rw h
-
-slot-none : (p : List ℕ) → areZero p ≡ true → slotIn recordIn p ≡ none
-unfolding slotIn
-slot-none p h = rw h
 
 -- of two keys of one channel and sequence that of the lower kind is before
 kind-not-before : (a b : Key) → a .channel ≡ b .channel → b .kind < a .kind → isBefore a b ≡ false
@@ -74,7 +65,7 @@ module _ (bs : List ℕ) (n : ℕ) (size : length bs ≡ sizeFor n) where
       ap (λ (xs : List (Option Record)). getD xs k none) (records-from n bs size) ∙ slot-at recordIn recordsFrom n k bs l
 
   entry-index : (k : ℕ) → k < n → Taken bs k → getD rs k none ≡ some (recordAt bs k)
-  entry-index k l h = slot-index k l ∙ slot-some (slotAt recordsFrom bs k) h
+  entry-index k l h = slot-index k l ∙ slot-some recordIn (slotAt recordsFrom bs k) h
 
   -- a record that is found stands at an index
   found-index : (k : Key) → isSome (lookup k rs) ≡ true →
@@ -87,8 +78,8 @@ module _ (bs : List ℕ) (n : ℕ) (size : length bs ≡ sizeFor n) where
       omega (arith, i .1, ap length (records-from n bs size), length-slots recordIn recordsFrom n bs) in
       let slot = sym (slot-index m l) ∙ i .2 in
       let t : Taken bs m =
-      cases (areZero (slotAt recordsFrom bs m)) (λ z. not-none (sym slot ∙ slot-none _ z)) (λ z. z) in
-      let r : recordAt bs m ≡ f .0 = some-is (sym (slot-some _ t) ∙ slot) in
+      cases (areZero (slotAt recordsFrom bs m)) (λ z. not-none (sym slot ∙ slot-none recordIn _ z)) (λ z. z) in
+      let r : recordAt bs m ≡ f .0 = some-is (sym (slot-some recordIn _ t) ∙ slot) in
       (m, l, t, ap keyOf r ∙ key-of k (f .0) (find-passes (hasKey k) rs (f .0) (f .1)))
 
   index-found : (m : ℕ) → m < n → Taken bs m → (k : Key) → keyAt bs m ≡ k → isSome (lookup k rs) ≡ true
@@ -104,8 +95,8 @@ module _ (bs : List ℕ) (n : ℕ) (size : length bs ≡ sizeFor n) where
         (entry-index k h t) in
         let slot = sym (slot-index m (omega arith)) ∙ r .1 in
         let own : Taken bs m =
-        cases (areZero (slotAt recordsFrom bs m)) (λ z. not-none (sym slot ∙ slot-none _ z)) (λ z. z) in
-        let e : r .0 ≡ recordAt bs m = some-is (sym slot ∙ slot-some _ own) in
+        cases (areZero (slotAt recordsFrom bs m)) (λ z. not-none (sym slot ∙ slot-none recordIn _ z)) (λ z. z) in
+        let e : r .0 ≡ recordAt bs m = some-is (sym slot ∙ slot-some recordIn _ own) in
         (own, ap (λ (x : Record). precedes x (recordAt bs k)) (sym e) ∙ r .2)
 
     slot-fits : (k : ℕ) → k < n → Taken bs k → (isExact recordBytes recordIn (slotAt recordsFrom bs k) ≡ true) ×
@@ -286,7 +277,7 @@ module _ (bs : List ℕ) (n : ℕ) (size : length bs ≡ sizeFor n) where
       λ k l. (recordAt bs k, at k l),
       λ k l.
           cases (ltb k n)
-          (λ a. slot-index k (ltb-true k n a) ∙ slot-none _ (free k l (ltb-true k n a)))
+          (λ a. slot-index k (ltb-true k n a) ∙ slot-none recordIn _ (free k l (ltb-true k n a)))
           (λ a.
           behind-index rs k
           (omega (

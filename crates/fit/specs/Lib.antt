@@ -1,2 +1,1 @@
-pub mod EverySlot
 pub mod Pass

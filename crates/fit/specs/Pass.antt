@@ -12,7 +12,7 @@ use Rattle.slots.specs.Layout.{recordsFrom, recordBytes, recordIn, storeIn}
 use Rattle.slots.specs.Scan.{slotsFrom, usedSlots}
 use Rattle.slots.specs.Fit.{recordFits, isFit}
 use Rattle.runs.specs.Run.{keyAt, zerosAt}
-use Rattle.fit.specs.EverySlot.{everySlot, anywhere, slotFits}
+use Rattle.front.specs.EverySlot.{everySlot, anywhere, slotFits}
 
 -- each of n slots, wherever it stands, and their order
 unfoldable pub recordsFit : List ℕ → (n : ℕ) → Bool

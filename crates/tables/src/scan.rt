@@ -26,17 +26,13 @@ fn is_numbered(s: &[u8], at: usize, number: u32) -> bool
     !are_zero(s, at, Layout::SLOT)
 }
 
-// The first channel end of this number among the slots from `from` on.
-pub fn first_channel(s: &[u8], from: usize, number: u32) -> Found
-    requires { ⌜ recordsFrom ≤ length (now s) ⌝ }
-    ensures { λ r. ⌜
-        r ≡
-        indexWhere (holds (isNumbered number)) from
-        (tableFrom channelIn headerSize channelLimit (now (s .entry)) from)
-        ⌝ }
+// The first channel end of this number among the first `upto` slots.
+pub fn first_channel(s: &[u8], upto: usize, number: u32) -> Found
+    requires { ⌜ (recordsFrom ≤ length (now s)) × (upto ≤ channelLimit) ⌝ }
+    ensures { λ r. ⌜ r ≡ firstThat (isNumbered number) (tableFrom channelIn headerSize upto (now (s .entry)) 0) ⌝ }
 {
-    let mut i = from;
-    while i < Layout::CHANNELS {
+    let mut i: usize = 0;
+    while i < upto {
         if is_numbered(s, Layout::HEADER + Layout::SLOT * i, number) {
             return Found::At(i);
         }
@@ -66,7 +62,7 @@ pub fn find_channel(s: &[u8], number: u32) -> Found
     requires { ⌜ recordsFrom ≤ length (now s) ⌝ }
     ensures { λ r. ⌜ r ≡ firstThat (isNumbered number) (storeIn (now (s .entry)) .channels) ⌝ }
 {
-    first_channel(s, 0, number)
+    first_channel(s, Layout::CHANNELS, number)
 }
 
 // The free channel record of lowest index.

@@ -1,10 +1,10 @@
 -- The bytes before the first zero byte: they tell whether a version is padded, and whether it has no zero byte. Assumes
 -- nothing.
-use Rattle.wire.proofs.Prelude.{_≡_, refl, sym, _∙_, List, [], _∷_, ℕ, suc, _+_, _-_, _≤_, _<_, arith}
+use Rattle.wire.proofs.Prelude.{_≡_, refl, sym, _∙_, true, List, [], _∷_, ℕ, suc, _+_, _-_, _≤_, _<_, arith}
 use Rattle.wire.proofs.Prelude.{eqb, length, drop, eq-eqb, ne-eqb, eqb-true, eqb-false}
 use native.Mathlib.Nat.{add-assoc}
 use Rattle.wire.specs.Names.{_and_, pick, areZero, part, field}
-use Rattle.wire.proofs.ChoiceLaws.{cases}
+use Rattle.wire.proofs.ChoiceLaws.{cases, and-both}
 use Rattle.wire.proofs.PartLaws.{part-split, part-one, field-one}
 use Rattle.slots.specs.Names.{noneZero, isPadded}
 use Rattle.versions.specs.Leading.{beforeZero}
@@ -20,6 +20,11 @@ padded-before [] = refl
 padded-before (b ∷ bs) =
     let ih = padded-before bs in
     cases (eqb b 0) (λ e. rw (e, e)) (λ e. rw e ih)
+
+pub zeros-padded : (bs : List ℕ) → areZero bs ≡ true → isPadded bs ≡ true
+unfolding isPadded areZero
+zeros-padded [] h = refl
+zeros-padded (b ∷ bs) h = let z = and-both h in rw (z .0) (z .1)
 
 eqb-suc : (m n : ℕ) → eqb (suc m) (suc n) ≡ eqb m n
 eqb-suc m n =

@@ -30,11 +30,14 @@ fn before_zero(s: &[u8], from: usize, size: usize) -> usize
     size
 }
 
-// Only zeros stand behind the first one.
+// Only zeros stand behind the first one. Most ends have no version, so that is asked first.
 pub fn is_padded(s: &[u8], at: usize) -> bool
     requires { ⌜ at + versionSize ≤ length (now s) ⌝ }
     ensures { λ r. ⌜ r ≡ isPadded (part at versionSize (now (s .entry))) ⌝ }
 {
+    if are_zero(s, at, VERSION) {
+        return true;
+    }
     let size = before_zero(s, at, VERSION);
     are_zero(s, at + size, VERSION - size)
 }

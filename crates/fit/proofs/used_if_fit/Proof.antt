@@ -13,9 +13,9 @@ use Rattle.slots.specs.Table.{inOrder, precedes}
 use Rattle.slots.specs.Layout.{roomIn, storeIn}
 use Rattle.slots.specs.Fit.{sizeFits, entriesFit, storeFits, isLaidOut, isFit}
 use Rattle.slots.proofs.FitLaws.{Sized, fits-size}
-use Rattle.fit.specs.EverySlot.{frontFits}
+use Rattle.front.specs.EverySlot.{frontFits}
 use Rattle.fit.specs.Pass.{recordsFit, usedIf}
-use Rattle.fit.proofs.EverySlotLaws.{entries-parts}
+use Rattle.front.proofs.EverySlotLaws.{entries-parts}
 use Rattle.fit.proofs.used_if_fit.Statement.{statement}
 use Rattle.fit.proofs.used_if_fit.Tie as tie
 
