@@ -1,12 +1,12 @@
 -- A record that fits its channel end, and one that fits it beside the records before it. Assumes nothing.
-use mathlib.Core.Path.{_≡_, refl, sym, ap, _∙_}
+use mathlib.Core.Path.{_≡_, refl, ap, _∙_}
 use mathlib.Core.Bool.{Bool, true, false, not}
 use mathlib.Core.Option.{some}
 use lib.Dec.{ltb, eqb}
 use Prim.Native.Nat.{ℕ}
 use borrow.Author.Tests.{eqb-true, eq-eqb, not-true}
 use Rattle.wire.specs.Choice.{_and_, pick}
-use Rattle.wire.proofs.ChoiceLaws.{cases, clash, and-both, both-and}
+use Rattle.wire.proofs.ChoiceLaws.{cases, and-both, both-and}
 use Rattle.slots.specs.declared.Channel.{Channel}
 use Rattle.slots.specs.declared.Record.{Record}
 use Rattle.slots.specs.Codes.{commitmentKind, receiptKind, acknowledgementKind, timeoutReceiptKind}

@@ -1,111 +1,38 @@
--- Laws of the pass over the packet records, run by run: what a test that fails tells of the whole, and what holds after a
--- run that passes. Assumes nothing.
+-- Laws of the pass over the packet records, run by run: what a test that fails tells of the whole, and what holds after
+-- a run that passes. Assumes nothing.
 use mathlib.Core.Path.{_≡_, refl, sym, ap, subst, _∙_}
 use mathlib.Core.Bool.{Bool, true, false}
 use mathlib.Core.List.{List}
 use mathlib.Core.Option.{some}
-use mathlib.Core.Logic.{_⊎_, inl, inr}
-use Prim.Native.Nat.{ℕ, zero, suc, _+_, _*_, _-_, _≤_, _<_}
+use mathlib.Core.Logic.{inl, inr}
+use Prim.Native.Nat.{ℕ, _+_, _*_, _-_, _≤_, _<_}
 use native.Mathlib.Omega.{arith}
-use lib.Dec.{ltb, leb, eqb}
+use lib.Dec.{ltb, eqb}
 use lib.ListN.{length}
-use borrow.Author.Tests.{eqb-true, eqb-false, ltb-true, ltb-false, leb-true, eq-eqb, ne-eqb, lt-ltb, le-leb}
-use Rattle.wire.specs.Choice.{_and_, _or_, pick, isSome}
-use Rattle.wire.specs.Bytes.{Bytes, areZero, part, field}
-use Rattle.wire.proofs.ChoiceLaws.{cases, clash, and-both, both-and, some-is, none-if, or-either}
-use Rattle.wire.proofs.BytesLaws.{bytes-part}
-use Rattle.wire.proofs.PartLaws.{part-split, part-part, areZero-append, areZero-number}
+use borrow.Author.Tests.{eqb-true, eqb-false, ltb-true, ltb-false, leb-true, eq-eqb, ne-eqb, le-leb}
+use Rattle.wire.specs.Choice.{_or_}
+use Rattle.wire.specs.Bytes.{Bytes, areZero, part}
+use Rattle.wire.proofs.ChoiceLaws.{cases, clash, and-both, both-and, some-is}
 use Rattle.slots.specs.declared.Channel.{Channel}
-use Rattle.slots.specs.declared.Key.{Key}
-use Rattle.slots.specs.declared.Found.{Found}
 use Rattle.slots.specs.declared.Found.the-variants.{At, Nothing}
 use Rattle.slots.specs.Table.{isNumbered, isBefore, channelAt}
 use Rattle.slots.specs.Layout.{headerSize, slotSize, recordsFrom, sizeFor, channelIn, recordBytes, recordIn, storeIn}
-use Rattle.slots.specs.Scan.{slotAt, firstThat, usedSlots}
+use Rattle.slots.specs.Scan.{slotAt, firstThat}
 use Rattle.slots.proofs.ScanLaws.{channel-found, find-nothing}
 use Rattle.slots.proofs.KeyLaws.{Before, is-before, before-is}
 use Rattle.runs.specs.Each.{each}
 use Rattle.runs.specs.Run.{recordAt, keyAt, zerosAt, Ahead, plainSize, isPlain, RunEnd, Passed, hasCompanion}
 use Rattle.runs.specs.Run.{fitsBeside}
 use Rattle.runs.proofs.EachLaws.{each-all, each-at}
-use Rattle.runs.proofs.RunLaws.{sequence-at}
 use Rattle.runs.proofs.KindLaws.{fits-plain}
 use Rattle.front.specs.EverySlot.{isExact}
 use Rattle.fit.specs.Pass.{recordsFit, isAhead, startsRun, usedIf}
 use Rattle.front.proofs.ExactLaws.{record-exact-at}
 use Rattle.front.proofs.IndexLaws.{not-none}
-use Rattle.fit.proofs.WholeLaws.{Fitting, Taken, order, fits-before, all-fit}
-
--- BY CHANNEL, THEN KIND
-is-ahead : (a b : Key) → isAhead a b ≡ true → Ahead a b
-is-ahead a b h =
-    cases (eqb (a .channel) (b .channel))
-    (λ e. inr (eqb-true (a .channel) (b .channel) e, ltb-true (a .kind) (b .kind) (rw e at h)))
-    (λ e. inl (ltb-true (a .channel) (b .channel) (rw e at h)))
-
-ahead-is : (a b : Key) → Ahead a b → isAhead a b ≡ true
-ahead-is a b (inl l) = rw (ne-eqb (a .channel) (b .channel) (λ q. omega arith), lt-ltb (a .channel) (b .channel) l)
-ahead-is a b (inr (e, l)) = rw (eq-eqb (a .channel) (b .channel) e, lt-ltb (a .kind) (b .kind) l)
-
-ahead-before : (a b : Key) → Ahead a b → isBefore a b ≡ true
-ahead-before a b (inl l) = before-is a b (inl l)
-ahead-before a b (inr (e, l)) = before-is a b (inr (e, inl l))
-
-ahead-onward : (a b c : Key) → Ahead a b → Ahead b c → Ahead a c
-ahead-onward a b c (inl p) (inl q) = inl (omega arith)
-ahead-onward a b c (inl p) (inr q) = inl (omega (arith, q .0))
-ahead-onward a b c (inr p) (inl q) = inl (omega (arith, p .0))
-ahead-onward a b c (inr p) (inr q) = inr (p .0 ∙ q .0, omega (arith, p .1, q .1))
-
--- one of the same kind and channel, before or behind
-ahead-alike : (a b c : Key) → a .channel ≡ b .channel → a .kind ≡ b .kind → Ahead b c → Ahead a c
-ahead-alike a b c h k (inl p) = inl (omega arith)
-ahead-alike a b c h k (inr p) = inr (h ∙ p .0, omega (arith, p .1))
-
-alike-ahead : (a b c : Key) → b .channel ≡ c .channel → b .kind ≡ c .kind → Ahead a b → Ahead a c
-alike-ahead a b c h k (inl p) = inl (omega arith)
-alike-ahead a b c h k (inr p) = inr (p .0 ∙ h, omega (arith, p .1))
-
--- ZERO BYTES: a part of them, and slots of them
-zero-part : (x l y a : ℕ) (bs : List ℕ) → areZero (part a (x + (l + y)) bs) ≡ true → areZero (part (a + x) l bs) ≡ true
-zero-part x l y a bs h =
-    let p : areZero (part (a + x) (l + y) bs) ≡ true =
-    and-both (sym (areZero-append (part a x bs) _) ∙ ap areZero (sym (part-split x (l + y) a bs)) ∙ h) .1 in
-    and-both (sym (areZero-append (part (a + x) l bs) _) ∙ ap areZero (sym (part-split l y (a + x) bs)) ∙ p) .0
-
-zero-slot : (bs : List ℕ) (n i k : ℕ) → i ≤ k → k < n →
-    areZero (part (recordsFrom + slotSize * i) (slotSize * (n - i)) bs) ≡ true →
-    areZero (slotAt recordsFrom bs k) ≡ true
-zero-slot bs n i k l m h =
-    let s : slotSize * (n - i) ≡ slotSize * (k - i) + (slotSize + slotSize * (n - (k + 1))) = omega arith in
-    let a : recordsFrom + slotSize * i + slotSize * (k - i) ≡ recordsFrom + slotSize * k = omega arith in
-    ap (λ (x : ℕ). areZero (part x slotSize bs)) (sym a) ∙
-    zero-part (slotSize * (k - i)) slotSize (slotSize * (n - (k + 1))) (recordsFrom + slotSize * i) bs
-    (ap (λ (x : ℕ). areZero (part (recordsFrom + slotSize * i) x bs)) (sym s) ∙ h)
-
-slots-zero : (bs : List ℕ) (d i : ℕ) → ((k : ℕ) → i ≤ k → k < i + d → areZero (slotAt recordsFrom bs k) ≡ true) →
-    areZero (part (recordsFrom + slotSize * i) (slotSize * d) bs) ≡ true
-unfolding areZero part
-slots-zero bs zero i h = refl
-slots-zero bs (suc d) i h =
-    let s : slotSize * suc d ≡ slotSize + slotSize * d = omega arith in
-    let a : recordsFrom + slotSize * (i + 1) ≡ recordsFrom + slotSize * i + slotSize = omega arith in
-    let ih = slots-zero bs d (i + 1) (λ k l m. h k (omega arith) (omega arith)) in
-    ap (λ (x : ℕ). areZero (part (recordsFrom + slotSize * i) x bs)) s ∙
-    ap areZero (part-split slotSize (slotSize * d) (recordsFrom + slotSize * i) bs) ∙
-    areZero-append (part (recordsFrom + slotSize * i) slotSize bs) _ ∙
-    both-and (h i (omega arith) (omega arith)) (ap (λ (x : ℕ). areZero (part x (slotSize * d) bs)) (sym a) ∙ ih)
-
--- a slot whose sequence is not 0 is in use
-sequence-taken : (bs : List ℕ) → Bytes bs → (k : ℕ) → 0 < keyAt bs k .sequence → Taken bs k
-unfolding field
-sequence-taken bs bytes k l =
-    let at : ℕ = recordsFrom + slotSize * k in
-    cases (areZero (slotAt recordsFrom bs k))
-    (λ z.
-    let e = sym (areZero-number (part (at + 8) 8 bs) (bytes-part (at + 8) 8 bs bytes)) ∙ zero-part 8 8 48 at bs z in
-    let f = eqb-true (field (at + 8) 8 bs) 0 e in
-    absurd (omega (arith, f, sequence-at bs k, l))) (λ z. z)
+use Rattle.fit.proofs.FittingLaws.{Fitting, Taken}
+use Rattle.fit.proofs.WholeLaws.{order, fits-before, all-fit}
+use Rattle.fit.proofs.AheadLaws.{is-ahead, ahead-is, ahead-before, ahead-onward, ahead-alike, alike-ahead}
+use Rattle.fit.proofs.ZeroLaws.{zero-slot, slots-zero, sequence-taken}
 
 -- a run with the zero bytes of its kind
 abbrev OwnRunEnd : List ℕ → (n i e : ℕ) → Type 0

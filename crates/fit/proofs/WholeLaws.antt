@@ -1,90 +1,43 @@
 -- What the test of all packet records tells of each, beside those before it; and back. Assumes nothing.
-use mathlib.Core.Path.{_≡_, refl, sym, ap, subst, _∙_}
-use mathlib.Core.Bool.{Bool, true, false, not}
-use mathlib.Core.List.{List, map}
+use mathlib.Core.Path.{_≡_, refl, sym, ap, _∙_}
+use mathlib.Core.Bool.{true, false}
+use mathlib.Core.List.{List}
 use mathlib.Core.Option.{Option, none, some}
-use Prim.Native.Nat.{ℕ, suc, _+_, _*_, _-_, _≤_, _<_}
+use Prim.Native.Nat.{ℕ, _+_, _≤_, _<_}
 use native.Mathlib.Omega.{arith}
-use lib.Dec.{ltb, leb, eqb}
+use lib.Dec.{ltb, eqb}
 use lib.ListN.{length, getD}
-use borrow.Author.Tests.{eqb-true, eqb-false, ltb-true, ltb-false, eq-eqb, ne-eqb, lt-ltb, le-ltb, not-true}
-use Rattle.wire.specs.Choice.{_and_, _or_, pick, isSome}
+use borrow.Author.Tests.{eqb-true, eqb-false, ltb-true, ltb-false, not-true}
+use Rattle.wire.specs.Choice.{_or_, _and_}
 use Rattle.wire.specs.Bytes.{areZero}
-use Rattle.wire.proofs.ChoiceLaws.{cases, clash, and-both, both-and, and-true, some-if, some-is}
+use Rattle.wire.proofs.ChoiceLaws.{cases, clash, and-both, both-and, some-is}
 use Rattle.slots.specs.declared.Channel.{Channel}
 use Rattle.slots.specs.declared.Record.{Record}
 use Rattle.slots.specs.declared.Key.{Key}
 use Rattle.slots.specs.Codes.{receiptKind, acknowledgementKind, timeoutReceiptKind}
-use Rattle.slots.specs.Table.{inOrder, keyOf, hasKey, lookup, isBefore, precedes, channelAt, receiptKey, timeoutReceiptKey}
-use Rattle.slots.specs.Layout.{slotSize, recordsFrom, sizeFor, recordBytes, recordIn, slotIn, storeIn}
-use Rattle.slots.specs.Ordering.{allowsTimeouts, hasReceipt, hasTimeoutReceipt, isLapsed, isReceived, mayHaveReceipt}
+use Rattle.slots.specs.Table.{hasKey, isBefore, precedes, channelAt, receiptKey, timeoutReceiptKey}
+use Rattle.slots.specs.Layout.{recordsFrom, sizeFor, recordBytes, recordIn, storeIn}
+use Rattle.slots.specs.Ordering.{hasReceipt, isLapsed, isReceived}
 use Rattle.slots.specs.Ordering.{mayHaveTimeoutReceipt}
-use Rattle.slots.specs.Fit.{recordFits, fitsEnd, hasZeroTimeoutsAndDigest}
-use Rattle.slots.specs.Scan.{slotAt, slotsFrom, tableFrom, usedSlots}
-use Rattle.slots.proofs.ScanLaws.{slot-at, length-slots}
+use Rattle.slots.specs.Fit.{recordFits, fitsEnd}
+use Rattle.slots.specs.Scan.{slotAt, slotsFrom, usedSlots}
+use Rattle.slots.proofs.ScanLaws.{length-slots}
 use Rattle.slots.proofs.TurnLaws.{records-from}
-use Rattle.slots.proofs.TableLaws.{find-passes}
 use Rattle.slots.proofs.ChannelLaws.{channel-number}
 use Rattle.slots.proofs.KeyLaws.{key-of, has-key, strict}
 use Rattle.slots.proofs.OrderLaws.{rising, in-order}
-use Rattle.runs.specs.Run.{recordAt, keyAt, companionOf, hasBefore, hasCompanion, fitsBeside}
+use Rattle.runs.specs.Run.{recordAt, keyAt, companionOf, hasBefore, hasCompanion}
 use Rattle.runs.proofs.EachLaws.{any-at, any-some}
-use Rattle.front.specs.EverySlot.{everySlot, isExact, anywhere, slotFits}
+use Rattle.front.specs.EverySlot.{isExact, anywhere, slotFits}
 use Rattle.fit.specs.Pass.{recordsFit}
-use Rattle.front.proofs.EverySlotLaws.{everyFrom}
-use Rattle.front.proofs.IndexLaws.{slot-some, slot-none, not-none, index-find, find-index, every-index, index-every}
+use Rattle.front.proofs.IndexLaws.{slot-some, slot-none, not-none, every-index, index-every}
 use Rattle.fit.proofs.IndexLaws.{rising-index, upto-rising, upto-used, Upto, behind-index}
 use Rattle.fit.proofs.BesideEndLaws.{end-beside, beside-end, end-received, end-lapsed, beside-apart}
-
--- of two keys of one channel and sequence that of the lower kind is before
-kind-not-before : (a b : Key) → a .channel ≡ b .channel → b .kind < a .kind → isBefore a b ≡ false
-unfolding isBefore
-kind-not-before a b c l =
-    let e = eq-eqb (a .channel) (b .channel) c in
-    let f = ne-eqb (a .kind) (b .kind) (λ q. omega arith) in
-    let g = le-ltb (a .kind) (b .kind) (omega arith) in
-    rw (e, f, g)
-
--- WHAT IS KNOWN OF A RECORD beside those before it, on its channel end
-pub record Fitting (bs : List ℕ) (k : ℕ) : Type 0 where
-  pub exact : isExact recordBytes recordIn (slotAt recordsFrom bs k) ≡ true
-  pub sequence : leb 1 (keyAt bs k .sequence) ≡ true
-  pub end : Channel
-  pub found : channelAt (keyAt bs k .channel) (storeIn bs .channels) ≡ some end
-  pub fits : fitsBeside (hasCompanion bs k) (recordAt bs k) end ≡ true
-
-abbrev pub Taken : List ℕ → (k : ℕ) → Type 0
-Taken bs k = areZero (slotAt recordsFrom bs k) ≡ false
+use Rattle.fit.proofs.FittingLaws.{kind-not-before, Fitting, Taken, slot-index, entry-index, found-index, index-found}
 
 module _ (bs : List ℕ) (n : ℕ) (size : length bs ≡ sizeFor n) where
   abbrev rs : List (Option Record)
   rs = storeIn bs .records
-
-  slot-index : (k : ℕ) → k < n → getD rs k none ≡ slotIn recordIn (slotAt recordsFrom bs k)
-  slot-index k l =
-      ap (λ (xs : List (Option Record)). getD xs k none) (records-from n bs size) ∙ slot-at recordIn recordsFrom n k bs l
-
-  entry-index : (k : ℕ) → k < n → Taken bs k → getD rs k none ≡ some (recordAt bs k)
-  entry-index k l h = slot-index k l ∙ slot-some recordIn (slotAt recordsFrom bs k) h
-
-  -- a record that is found stands at an index
-  found-index : (k : Key) → isSome (lookup k rs) ≡ true →
-      (m : ℕ) × (m < n) × Taken bs m × (keyAt bs m ≡ k)
-  found-index k h =
-      let f = some-if (lookup k rs) h in
-      let i = find-index (hasKey k) rs (f .0) (f .1) in
-      let m = i .0 in
-      let l : m < n =
-      omega (arith, i .1, ap length (records-from n bs size), length-slots recordIn recordsFrom n bs) in
-      let slot = sym (slot-index m l) ∙ i .2 in
-      let t : Taken bs m =
-      cases (areZero (slotAt recordsFrom bs m)) (λ z. not-none (sym slot ∙ slot-none recordIn _ z)) (λ z. z) in
-      let r : recordAt bs m ≡ f .0 = some-is (sym (slot-some recordIn _ t) ∙ slot) in
-      (m, l, t, ap keyOf r ∙ key-of k (f .0) (find-passes (hasKey k) rs (f .0) (f .1)))
-
-  index-found : (m : ℕ) → m < n → Taken bs m → (k : Key) → keyAt bs m ≡ k → isSome (lookup k rs) ≡ true
-  index-found m l t k e =
-      index-find (hasKey k) rs m (recordAt bs m) (entry-index m l t) (has-key k (recordAt bs m) e)
 
   -- THE WHOLE TELLS OF EACH
   module _ (whole : recordsFit bs n ≡ true) where
@@ -92,8 +45,8 @@ module _ (bs : List ℕ) (n : ℕ) (size : length bs ≡ sizeFor n) where
     unfolding recordsFit
     order m k l h t =
         let r = rising-index precedes rs (rising precedes strict rs (and-both whole .1)) m k (recordAt bs k) l
-        (entry-index k h t) in
-        let slot = sym (slot-index m (omega arith)) ∙ r .1 in
+        (entry-index bs n size k h t) in
+        let slot = sym (slot-index bs n size m (omega arith)) ∙ r .1 in
         let own : Taken bs m =
         cases (areZero (slotAt recordsFrom bs m)) (λ z. not-none (sym slot ∙ slot-none recordIn _ z)) (λ z. z) in
         let e : r .0 ≡ recordAt bs m = some-is (sym slot ∙ slot-some recordIn _ own) in
@@ -136,7 +89,7 @@ module _ (bs : List ℕ) (n : ℕ) (size : length bs ≡ sizeFor n) where
           hasReceipt rs c (keyAt bs k .sequence) ≡ true → hasCompanion bs k ≡ true
       unfolding hasBefore
       receipt-before e h =
-          let f = found-index (receiptKey (c .own .channel) (keyAt bs k .sequence)) h in
+          let f = found-index bs n size (receiptKey (c .own .channel) (keyAt bs k .sequence)) h in
           let m = f .0 in
           let key = f .3 in
           let ch : keyAt bs m .channel ≡ keyAt bs k .channel = ap (λ (x : Key). x .channel) key ∙ own-number in
@@ -156,7 +109,7 @@ module _ (bs : List ℕ) (n : ℕ) (size : length bs ≡ sizeFor n) where
       lapsed =
           let own = own-number k l t c found in
           both-and (and-both (end-lapsed (storeIn bs) (recordAt bs k) c (fits-end k l t c found) e) .0)
-          (index-found k l t (timeoutReceiptKey (c .own .channel) (keyAt bs k .sequence))
+          (index-found bs n size k l t (timeoutReceiptKey (c .own .channel) (keyAt bs k .sequence))
           (λ x. record { kind = e x; channel = sym own x; sequence = keyAt bs k .sequence }))
 
       received-before : (m : ℕ) → m < k → keyAt bs m ≡ companionOf acknowledgementKind (keyAt bs k) →
@@ -212,7 +165,7 @@ module _ (bs : List ℕ) (n : ℕ) (size : length bs ≡ sizeFor n) where
     not-lapsed k l e c own =
         cases (isLapsed rs c (keyAt bs k .sequence))
         (λ h.
-        let f = found-index (timeoutReceiptKey (c .own .channel) (keyAt bs k .sequence)) (and-both h .1) in
+        let f = found-index bs n size (timeoutReceiptKey (c .own .channel) (keyAt bs k .sequence)) (and-both h .1) in
         let m = f .0 in
         let key = f .3 in
         let kind : keyAt bs m .kind ≡ timeoutReceiptKind = ap (λ (x : Key). x .kind) key in
@@ -246,7 +199,7 @@ module _ (bs : List ℕ) (n : ℕ) (size : length bs ≡ sizeFor n) where
         let f = any-some (λ x. hasKey (companionOf receiptKind (keyAt bs k)) (recordAt bs x)) k (rw e at h) in
         let key = key-of (companionOf receiptKind (keyAt bs k)) (recordAt bs (f .0)) (f .2) in
         let m = f .1 in
-        index-found (f .0) (omega arith) (used (f .0) (omega arith)) (receiptKey (c .own .channel) (keyAt bs k .sequence))
+        index-found bs n size (f .0) (omega arith) (used (f .0) (omega arith)) (receiptKey (c .own .channel) (keyAt bs k .sequence))
         (key ∙ (λ x. record { kind = receiptKind; channel = sym own x; sequence = keyAt bs k .sequence }))
 
     entry-fits : (k : ℕ) → k < i → recordFits (storeIn bs) (recordAt bs k) ≡ true
@@ -270,14 +223,14 @@ module _ (bs : List ℕ) (n : ℕ) (size : length bs ≡ sizeFor n) where
         (λ a. rw (free k (ltb-false k i a) l))
 
     at : (k : ℕ) → k < i → getD rs k none ≡ some (recordAt bs k)
-    at k l = entry-index k (omega arith) (used k l)
+    at k l = entry-index bs n size k (omega arith) (used k l)
 
     upto : Upto precedes i rs
     upto = (
       λ k l. (recordAt bs k, at k l),
       λ k l.
           cases (ltb k n)
-          (λ a. slot-index k (ltb-true k n a) ∙ slot-none recordIn _ (free k l (ltb-true k n a)))
+          (λ a. slot-index bs n size k (ltb-true k n a) ∙ slot-none recordIn _ (free k l (ltb-true k n a)))
           (λ a.
           behind-index rs k
           (omega (

@@ -10,7 +10,7 @@ use Rattle.slots.specs.declared.Found.the-variants.{At, Nothing}
 use Rattle.slots.specs.Table.{inOrder, precedes}
 use Rattle.slots.specs.Layout.{recordsFrom, recordBytes, recordIn, storeIn}
 use Rattle.slots.specs.Scan.{slotsFrom, usedSlots}
-use Rattle.slots.specs.Fit.{recordFits, isFit}
+use Rattle.slots.specs.Fit.{recordFits}
 use Rattle.runs.specs.Run.{keyAt, zerosAt}
 use Rattle.front.specs.EverySlot.{everySlot, anywhere, slotFits}
 

@@ -2,12 +2,11 @@
 use mathlib.Core.Path.{_≡_, refl, sym, ap, _∙_}
 use mathlib.Core.Bool.{Bool, true, false}
 use Prim.Native.Nat.{ℕ, zero, suc, _+_, _-_, _≤_, _<_}
-use native.Mathlib.Nat.{suc-add, add-suc}
 use native.Mathlib.Omega.{arith}
 use lib.Dec.{eqb}
 use borrow.Author.Tests.{eqb-true, eqb-false}
 use Rattle.wire.specs.Choice.{_and_, _or_}
-use Rattle.wire.proofs.ChoiceLaws.{cases, clash, and-both, both-and, and-swap, and-true, or-either, or-neither}
+use Rattle.wire.proofs.ChoiceLaws.{cases, clash, and-both, both-and, and-swap, and-true}
 use Rattle.runs.specs.Each.{each, any}
 
 -- EACH

@@ -1,6 +1,6 @@
 -- The tests of `startsRun`, in the bytes. Assumes nothing.
 use native.Mathlib.Omega.{arith}
-use Rattle.wire.specs.Choice.{_and_, _or_}
+use Rattle.wire.specs.Choice.{_or_, _and_}
 use Rattle.fit.proofs.starts_run.Statement.{statement}
 use Rattle.fit.proofs.starts_run.Tie as tie
 

@@ -1,6 +1,6 @@
 -- The size; then what stands before the packet records, and then these. Assumes nothing.
 use mathlib.Core.Path.{_≡_, sym, ap, _∙_}
-use mathlib.Core.Bool.{Bool, true, false}
+use mathlib.Core.Bool.{Bool, true}
 use mathlib.Core.List.{List}
 use Prim.Native.Nat.{ℕ}
 use native.Mathlib.Omega.{arith}
@@ -14,7 +14,7 @@ use Rattle.slots.specs.Layout.{roomIn, storeIn}
 use Rattle.slots.specs.Fit.{sizeFits, entriesFit, storeFits, isLaidOut, isFit}
 use Rattle.slots.proofs.FitLaws.{Sized, fits-size}
 use Rattle.front.specs.EverySlot.{frontFits}
-use Rattle.fit.specs.Pass.{recordsFit, usedIf}
+use Rattle.fit.specs.Pass.{recordsFit}
 use Rattle.front.proofs.EverySlotLaws.{entries-parts}
 use Rattle.fit.proofs.used_if_fit.Statement.{statement}
 use Rattle.fit.proofs.used_if_fit.Tie as tie

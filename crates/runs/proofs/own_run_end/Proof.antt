@@ -4,7 +4,7 @@ use mathlib.Core.List.{List}
 use Prim.Native.Nat.{ℕ}
 use native.Mathlib.Omega.{arith}
 use denote.Ref.{now}
-use borrow.Author.Tests.{eq-eqb, ne-eqb}
+use borrow.Author.Tests.{ne-eqb}
 use Rattle.slots.specs.Codes.{commitmentKind, acknowledgementKind}
 use Rattle.runs.specs.Run.{keyAt, plainSize, RunEnd}
 use Rattle.runs.proofs.RunLaws.{kind-at}

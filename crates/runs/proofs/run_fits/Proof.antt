@@ -8,7 +8,6 @@ use denote.Ref.{now}
 use borrow.Author.Needs.{needs}
 use Rattle.wire.specs.Bytes.{Bytes}
 use Rattle.wire.proofs.PartLaws.{bytes-array}
-use Rattle.slots.specs.Codes.{acknowledgementKind, timeoutReceiptKind}
 use Rattle.runs.specs.Run.{keyAt}
 use Rattle.runs.proofs.RunLaws.{kind-at, sequence-at}
 use Rattle.runs.proofs.KindLaws.{commitments, receipts, no-kind}
