@@ -1,5 +1,6 @@
 // The answer to a datagram on a fit store: the number of the first line of the table that applies, 0 where none does.
-// Lines 2 to 4 are for every kind, 5 and 7 for those about an end, 6 for the kinds 1 to 4. They stand here in their order.
+// Lines 2 to 4 are for every kind, 5 and 7 for those about an end, 6 for the kinds 1 to 4. They stand here in their
+// order.
 use closing::close_confirm_row;
 use closing::close_init_row;
 use closing::time_out_on_close_row;

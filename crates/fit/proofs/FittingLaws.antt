@@ -51,7 +51,8 @@ module _ (bs : List ℕ) (n : ℕ) (size : length bs ≡ sizeFor n) where
 
   pub slot-index : (k : ℕ) → k < n → getD rs k none ≡ slotIn recordIn (slotAt recordsFrom bs k)
   slot-index k l =
-      ap (λ (xs : List (Option Record)). getD xs k none) (records-from n bs size) ∙ slot-at recordIn recordsFrom n k bs l
+      ap (λ (xs : List (Option Record)). getD xs k none) (records-from n bs size) ∙
+      slot-at recordIn recordsFrom n k bs l
 
   pub entry-index : (k : ℕ) → k < n → Taken bs k → getD rs k none ≡ some (recordAt bs k)
   entry-index k l h = slot-index k l ∙ slot-some recordIn (slotAt recordsFrom bs k) h

@@ -107,7 +107,8 @@ module _ (bs : List ℕ) (bytes : Bytes bs) (n : ℕ) (size : length bs ≡ size
         (q < e → keyAt bs (e - 1) .sequence < keyAt bs e .sequence) → ⊥
     stopped q e stop l f z k c r =
         stop .stopped l (zeros-exact e l (f .exact) ∙ sym z) k c (leb-true 1 (keyAt bs e .sequence) (f .sequence)) r
-        (ap (λ (x : ℕ). isPlain bs (plainSize x) e) (sym k) ∙ fits-plain bs bytes (hasCompanion bs e) e (f .end) (f .fits))
+        (ap (λ (x : ℕ). isPlain bs (plainSize x) e) (sym k) ∙
+        fits-plain bs bytes (hasCompanion bs e) e (f .end) (f .fits))
 
     -- behind the last run one of another kind or channel
     goes-on : recordsFit bs n ≡ true → Taken bs i → 0 < i → Ahead (keyAt bs p) (keyAt bs i)

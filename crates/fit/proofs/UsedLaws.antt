@@ -9,7 +9,8 @@ use Rattle.slots.specs.Layout.{storeIn}
 use Rattle.slots.specs.Scan.{usedSlots}
 use Rattle.fit.specs.Pass.{usedIf}
 
-pub used-fit : (b : Bool) (bs : List ℕ) (n : ℕ) → usedIf b bs ≡ At n → (b ≡ true) × (n ≡ usedSlots (storeIn bs .records))
+pub used-fit : (b : Bool) (bs : List ℕ) (n : ℕ) → usedIf b bs ≡ At n →
+    (b ≡ true) × (n ≡ usedSlots (storeIn bs .records))
 used-fit true bs n h = (refl, cc)
 used-fit false bs n h = let z : _≡_ {A = ℕ} 0 1 = cc in absurd (omega arith)
 

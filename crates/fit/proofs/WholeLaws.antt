@@ -33,7 +33,8 @@ use Rattle.fit.specs.Pass.{recordsFit}
 use Rattle.front.proofs.IndexLaws.{slot-some, slot-none, not-none, every-index, index-every}
 use Rattle.fit.proofs.IndexLaws.{rising-index, upto-rising, upto-used, Upto, behind-index}
 use Rattle.fit.proofs.BesideEndLaws.{end-beside, beside-end, end-received, end-lapsed, beside-apart}
-use Rattle.fit.proofs.FittingLaws.{kind-not-before, Fitting, Taken, slot-index, entry-index, found-index, index-found}
+use Rattle.fit.proofs.FittingLaws.{kind-not-before, Fitting, Taken, slot-index, entry-index, found-index}
+use Rattle.fit.proofs.FittingLaws.{index-found}
 
 module _ (bs : List ℕ) (n : ℕ) (size : length bs ≡ sizeFor n) where
   abbrev rs : List (Option Record)
@@ -120,7 +121,8 @@ module _ (bs : List ℕ) (n : ℕ) (size : length bs ≡ sizeFor n) where
           let q = ap (λ (x : Key). x .sequence) key in
           let there = ap (λ (x : ℕ). channelAt x (storeIn bs .channels)) ch ∙ found in
           ap (isReceived rs c) (sym q) ∙
-          end-received (storeIn bs) (recordAt bs m) c (fits-end m (omega arith) at c there) (ap (λ (x : Key). x .kind) key)
+          end-received (storeIn bs) (recordAt bs m) c (fits-end m (omega arith) at c there)
+          (ap (λ (x : Key). x .kind) key)
 
       apart-before : hasCompanion bs k ≡ false
       unfolding hasBefore isReceived
@@ -199,7 +201,8 @@ module _ (bs : List ℕ) (n : ℕ) (size : length bs ≡ sizeFor n) where
         let f = any-some (λ x. hasKey (companionOf receiptKind (keyAt bs k)) (recordAt bs x)) k (rw e at h) in
         let key = key-of (companionOf receiptKind (keyAt bs k)) (recordAt bs (f .0)) (f .2) in
         let m = f .1 in
-        index-found bs n size (f .0) (omega arith) (used (f .0) (omega arith)) (receiptKey (c .own .channel) (keyAt bs k .sequence))
+        index-found bs n size (f .0) (omega arith) (used (f .0) (omega arith))
+        (receiptKey (c .own .channel) (keyAt bs k .sequence))
         (key ∙ (λ x. record { kind = receiptKind; channel = sym own x; sequence = keyAt bs k .sequence }))
 
     entry-fits : (k : ℕ) → k < i → recordFits (storeIn bs) (recordAt bs k) ≡ true

@@ -20,8 +20,8 @@ recordsFit bs n =
     everySlot (slotFits recordBytes recordIn (recordFits (storeIn bs)) anywhere) (slotsFrom recordsFrom n bs 0) and
     inOrder precedes (storeIn bs .records)
 
--- A RUN STARTS at i behind the one from p on, if any: its first record is laid out exactly, and stands behind by channel,
--- then kind
+-- A RUN STARTS at i behind the one from p on, if any: its first record is laid out exactly, and stands behind by
+-- channel, then kind
 abbrev pub isAhead : Key → Key → Bool
 isAhead a b = pick (eqb (a .channel) (b .channel)) (ltb (a .kind) (b .kind)) (ltb (a .channel) (b .channel))
 

@@ -65,8 +65,8 @@ fn end_index(s: &[u8], p: usize, i: usize, j: usize) -> Found
     find_channel(s, number)
 }
 
-// How many packet records are in use, where each fits and all are in order. One pass, run by run: a run's channel end is
-// looked up where the channel changes, and behind the last run all is zero.
+// How many packet records are in use, where each fits and all are in order. One pass, run by run: a run's channel end
+// is looked up where the channel changes, and behind the last run all is zero.
 fn records_used(s: &[u8], count: usize) -> Found
     requires { ⌜ length (now s) ≡ sizeFor count ⌝ }
     ensures { λ r. ⌜ r ≡ usedIf (recordsFit (now (s .entry)) count) (now (s .entry)) ⌝ }

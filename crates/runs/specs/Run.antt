@@ -1,5 +1,5 @@
--- Runs of packet records: neighbours of one kind and channel, whose sequences rise. What is asked of a record is asked of
--- it beside those before it alone.
+-- Runs of packet records: neighbours of one kind and channel, whose sequences rise. What is asked of a record is asked
+-- of it beside those before it alone.
 use mathlib.Core.Path.{_≡_}
 use mathlib.Core.Bool.{Bool, true, not}
 use mathlib.Core.List.{List}
@@ -104,8 +104,8 @@ pub record Reached (bs : List ℕ) (q i sequence r : ℕ) : Type 0 where
   pub below : (m : ℕ) → q ≤ m → m < r → keyAt bs m .sequence < sequence
   pub stopped : r < i → sequence ≤ keyAt bs r .sequence
 
--- A RECORD ON ITS CHANNEL END, where it is told whether its companion stands before it: as `fitsEnd`, but that a timeout
--- receipt is held against the acknowledgement, and not the other way round
+-- A RECORD ON ITS CHANNEL END, where it is told whether its companion stands before it: as `fitsEnd`, but that a
+-- timeout receipt is held against the acknowledgement, and not the other way round
 unfoldable pub fitsBeside : (companion : Bool) → Record → Channel → Bool
 fitsBeside b r c =
     pick (eqb (r .kind) commitmentKind) (ltb (r .sequence) (c .next .send))

@@ -144,7 +144,9 @@ fn is_there(s: &[u8], m: usize, i: usize, sequence: u64) -> bool
 fn are_beside(s: &[u8], q: usize, i: usize, e: usize, kind: u16, wanted: bool) -> bool
     requires { ⌜ (sizeFor e ≤ length (now s)) × Beside (now s) kind q i e ⌝ }
     ensures { λ r. ⌜
-        r ≡ each (λ k. pick wanted (hasBefore (now (s .entry)) kind k) (not (hasBefore (now (s .entry)) kind k))) i (e - i)
+        r ≡
+        each (λ k. pick wanted (hasBefore (now (s .entry)) kind k) (not (hasBefore (now (s .entry)) kind k))) i
+        (e - i)
         ⌝ }
 {
     let mut m = q;

@@ -132,8 +132,8 @@ returns-5 c =
     let l = loop k in
     let o = l .before .before in
     unfit-first (bytes l) (known l) (o .args .count) (o .pre) (l .loop .i) (l .loop .j) (l .loop .p) (l .loop .inv)
-    (inside (first (start k))) (starts (start k)) (taken (first (start k))) (run .own-run-end .result) (run .own-run-end .ensures)
-    (c .if4 .taken)
+    (inside (first (start k))) (starts (start k)) (taken (first (start k))) (run .own-run-end .result)
+    (run .own-run-end .ensures) (c .if4 .taken)
 
 -- A RUN that has a record
 abbrev known-end : tie.Else4 Inv-loop μ-loop → tie.After-known-told Inv-loop μ-loop

@@ -48,7 +48,8 @@ returns c =
     let o = k .before .before in
     let a = o .args in
     ap (λ (n : ℕ). ltb n (a .c .next .send)) (c .before .u64-at .ensures ∙ sym (sequence-at (bytes k) (a .e - 1))) ∙
-    sym (commitments (bytes k) (known k) (a .i) (a .e) (o .pre .2) (o .pre .1) (a .c) (kind k ∙ c .before .before .match .keys1))
+    sym (commitments (bytes k) (known k) (a .i) (a .e) (o .pre .2) (o .pre .1) (a .c)
+    (kind k ∙ c .before .before .match .keys1))
 
 returns-2 : tie.Need-returns-2
 returns-2 c =
@@ -64,8 +65,9 @@ returns-5 c =
     let o = k .before .before in
     let a = o .args in
     let none = c .match .rest in
-    sym (no-kind (bytes k) (known k) (a .i) (a .e) (o .pre .2) (o .pre .1) (a .c) (λ h. none .0 .0 .0 .1 (sym (kind k) ∙ h))
-    (λ h. none .0 .0 .1 (sym (kind k) ∙ h)) (λ h. none .0 .1 (sym (kind k) ∙ h)) (λ h. none .1 (sym (kind k) ∙ h)))
+    sym (no-kind (bytes k) (known k) (a .i) (a .e) (o .pre .2) (o .pre .1) (a .c)
+    (λ h. none .0 .0 .0 .1 (sym (kind k) ∙ h)) (λ h. none .0 .0 .1 (sym (kind k) ∙ h))
+    (λ h. none .0 .1 (sym (kind k) ∙ h)) (λ h. none .1 (sym (kind k) ∙ h)))
 
 pub run-fits-spec : {M : Type 1} → statement M
 run-fits-spec =

@@ -58,7 +58,8 @@ fn summary(rounds: Vec<Vec<Duration>>, calls: usize) -> Time {
     Time { best, median }
 }
 
-/// The times of jobs whose rounds take turns, so that all of them meet the machine in the same state; whoever went first goes last the next time.
+/// The times of jobs whose rounds take turns, so that all of them meet the machine in the same state; whoever went
+/// first goes last the next time.
 pub fn in_turns<const N: usize>(jobs: [(Handler, &[Segment]); N], chunk: usize, rounds: usize) -> [Time; N] {
     let jobs = jobs.map(black_box);
     let mut times = [const { Vec::new() }; N];

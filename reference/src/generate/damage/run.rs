@@ -1,5 +1,5 @@
-//! Damage at certain places of the table and of a run: neighbours of one kind and channel. Who checks the records in one
-//! pass, run by run, can go wrong at just these. They stay in order.
+//! Damage at certain places of the table and of a run: neighbours of one kind and channel. A check in one pass, run by
+//! run, can go wrong at just these. The records stay in order.
 
 #![allow(clippy::ptr_arg)]
 
