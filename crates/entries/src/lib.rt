@@ -28,7 +28,8 @@ ghost use Rattle.slots.specs.Ordering.{isReceived};
 ghost use Rattle.slots.specs.Fit.{channelFits, hasZeroTimeoutsAndDigest, fitsEnd, recordFits};
 
 // INIT, TRYOPEN, OPEN or CLOSED, a known order, counters at least 1, a version with zeros behind it; an INIT end
-// names no counterparty's channel. The channel record from `at` on, field by field.
+// names no counterparty's channel. The channel record from `at` on, field by field; the version and the counterparty's
+// channel last, where the other tests passed, since they are dearer.
 pub fn channel_fits(s: &[u8], at: usize) -> bool
     requires { ⌜ at + slotSize ≤ length (now s) ⌝ }
     ensures { λ r. ⌜ r ≡ channelFits (channelIn (part at slotSize (now (s .entry)))) ⌝ }

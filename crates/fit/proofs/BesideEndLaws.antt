@@ -1,5 +1,5 @@
 -- A record that fits its channel end, and one that fits it beside the records before it. Assumes nothing.
-use mathlib.Core.Path.{_≡_, refl, ap, _∙_}
+use mathlib.Core.Path.{_≡_, refl, sym, ap, _∙_}
 use mathlib.Core.Bool.{Bool, true, false, not}
 use mathlib.Core.Option.{some}
 use lib.Dec.{ltb, eqb}
@@ -16,6 +16,7 @@ use Rattle.slots.specs.Ordering.{isUnordered, isTaken, isLapsed, isReceived, ha
 use Rattle.slots.specs.Ordering.{mayHaveReceipt, mayHaveTimeoutReceipt}
 use Rattle.slots.specs.Fit.{hasZeroTimeoutsAndDigest, fitsEnd}
 use Rattle.runs.specs.Run.{fitsBeside}
+use Rattle.runs.proofs.KindLaws.{fits-timeout-receipt}
 
 -- THE FOUR KINDS, each told apart
 by-kind : {A : Type 0} (r : Record) → (eqb (r .kind) commitmentKind ≡ true → A) →
@@ -105,11 +106,4 @@ module _ (s : Store) (r : Record) (c : Channel) where
       and-both h .0
 
   pub beside-apart : (b : Bool) → fitsBeside b r c ≡ true → r .kind ≡ timeoutReceiptKind → b ≡ false
-  unfolding fitsBeside
-  beside-apart b f e =
-      let a = apart timeoutReceiptKind commitmentKind e refl in
-      let d = apart timeoutReceiptKind receiptKind e refl in
-      let g = eq-eqb (r .kind) timeoutReceiptKind e in
-      let h : (mayHaveTimeoutReceipt c (r .sequence) and hasZeroTimeoutsAndDigest r and not b) ≡ true =
-      rw (a, d, g) at f in
-      not-true b (and-both h .1)
+  beside-apart b f e = not-true b (and-both (sym (fits-timeout-receipt b r c e) ∙ f) .1)

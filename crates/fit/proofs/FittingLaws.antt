@@ -25,7 +25,7 @@ use Rattle.runs.specs.Run.{recordAt, keyAt, hasCompanion, fitsBeside}
 use Rattle.front.specs.EverySlot.{isExact}
 use Rattle.front.proofs.IndexLaws.{slot-some, slot-none, not-none, index-find, find-index}
 
--- of two keys of one channel and sequence that of the lower kind is before
+-- of two keys of one channel that of the higher kind is not before
 pub kind-not-before : (a b : Key) → a .channel ≡ b .channel → b .kind < a .kind → isBefore a b ≡ false
 unfolding isBefore
 kind-not-before a b c l =

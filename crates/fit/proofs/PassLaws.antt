@@ -39,7 +39,7 @@ abbrev OwnRunEnd : List ℕ → (n i e : ℕ) → Type 0
 OwnRunEnd bs n i e = RunEnd bs n (plainSize (keyAt bs i .kind)) i e
 
 -- WHAT HOLDS after i slots, the last run of which starts at p, on the channel end of index j
-pub record Gone (bs : List ℕ) (n i j p : ℕ) : Type 0 where
+pub record Checked (bs : List ℕ) (n i j p : ℕ) : Type 0 where
   pub within : i ≤ n
   pub low : p ≤ i
   pub near : 0 < i → p < i
@@ -50,8 +50,8 @@ pub record Gone (bs : List ℕ) (n i j p : ℕ) : Type 0 where
   pub last : 0 < i → OwnRunEnd bs n p i
   pub end : p < i → firstThat (isNumbered (keyAt bs p .channel)) (storeIn bs .channels) ≡ At j
 
-pub gone-none : (bs : List ℕ) (n : ℕ) → Gone bs n 0 0 0
-gone-none bs n =
+pub checked-none : (bs : List ℕ) (n : ℕ) → Checked bs n 0 0 0
+checked-none bs n =
     record {
       within = omega arith;
       low = omega arith;
@@ -64,20 +64,20 @@ gone-none bs n =
       end = λ l. absurd (omega arith);
     }
 
-module _ (bs : List ℕ) (bytes : Bytes bs) (n : ℕ) (size : length bs ≡ sizeFor n) (i j p : ℕ) (g : Gone bs n i j p) where
+module _ (bs : List ℕ) (bytes : Bytes bs) (n : ℕ) (size : length bs ≡ sizeFor n) (i j p : ℕ) (g : Checked bs n i j p) where
   -- ALL IS FREE BEHIND
-  pub gone-free : ((k : ℕ) → i ≤ k → k < n → areZero (slotAt recordsFrom bs k) ≡ true) →
+  checked-free : ((k : ℕ) → i ≤ k → k < n → areZero (slotAt recordsFrom bs k) ≡ true) →
       At i ≡ usedIf (recordsFit bs n) bs
-  gone-free free =
+  checked-free free =
       let h = all-fit bs n size i (g .within) (g .used) (g .fitting) (g .ordered) free in
       sym (rw (h .0, h .1))
 
-  pub gone-all : n ≤ i → At i ≡ usedIf (recordsFit bs n) bs
-  gone-all l = gone-free (λ k a b. absurd (omega arith))
+  pub checked-all : n ≤ i → At i ≡ usedIf (recordsFit bs n) bs
+  checked-all l = checked-free (λ k a b. absurd (omega arith))
 
-  pub gone-rest : areZero (part (recordsFrom + slotSize * i) (slotSize * (n - i)) bs) ≡ true →
+  pub checked-rest : areZero (part (recordsFrom + slotSize * i) (slotSize * (n - i)) bs) ≡ true →
       At i ≡ usedIf (recordsFit bs n) bs
-  gone-rest h = gone-free (λ k l m. zero-slot bs n i k l m h)
+  checked-rest h = checked-free (λ k l m. zero-slot bs n i k l m h)
 
   -- A TEST FAILS
   unfit : (recordsFit bs n ≡ true → ⊥) → Nothing ≡ usedIf (recordsFit bs n) bs
@@ -242,8 +242,8 @@ module _ (bs : List ℕ) (bytes : Bytes bs) (n : ℕ) (size : length bs ≡ size
               inr (run .kinds m from (omega arith) ∙ sym kind, run .rises m k from l b),
             )))
 
-        pub gone-run : each test i (e - i) ≡ true → Gone bs n e end i
-        gone-run h =
+        pub checked-run : each test i (e - i) ≡ true → Checked bs n e end i
+        checked-run h =
             record {
               within = stop .high;
               low = omega arith;

@@ -63,7 +63,7 @@ module _ (bs : List ℕ) (n : ℕ) (size : length bs ≡ sizeFor n) where
         and true) ≡ true = rw t at h in
         and-both (and-both e .0)
 
-    -- an entry of a lower kind, on its channel and with its sequence, stands before it
+    -- an entry of a lower kind on its channel stands before it
     before-index : (m k : ℕ) → m < n → k < n → Taken bs m → Taken bs k → keyAt bs m .channel ≡ keyAt bs k .channel →
         keyAt bs m .kind < keyAt bs k .kind → m < k
     before-index m k l h t u c less =

@@ -10,7 +10,6 @@ use tables::scan::find_channel;
 use wire::are_zero;
 use wire::u16_at;
 use wire::u32_at;
-use wire::u64_at;
 ghost use mathlib.Core.Path.{_≡_};
 ghost use Prim.Native.Nat.{_+_, _≤_, _<_};
 ghost use lib.ListN.{length};
@@ -92,13 +91,8 @@ fn records_used(s: &[u8], count: usize) -> Found
         if e == i {
             return Found::Nothing;
         }
-        if !run_fits(
-            s,
-            p,
-            i,
-            e,
-            channel_at(s, Layout::HEADER + Layout::SLOT * end),
-        ) {
+        let c = channel_at(s, Layout::HEADER + Layout::SLOT * end);
+        if !run_fits(s, p, i, e, c) {
             return Found::Nothing;
         }
         j = end;

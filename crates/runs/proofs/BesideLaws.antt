@@ -18,9 +18,6 @@ use Rattle.runs.proofs.EachLaws.{any-at, any-none}
 -- A COMPANION IS THERE where it is at the first slot whose sequence is not below
 module _ (bs : List ℕ) (kind q i e : ℕ) (b : Beside bs kind q i e) (k : ℕ) (low : i ≤ k) (high : k < e) (m : ℕ)
     (reached : Reached bs q i (keyAt bs k .sequence) m) where
-  own-kind : keyAt bs k .kind ≡ suc kind
-  own-kind = b .run .kinds k low high ∙ b .own
-
   there : m < i → keyAt bs m .sequence ≡ keyAt bs k .sequence → hasBefore bs kind k ≡ true
   unfolding hasBefore
   there l h =

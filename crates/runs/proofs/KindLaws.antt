@@ -38,7 +38,7 @@ module _ (b : Bool) (r : Record) (c : Channel) where
   unfolding fitsBeside _and_
   fits-acknowledgement h = rw h
 
-  fits-timeout-receipt : r .kind ≡ timeoutReceiptKind → fitsBeside b r c ≡
+  pub fits-timeout-receipt : r .kind ≡ timeoutReceiptKind → fitsBeside b r c ≡
       (mayHaveTimeoutReceipt c (r .sequence) and hasZeroTimeoutsAndDigest r and not b)
   unfolding fitsBeside
   fits-timeout-receipt h = rw h

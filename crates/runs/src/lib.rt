@@ -11,7 +11,7 @@ use wire::u32_at;
 use wire::u64_at;
 ghost use mathlib.Core.Path.{_≡_};
 ghost use mathlib.Core.Bool.{not};
-ghost use Prim.Native.Nat.{suc, _+_, _*_, _-_, _≤_, _<_};
+ghost use Prim.Native.Nat.{_+_, _*_, _-_, _≤_, _<_};
 ghost use lib.Dec.{ltb, eqb};
 ghost use lib.ListN.{length};
 ghost use Rattle.wire.specs.Choice.{_and_, pick};
@@ -19,9 +19,8 @@ ghost use Rattle.wire.specs.Bytes.{part, areZero};
 ghost use Rattle.slots.specs.Codes.{acknowledgementKind, timeoutReceiptKind};
 ghost use Rattle.slots.specs.Layout.{recordsFrom, slotSize, sizeFor};
 ghost use Rattle.runs.specs.Each.{each};
-ghost use Rattle.runs.specs.Run.{recordAt, keyAt, plainSize, RunEnd, OwnRun, Passed, Beside, hasBefore};
-ghost use Rattle.runs.specs.Run.{hasCompanion, fitsBeside};
-ghost use Rattle.runs.specs.Run.{Reached};
+ghost use Rattle.runs.specs.Run.{recordAt, keyAt, plainSize, RunEnd, OwnRun, Passed, Beside, Reached};
+ghost use Rattle.runs.specs.Run.{hasBefore, hasCompanion, fitsBeside};
 
 // Eight bytes are zero, and sixteen, as two words that are both looked at.
 fn is_zero_word(s: &[u8], at: usize) -> bool
@@ -31,7 +30,7 @@ fn is_zero_word(s: &[u8], at: usize) -> bool
     u64_at(s, at) == 0
 }
 
-fn are_zero_two(s: &[u8], at: usize) -> bool
+fn are_zero_two_words(s: &[u8], at: usize) -> bool
     requires { ⌜ at + 16 ≤ length (now s) ⌝ }
     ensures { λ r. ⌜ r ≡ areZero (part at 16 (now (s .entry))) ⌝ }
 {
@@ -45,17 +44,19 @@ fn is_plain(s: &[u8], at: usize, size: usize) -> bool
     ensures { λ r. ⌜ r ≡ areZero (part at size (now (s .entry))) ⌝ }
 {
     if size == 16 {
-        return are_zero_two(s, at);
+        return are_zero_two_words(s, at);
     }
     if size == 48 {
-        return are_zero_two(s, at) & are_zero_two(s, at + 16) & are_zero_two(s, at + 32);
+        return are_zero_two_words(s, at)
+            & are_zero_two_words(s, at + 16)
+            & are_zero_two_words(s, at + 32);
     }
     are_zero(s, at, size)
 }
 
 // Where the run that starts at slot i ends, with so many zero bytes behind each key. The first eight bytes of a record
 // are its kind, two zero bytes and its channel: they are compared as one number. Where not even slot i passes, it ends
-// there.
+// there. The loop goes by the place alone, so that the processor has one number less to keep.
 fn run_end(s: &[u8], count: usize, i: usize, size: usize) -> usize
     requires { ⌜ ((length (now s) ≡ sizeFor count) × (i < count)) × (16 + size ≤ slotSize) ⌝ }
     ensures { λ e. ⌜ RunEnd (now (s .entry)) count size i e ⌝ }
@@ -139,8 +140,8 @@ fn is_there(s: &[u8], m: usize, i: usize, sequence: u64) -> bool
     false
 }
 
-// Each record of the run from i to e has its companion, or none has. The index of the companions only moves forward,
-// since both runs rise.
+// Each record of the run from i to e has its companion, where that is wanted, else none has. The index of the
+// companions only moves forward, since both runs rise.
 fn are_beside(s: &[u8], q: usize, i: usize, e: usize, kind: u16, wanted: bool) -> bool
     requires { ⌜ (sizeFor e ≤ length (now s)) × Beside (now s) kind q i e ⌝ }
     ensures { λ r. ⌜

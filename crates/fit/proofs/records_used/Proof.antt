@@ -1,4 +1,4 @@
--- Before each turn the slots before it fit and are in order: `Gone`. Assumes nothing.
+-- Before each turn the slots before it fit and are in order: `Checked`. Assumes nothing.
 use mathlib.Core.Path.{_≡_, sym, ap, _∙_}
 use mathlib.Core.Bool.{true, false}
 use mathlib.Core.List.{List}
@@ -21,19 +21,19 @@ use Rattle.slots.proofs.SlotTestLaws.{channel-index}
 use Rattle.runs.specs.Each.{each}
 use Rattle.runs.specs.Run.{recordAt, keyAt, hasCompanion, fitsBeside}
 use Rattle.fit.specs.Pass.{startsRun}
-use Rattle.fit.proofs.PassLaws.{Gone, gone-none, gone-all, gone-rest, unfit-rest, unfit-start, unfit-end}
-use Rattle.fit.proofs.PassLaws.{passed, unfit-first, unfit-run, gone-run}
+use Rattle.fit.proofs.PassLaws.{Checked, checked-none, checked-all, checked-rest, unfit-rest, unfit-start, unfit-end}
+use Rattle.fit.proofs.PassLaws.{passed, unfit-first, unfit-run, checked-run}
 use Rattle.fit.proofs.records_used.Statement.{statement}
 use Rattle.fit.proofs.records_used.Tie as tie
 
 abbrev Inv-loop : tie.InvT-loop
-Inv-loop s count i₀ p₀ j₀ i p j = Gone s count i j p
+Inv-loop s count i₀ p₀ j₀ i p j = Checked s count i j p
 
 abbrev μ-loop : tie.MeasureT-loop
 μ-loop s count i₀ p₀ j₀ i p j = count - i
 
 loop-holds : tie.Need-loop-holds Inv-loop μ-loop
-loop-holds c = gone-none (now (c .before .args .s)) (c .before .args .count)
+loop-holds c = checked-none (now (c .before .args .s)) (c .before .args .count)
 
 abbrev bytes : tie.At-loop Inv-loop μ-loop → List ℕ
 bytes l = now (l .before .before .args .s)
@@ -46,7 +46,7 @@ returns c =
     let l = c .before .before .before .before .before in
     let o = l .before .before in
     let call = c .before .are-zero2 in
-    gone-rest (bytes l) (known l) (o .args .count) (o .pre) (l .loop .i) (l .loop .j) (l .loop .p) (l .loop .inv)
+    checked-rest (bytes l) (known l) (o .args .count) (o .pre) (l .loop .i) (l .loop .j) (l .loop .p) (l .loop .inv)
     (sym (call .ensures) ∙ c .if2 .taken)
 
 returns-2 : tie.Need-returns-2 Inv-loop μ-loop
@@ -198,7 +198,7 @@ loop-again c =
     let l = loop k in
     let o = l .before .before in
     let run = r .before .own-run-end in
-    gone-run (bytes l) (known l) (o .args .count) (o .pre) (l .loop .i) (l .loop .j) (l .loop .p) (l .loop .inv)
+    checked-run (bytes l) (known l) (o .args .count) (o .pre) (l .loop .i) (l .loop .j) (l .loop .p) (l .loop .inv)
     (inside (first (start k))) (starts (start k)) (index k) (found k) (run .result) (run .ensures) (more r)
     (sym (tested call) ∙ not-false (call .run-fits .result) (c .if5 .left))
 
@@ -206,7 +206,7 @@ returns-7 : tie.Need-returns-7 Inv-loop μ-loop
 returns-7 c =
     let l = c .before in
     let o = l .before .before in
-    gone-all (bytes l) (known l) (o .args .count) (o .pre) (l .loop .i) (l .loop .j) (l .loop .p) (l .loop .inv)
+    checked-all (bytes l) (known l) (o .args .count) (o .pre) (l .loop .i) (l .loop .j) (l .loop .p) (l .loop .inv)
     (omega arith)
 
 pub records-used-spec : {M : Type 1} → statement M

@@ -13,7 +13,7 @@ use Rattle.runs.proofs.is_plain.Tie as tie
 returns : tie.Need-returns
 returns c =
     let a = c .before .before .before .args in
-    c .are-zero-two .ensures ∙ ap (λ (n : ℕ). areZero (part (a .at) n (now (a .s)))) (sym (c .before .if1 .taken))
+    c .are-zero-two-words .ensures ∙ ap (λ (n : ℕ). areZero (part (a .at) n (now (a .s)))) (sym (c .before .if1 .taken))
 
 returns-2 : tie.Need-returns-2
 unfolding _and_
@@ -25,9 +25,9 @@ returns-2 c =
       first .before .if2 .taken,
       zero-split 32 16 (a .at) (now (a .s)),
       zero-split 16 16 (a .at) (now (a .s)),
-      ← first .are-zero-two2 .ensures,
-      ← second .are-zero-two3 .ensures,
-      ← c .are-zero-two4 .ensures,
+      ← first .are-zero-two-words2 .ensures,
+      ← second .are-zero-two-words3 .ensures,
+      ← c .are-zero-two-words4 .ensures,
     )
 
 pub is-plain-spec : {M : Type 1} → statement M
