@@ -133,7 +133,8 @@ fn carry_out(store: &mut [u8], p: Plan)
         ⌝ }
 {
     let height = p.context.height;
-    set_times(store, height, p.context.time);
+    let time = p.context.time;
+    set_times(store, height, time);
     set_next(store, p.next);
     let at = p.at;
     let end = p.decision.end;

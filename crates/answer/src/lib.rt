@@ -29,6 +29,7 @@ use slots::Channel;
 use slots::Found;
 use slots::Layout;
 use slots::OwnHeight;
+use slots::OwnTime;
 use slots::PortChannel;
 use slots::VERSION;
 use slots::slot::channel_at;
@@ -95,7 +96,7 @@ fn answer_sound(store: &[u8], datagram: &[u8]) -> u8
         ⌝ }
 {
     let x = context_in(datagram);
-    if goes_back(OwnHeight(u64_at(store, 8)), u64_at(store, 16), x) {
+    if goes_back(OwnHeight(u64_at(store, 8)), OwnTime(u64_at(store, 16)), x) {
         return 4;
     }
     let kind = kind_in(datagram);

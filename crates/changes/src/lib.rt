@@ -8,6 +8,7 @@ use shift::shift_up;
 use slots::Channel;
 use slots::Layout;
 use slots::OwnHeight;
+use slots::OwnTime;
 use slots::Record;
 use slots::slot::put_channel;
 use slots::slot::put_record;
@@ -23,12 +24,12 @@ ghost use Rattle.slots.specs.Effect.{Exact, withTimes, withNext, withChannelSlo
 ghost use Rattle.slots.specs.Effect.{insertedAt, removedAt};
 
 // Last height and time.
-pub fn set_times(s: &mut [u8], height: OwnHeight, time: u64)
+pub fn set_times(s: &mut [u8], height: OwnHeight, time: OwnTime)
     requires { ⌜ Exact (now s) ⌝ }
     ensures { λ _. ⌜ now (s .exit) ≡ bytesOf (withTimes (storeIn (now (s .entry))) height time) ⌝ }
 {
     put_u64(s, 8, height.0);
-    put_u64(s, 16, time);
+    put_u64(s, 16, time.0);
 }
 
 // The next channel number.

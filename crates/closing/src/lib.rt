@@ -96,7 +96,7 @@ fn closed_row(p: Packet, v: EndVerdict, w: Verdict, c: Channel) -> u8
     if absence != 0 {
         return absence;
     }
-    let block = block_difference(v.height, v.time, w.height, w.time);
+    let block = block_difference(v.block, w.block);
     if block != 0 {
         return block;
     }

@@ -90,7 +90,7 @@ module _ (d : List ℕ) (b : Bytes d) where
   unfolding datagramIn contextIn
   height-below = field-below _ _ d b
 
-  pub time-below : datagramIn d .context .time < 256 ^ 8
+  pub time-below : datagramIn d .context .time .0 < 256 ^ 8
   unfolding datagramIn contextIn
   time-below = field-below _ _ d b
 

@@ -8,12 +8,14 @@ use lib.ListN.{length, getD, drop}
 use Rattle.wire.specs.Choice.{_and_, pick, isSome}
 use Rattle.wire.specs.Bytes.{areZero, part, field, digestSize}
 use Rattle.slots.specs.declared.OtherHeight.{OtherHeight}
+use Rattle.slots.specs.declared.OtherTime.{OtherTime}
 use Rattle.slots.specs.declared.PortChannel.{PortChannel}
 use Rattle.slots.specs.declared.Timeout.{Timeout}
 use Rattle.slots.specs.Codes.{isOrder}
-use Rattle.slots.specs.Height.{ownHeight, otherHeight}
+use Rattle.slots.specs.Height.{ownHeight, ownTime, otherHeight, otherTime}
 use Rattle.slots.specs.Part.{portChannelIn, timeoutIn}
 use Rattle.slots.specs.Layout.{slotSize, channelIn}
+use Rattle.datagram.specs.declared.Block.{Block}
 use Rattle.datagram.specs.declared.Context.{Context}
 use Rattle.datagram.specs.declared.Packet.{Packet}
 use Rattle.datagram.specs.declared.Verdict.{Verdict}
@@ -35,7 +37,7 @@ unfoldable pub contextIn : List ℕ → Context
 contextIn d =
     record {
       height = ownHeight (field 6 8 d);
-      time = field 14 8 d;
+      time = ownTime (field 14 8 d);
       client = otherHeight (field 22 8 d);
       port = field 30 2 d;
       connected = eqb (getD d 32 0) 1;
@@ -51,12 +53,14 @@ packetIn i d =
       digest = part (i + 36) digestSize d;
     }
 
+unfoldable pub blockIn : (from : ℕ) → List ℕ → Block
+blockIn i d = record { height = otherHeight (field i 8 d); time = otherTime (field (i + 8) 8 d) }
+
 unfoldable pub verdictIn : (from : ℕ) → List ℕ → Verdict
 verdictIn i d =
     record {
       claim = field i 2 d;
-      height = otherHeight (field (i + 2) 8 d);
-      time = field (i + 10) 8 d;
+      block = blockIn (i + 2) d;
       about = portChannelIn (i + 18) d;
       sequence = field (i + 24) 8 d;
       timeout = timeoutIn (i + 32) d;
@@ -68,8 +72,7 @@ unfoldable pub endVerdictIn : (from : ℕ) → List ℕ → EndVerdict
 endVerdictIn i d =
     record {
       claim = field i 2 d;
-      height = otherHeight (field (i + 2) 8 d);
-      time = field (i + 10) 8 d;
+      block = blockIn (i + 2) d;
       kind = field (i + 18) 2 d;
       end = channelIn (part (i + 18) slotSize d);
     }
@@ -163,13 +166,15 @@ pub data AnyVerdict : Type 0 where
   onPacket : Verdict → AnyVerdict
   onEnd : EndVerdict → AnyVerdict
 
-abbrev pub blockHeight : AnyVerdict → OtherHeight
-blockHeight (onPacket v) = v .height
-blockHeight (onEnd v) = v .height
+abbrev pub blockOf : AnyVerdict → Block
+blockOf (onPacket v) = v .block
+blockOf (onEnd v) = v .block
 
-abbrev pub blockTime : AnyVerdict → ℕ
-blockTime (onPacket v) = v .time
-blockTime (onEnd v) = v .time
+abbrev pub blockHeight : AnyVerdict → OtherHeight
+blockHeight v = blockOf v .height
+
+abbrev pub blockTime : AnyVerdict → OtherTime
+blockTime v = blockOf v .time
 
 unfoldable pub verdictsIn : Datagram → List Part → List AnyVerdict
 verdictsIn d [] = []

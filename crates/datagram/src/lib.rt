@@ -4,15 +4,23 @@ pub mod read; // the parts, read by value
 
 use slots::Channel;
 use slots::OtherHeight;
+use slots::OtherTime;
 use slots::OwnHeight;
+use slots::OwnTime;
 use slots::PortChannel;
 use slots::Timeout;
+
+// A block of the other ledger.
+pub struct Block {
+    pub height: OtherHeight,
+    pub time: OtherTime,
+}
 
 // What the host says of the call: this ledger's height and time, the client's latest height of the other ledger,
 // the caller's port, and whether the connection is open.
 pub struct Context {
     pub height: OwnHeight,
-    pub time: u64,
+    pub time: OwnTime,
     pub client: OtherHeight,
     pub port: u16,
     pub connected: bool,
@@ -26,11 +34,10 @@ pub struct Packet {
     pub digest: [u8; 32],
 }
 
-// What the host's light client found of the other ledger, at a block's height and time there.
+// What the host's light client found of the other ledger, at a block there.
 pub struct Verdict {
     pub claim: u16,
-    pub height: OtherHeight,
-    pub time: u64,
+    pub block: Block,
     pub about: PortChannel,
     pub sequence: u64,
     pub timeout: Timeout,
@@ -54,8 +61,7 @@ impl Verdict {
 // What it found of a channel end there.
 pub struct EndVerdict {
     pub claim: u16,
-    pub height: OtherHeight,
-    pub time: u64,
+    pub block: Block,
     pub kind: u16,
     pub end: Channel,
 }

@@ -1,5 +1,6 @@
 // What a datagram holds, read into structs by value. A part that lies at one place in every kind that has it is read
 // there; of another the kind tells the place.
+use super::Block;
 use super::Context;
 use super::EndVerdict;
 use super::Packet;
@@ -11,7 +12,9 @@ use super::place::end_verdict_place;
 use super::place::order_place;
 use super::place::verdict_place;
 use slots::OtherHeight;
+use slots::OtherTime;
 use slots::OwnHeight;
+use slots::OwnTime;
 use slots::Timeout;
 use slots::part::port_channel_at;
 use slots::part::timeout_at;
@@ -31,7 +34,7 @@ ghost use Rattle.wire.specs.Frame.{frameSize};
 ghost use Rattle.datagram.specs.Kind.{kindOf, bodyFrom, packetSize, verdictSize, endVerdictSize};
 ghost use Rattle.datagram.specs.Kind.{digestPart, verdictPart, counterpartyPart, orderPart, endVerdictPart};
 ghost use Rattle.datagram.specs.Kind.{bodyOf, hasPart, sizeOf};
-ghost use Rattle.datagram.specs.Datagram.{kindIn, contextIn, packetIn, verdictIn, endVerdictIn};
+ghost use Rattle.datagram.specs.Datagram.{kindIn, contextIn, packetIn, blockIn, verdictIn, endVerdictIn};
 ghost use Rattle.datagram.specs.Datagram.{digestFrom, verdictFrom, endVerdictFrom, counterpartyFrom, orderFrom};
 ghost use Rattle.datagram.specs.Datagram.{channelFrom};
 
@@ -41,10 +44,20 @@ pub fn context_in(d: &[u8]) -> Context
 {
     Context {
         height: OwnHeight(u64_at(d, FRAME)),
-        time: u64_at(d, FRAME + 8),
+        time: OwnTime(u64_at(d, FRAME + 8)),
         client: OtherHeight(u64_at(d, FRAME + 16)),
         port: u16_at(d, FRAME + 24),
         connected: d[FRAME + 26] == 1,
+    }
+}
+
+fn block_at(d: &[u8], at: usize) -> Block
+    requires { ⌜ at + 16 ≤ length (now d) ⌝ }
+    ensures { λ r. ⌜ r ≡ blockIn at (now (d .entry)) ⌝ }
+{
+    Block {
+        height: OtherHeight(u64_at(d, at)),
+        time: OtherTime(u64_at(d, at + 8)),
     }
 }
 
@@ -54,8 +67,7 @@ fn verdict_at(d: &[u8], at: usize) -> Verdict
 {
     Verdict {
         claim: u16_at(d, at),
-        height: OtherHeight(u64_at(d, at + 2)),
-        time: u64_at(d, at + 10),
+        block: block_at(d, at + 2),
         about: port_channel_at(d, at + 18),
         sequence: u64_at(d, at + 24),
         timeout: timeout_at(d, at + 32),
@@ -70,8 +82,7 @@ fn end_verdict_at(d: &[u8], at: usize) -> EndVerdict
 {
     EndVerdict {
         claim: u16_at(d, at),
-        height: OtherHeight(u64_at(d, at + 2)),
-        time: u64_at(d, at + 10),
+        block: block_at(d, at + 2),
         kind: u16_at(d, at + 18),
         end: channel_at(d, at + 18),
     }

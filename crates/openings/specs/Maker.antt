@@ -8,7 +8,7 @@ use lib.ListN.{length, replicate}
 use Rattle.wire.specs.Choice.{_and_, pick}
 use Rattle.slots.specs.declared.Channel.{Channel}
 use Rattle.slots.specs.Limits.{channelLimit}
-use Rattle.slots.specs.Height.{ownHeight}
+use Rattle.slots.specs.Height.{ownHeight, ownTime}
 use Rattle.slots.specs.Table.{distinct, sameNumber}
 use Rattle.slots.specs.Layout.{Store, roomIn, bytesOf}
 use Rattle.slots.specs.Fit.{sizeFits}
@@ -34,7 +34,7 @@ unfoldable pub madeStore : (size : ℕ) → (openings : List ℕ) → Store
 madeStore n bs =
     record {
       height = ownHeight 0;
-      time = 0;
+      time = ownTime 0;
       next = leastAbove (endsOf bs);
       channels = endsOf bs ++ replicate (channelLimit - length bs / openingSize) none;
       records = replicate (roomIn n) none;

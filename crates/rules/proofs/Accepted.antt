@@ -9,7 +9,6 @@ use Rattle.slots.specs.Names.{topChannel, stateInit, stateTryOpen, stateOpen, s
 use Rattle.slots.specs.Names.{isReceived}
 use Rattle.datagram.specs.Names.{only, Kind, send, receive, write, acknowledge, timeOut, openInit, openTry}
 use Rattle.datagram.specs.Names.{openAcknowledge, openConfirm, closeInit, closeConfirm, timeOutOnClose, Datagram}
-use Rattle.datagram.specs.Names.{onPacket, onEnd}
 use Rattle.rules.specs.Names.{firstEndDifference, hasVersion, moved, receivesInOrder, refusesLate, isReceiptThere}
 use Rattle.rules.specs.Names.{acknowledgesInOrder, timesOutInOrder, isSendAtTop, isReceiveAtTop}
 use Rattle.rules.specs.Names.{isAcknowledgeAtTop, isTimeoutAtTop, needsRecord, isFull, neededEnd, neededInit}
@@ -48,7 +47,7 @@ pub record AcknowledgeOk (s : Store) (d : Datagram) (c : Channel) : Type 0 where
 pub data Why (d : Datagram) (c : Channel) : Type 0 where
   byTime : isProvedLate (d .packet .timeout) (d .verdict) ≡ true → Why d c
   byClose : d .kind ≡ some timeOutOnClose → Alike (d .endVerdict .end) (neededPeer stateClosed c) →
-      d .endVerdict .height ≡ d .verdict .height → Why d c
+      d .endVerdict .block .height ≡ d .verdict .block .height → Why d c
 
 pub record TimeoutOk (s : Store) (d : Datagram) (c : Channel) : Type 0 where
   pub why : Why d c
@@ -181,7 +180,7 @@ module _ (bs : List ℕ) (room : ℕ) (b : List ℕ) (s : Store) (d : Datagram) 
   unfolding givenAt table only _or_
   timeout-on-close-ok e h =
       let shut = shows-needed (neededPeer stateClosed c) (quiet 14 timeOutOnClose h) (quiet 27 timeOutOnClose h) in
-      let block = one-block (onEnd (d .endVerdict)) (onPacket (d .verdict)) (quiet-at 2 14 timeOutOnClose h) in
+      let block = one-block (d .endVerdict .block) (d .verdict .block) (quiet-at 2 14 timeOutOnClose h) in
       timed-out true (byClose e shut block) (quiet 9 timeOutOnClose h) (quiet 13 timeOutOnClose h)
       (quiet-at 1 14 timeOutOnClose h) (quiet 15 timeOutOnClose h) (quiet-at 1 15 timeOutOnClose h)
       (quiet 19 timeOutOnClose h)

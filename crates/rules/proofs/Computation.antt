@@ -1,7 +1,7 @@
 -- All that the worked cases and the worked history compute with, under one name: what unfolds it unfolds them all.
 -- Assumes nothing.
 use Rattle.wire.specs.Names.{same, _and_, _or_, withNumber, areZero, little, numberOf, part, field, pieces}
-use Rattle.slots.specs.Names.{mayHaveReceipt, mayHaveTimeoutReceipt, storeIn, isPast, sameTimeout, noneZero}
+use Rattle.slots.specs.Names.{mayHaveReceipt, mayHaveTimeoutReceipt, storeIn, isPast, hasPassed, sameTimeout, noneZero}
 use Rattle.slots.specs.Names.{versionFits, padded, isPadded, find, replace, push, place, takeOut, hasFree, count, all}
 use Rattle.slots.specs.Names.{distinct, mayLead, inOrder, isBefore, isLaidOut, isFit, isFitAnyOrder, isNumbered}
 use Rattle.slots.specs.Names.{samePortChannel, hasKey, isCommitmentOn, roomIn, channelBytes, recordBytes, slotBytes}
@@ -12,7 +12,7 @@ use Rattle.slots.specs.Names.{storeFits, sizeFits}
 use Rattle.openings.specs.Opening.{openingFits, allOpeningsFit, openingOf, endsOf}
 use Rattle.openings.specs.Maker.{leastAbove, makeNumber, madeStore, makeStore}
 use Rattle.datagram.specs.Names.{only, body, hasPart, partsSize, sizeBefore, isSized, kindIn, contextIn, packetIn}
-use Rattle.datagram.specs.Names.{verdictIn, endVerdictIn, packetFrom, verdictFrom, timeoutFrom, sequenceFrom}
+use Rattle.datagram.specs.Names.{blockIn, verdictIn, endVerdictIn, packetFrom, verdictFrom, timeoutFrom, sequenceFrom}
 use Rattle.datagram.specs.Names.{digestFrom, endVerdictFrom, counterpartyFrom, orderFrom, versionFrom, channelFrom}
 use Rattle.datagram.specs.Names.{datagramIn, verdictsIn, isPartSound, arePartsSound, isContextSound, isSound, framed}
 use Rattle.datagram.specs.Names.{packetBytes}
@@ -36,25 +36,26 @@ use Rattle.rules.specs.Names.{storeOf, handshakes, transfers, closings, 
 use Rattle.rules.specs.Names.{timeoutOnCloseBy, blockDifference, holding, shown}
 
 unfoldable pub computation : Unit {0}
-unfolding _and_ _or_ withNumber same areZero little numberOf part field pieces isPast sameTimeout noneZero versionFits
-    padded isPadded find replace push place takeOut hasFree count all distinct mayLead inOrder isBefore isLaidOut
-    isFitAnyOrder isNumbered samePortChannel hasKey isCommitmentOn roomIn channelBytes recordBytes slotBytes tableBytes
-    headerBytes bytesOf channelIn recordIn slotIn storeIn isOrdered isUnordered allowsTimeouts isTaken isLapsed
-    isReceived mayHaveReceipt mayHaveTimeoutReceipt namesNone channelFits channelsFit isBelow numbersFit
+unfolding _and_ _or_ withNumber same areZero little numberOf part field pieces isPast hasPassed sameTimeout noneZero
+    versionFits padded isPadded find replace push place takeOut hasFree count all distinct mayLead inOrder isBefore
+    isLaidOut isFitAnyOrder isNumbered samePortChannel hasKey isCommitmentOn roomIn channelBytes recordBytes slotBytes
+    tableBytes headerBytes bytesOf channelIn recordIn slotIn storeIn isOrdered isUnordered allowsTimeouts isTaken
+    isLapsed isReceived mayHaveReceipt mayHaveTimeoutReceipt namesNone channelFits channelsFit isBelow numbersFit
     fitsEnd recordFits entriesFit storeFits sizeFits isFit openingFits allOpeningsFit openingOf endsOf leastAbove
-    makeNumber madeStore makeStore only body hasPart partsSize sizeBefore isSized kindIn contextIn packetIn verdictIn
-    endVerdictIn packetFrom verdictFrom timeoutFrom sequenceFrom digestFrom endVerdictFrom counterpartyFrom orderFrom
-    versionFrom channelFrom datagramIn verdictsIn isPartSound arePartsSound isContextSound isSound framed packetBytes
-    firstDifference shown sameCounters sameButVersion firstEndDifference hasVersion hasValues isAsStated holdsOn
-    endHolds claimHolds plainRecord counted moved receivesInOrder refusesLate lapses isReceiptThere raisesReceive
-    receivedEnd receivedEdit receivedKind acknowledgesInOrder raisesAcknowledge acknowledgedEnd absenceClaim
-    countsTimeouts timesOutInOrder timedOutEnd isSendAtTop isReceiveAtTop isAcknowledgeAtTop isTimeoutAtTop needsRecord
-    newEnd isFull neededEnd neededInit answering neededTryOpen neededPeer firstGiven goesBack noChannel fitsDestination
-    fitsSource isLateAtSender isLateAtReceiver isProvedLate isCommitted commitmentDifference acknowledgementDifference
-    absenceDifference claimsTaken table sentPacket commitment sends receives writesAcknowledgement acknowledges timesOut
-    makes moves effectOf effectFor placed numberAfter edited applied answerTo effectIn nextStore called aSlice anOpening
-    openings aContext aDigest anAnswer aPacket aBlock aVerdict aSend receiveBy aWrite acknowledgeBy timeoutBy anOutput
-    fresh atTop openingsOn openedStores stores requests calls fold empty aVersion endWith anEndVerdict anOpenInit
-    openTryBy openAcknowledgeBy openConfirmBy storeOf handshakes transfers sliceOfFour closings aCloseInit
-    closeConfirmBy timeoutOnCloseBy blockDifference holding hasZeroTimeoutsAndDigest
+    makeNumber madeStore makeStore only body hasPart partsSize sizeBefore isSized kindIn contextIn packetIn blockIn
+    verdictIn endVerdictIn packetFrom verdictFrom timeoutFrom sequenceFrom digestFrom endVerdictFrom counterpartyFrom
+    orderFrom versionFrom channelFrom datagramIn verdictsIn isPartSound arePartsSound isContextSound isSound framed
+    packetBytes firstDifference shown sameCounters sameButVersion firstEndDifference hasVersion hasValues isAsStated
+    holdsOn endHolds claimHolds plainRecord counted moved receivesInOrder refusesLate lapses isReceiptThere
+    raisesReceive receivedEnd receivedEdit receivedKind acknowledgesInOrder raisesAcknowledge acknowledgedEnd
+    absenceClaim countsTimeouts timesOutInOrder timedOutEnd isSendAtTop isReceiveAtTop isAcknowledgeAtTop isTimeoutAtTop
+    needsRecord newEnd isFull neededEnd neededInit answering neededTryOpen neededPeer firstGiven goesBack noChannel
+    fitsDestination fitsSource isLateAtSender isLateAtReceiver isProvedLate isCommitted commitmentDifference
+    acknowledgementDifference absenceDifference claimsTaken table sentPacket commitment sends receives
+    writesAcknowledgement acknowledges timesOut makes moves effectOf effectFor placed numberAfter edited applied
+    answerTo effectIn nextStore called aSlice anOpening openings aContext aDigest anAnswer aPacket aBlock aVerdict aSend
+    receiveBy aWrite acknowledgeBy timeoutBy anOutput fresh atTop openingsOn openedStores stores requests calls fold
+    empty aVersion endWith anEndVerdict anOpenInit openTryBy openAcknowledgeBy openConfirmBy storeOf handshakes
+    transfers sliceOfFour closings aCloseInit closeConfirmBy timeoutOnCloseBy blockDifference holding
+    hasZeroTimeoutsAndDigest
 computation = tt

@@ -99,7 +99,7 @@ module _ (start : Side → List ℕ) (cs : List Call) where
   blockOf z v =
       record {
         height = blockHeight v .0;
-        time = blockTime v;
+        time = blockTime v .0;
         holds = claimHolds v (storeIn (storeAfter (isUpTo z (blockHeight v)) (start z) cs));
       }
 
@@ -109,7 +109,7 @@ module _ (start : Side → List ℕ) (cs : List Call) where
         side = c .side;
         accepted = isAccepted c;
         height = heightOf c .0;
-        time = timeOf c;
+        time = timeOf c .0;
         blocks = pick (isAccepted c) (map (blockOf (across (c .side))) (verdictsGot c)) [];
       }
 
@@ -130,8 +130,8 @@ module _ (start : Side → List ℕ) (cs : List Call) where
   true-seen i z v t =
       record {
         closed = λ j e k l. let n = later j e k l in omega arith;
-        notBelow = λ j e k l. let n = leb-true (timeOf e) _ (times j e k true (le-leb _ _ l)) in omega arith;
-        notAbove = λ j e k l. let n = leb-true _ (timeOf e) (times j e k false (lt-leb _ _ l)) in omega arith;
+        notBelow = λ j e k l. let n = leb-true (timeOf e .0) _ (times j e k true (le-leb _ _ l)) in omega arith;
+        notAbove = λ j e k l. let n = leb-true _ (timeOf e .0) (times j e k false (lt-leb _ _ l)) in omega arith;
         holds = and-both (and-both t .0) .0;
       }
     where

@@ -7,7 +7,8 @@ use Rattle.slots.specs.declared.PortChannel.{PortChannel}
 use Rattle.slots.specs.declared.OtherHeight.{OtherHeight}
 use Rattle.slots.specs.declared.Timeout.{Timeout}
 use Rattle.slots.specs.declared.Record.{Record}
-use Rattle.slots.specs.Names.{stateClosed, isPast, UpToOther, BelowOther, channelAt, commitmentKey, lookup, Store}
+use Rattle.slots.specs.Names.{stateClosed, isPast, hasPassed, UpToOther, UpToOtherTime, BelowOther, channelAt}
+use Rattle.slots.specs.Names.{commitmentKey, lookup, Store}
 use Rattle.slots.specs.Names.{isReceived}
 use Rattle.slots.proofs.Laws.{channel-number}
 use Rattle.datagram.specs.declared.Packet.{Packet}
@@ -47,15 +48,16 @@ still-past l n m k h = let a = and-both h in both-and (a .0) (le-leb l m (omega 
 -- a packet that was in time at the receiver was delivered within the block by which it is timed out
 in-block : (c : Call) (u : Timeout) (v : Verdict) → isProvedLate u v ≡ true →
     isLateAtReceiver (datagramGot c .context) u ≡ false →
-    (BelowOther (v .height) (heightOf c) → v .time ≤ timeOf c) → UpToOther (heightOf c) (v .height)
-unfolding isProvedLate isLateAtReceiver
+    (BelowOther (v .block .height) (heightOf c) → UpToOtherTime (v .block .time) (timeOf c)) →
+    UpToOther (heightOf c) (v .block .height)
+unfolding isProvedLate isLateAtReceiver hasPassed
 in-block c u v late early above =
     let n = or-neither early in
-    cases (leb (heightOf c .0) (v .height .0)) (λ q. leb-true _ _ q)
+    cases (leb (heightOf c .0) (v .block .height .0)) (λ q. leb-true _ _ q)
     (λ q.
-    let l = leb-false (heightOf c .0) (v .height .0) q in
-    ⊎-elim (λ p. clash (still-past (u .height) (v .height .0) (heightOf c .0) (omega arith) p) (n .0))
-    (λ p. clash (still-past (u .time) (v .time) (timeOf c) (above l) p) (n .1)) (or-either late))
+    let l = leb-false (heightOf c .0) (v .block .height .0) q in
+    ⊎-elim (λ p. clash (still-past (u .height) (v .block .height .0) (heightOf c .0) (omega arith) p) (n .0))
+    (λ p. clash (still-past (u .time) (v .block .time .0) (timeOf c .0) (above l) p) (n .1)) (or-either late))
 
 timeout-of : {s t : Store} {d : Datagram} (st : Step s d t) → emitsRecord timedOutKind (d .kind) ≡ true →
     TimeoutOk s d (st .channel)
@@ -168,10 +170,10 @@ module _ (w : World) (honest : Honest settling (w .start) (w .calls)) (pairs : P
       (emitsRecord timedOutKind) refl (datagramGot e .kind) (refl, (refl, tt)) (f .emits)) truths
 
   -- the store of the verdict's block: what a verdict of that block claims holds there
-  abbrev b : Within w (c .side) (v .height)
-  b = within w (c .side) (v .height)
+  abbrev b : Within w (c .side) (v .block .height)
+  b = within w (c .side) (v .block .height)
 
-  holds-then : (a : AnyVerdict) → TrueVerdict (w .start) (w .calls) j (c .side) a → blockHeight a ≡ v .height →
+  holds-then : (a : AnyVerdict) → TrueVerdict (w .start) (w .calls) j (c .side) a → blockHeight a ≡ v .block .height →
       claimHolds a (ledger w (c .side) (b .time)) ≡ true
   holds-then a t q =
       subst (λ (h : OtherHeight). claimHolds a (ledger w (c .side) (within w (c .side) h .time)) ≡ true) q
@@ -201,7 +203,7 @@ module _ (w : World) (honest : Honest settling (w .start) (w .calls)) (pairs : P
 
   -- the end that it came to was CLOSED in that block, and stays so: then it was delivered before, while that was OPEN
   not-shut : datagramGot e .kind ≡ some timeOutOnClose → Alike (u .end) (neededPeer stateClosed (st .channel)) →
-      u .height ≡ v .height → ⊥
+      u .block .height ≡ v .block .height → ⊥
   unfolding neededPeer neededEnd body hasPart _or_
   not-shut k shut same =
       let y = claim-end u (ledger w (c .side) (b .time))

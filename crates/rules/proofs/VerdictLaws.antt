@@ -9,10 +9,11 @@ use Rattle.slots.specs.declared.Channel.{Channel}
 use Rattle.slots.specs.declared.Record.{Record}
 use Rattle.slots.specs.Names.{stateInit, channelKind, sameTimeout, samePortChannel, channelAt, commitmentKey}
 use Rattle.slots.specs.Names.{receiptKey, timeoutReceiptKey, lookup, Store}
+use Rattle.datagram.specs.declared.Block.{Block}
 use Rattle.datagram.specs.declared.Verdict.{Verdict}
 use Rattle.datagram.specs.declared.EndVerdict.{EndVerdict}
 use Rattle.datagram.specs.Names.{Claim, commitmentPresent, acknowledgementPresent, receiptAbsent, nextReceiveIs, endIs}
-use Rattle.datagram.specs.Names.{timeoutReceiptPresent, claimNumber, claimOf, AnyVerdict, onPacket, onEnd, blockHeight}
+use Rattle.datagram.specs.Names.{timeoutReceiptPresent, claimNumber, claimOf, onPacket, onEnd}
 use Rattle.rules.specs.Names.{firstDifference, shown, sameButVersion, firstEndDifference, blockDifference}
 use Rattle.rules.specs.Names.{hasVersion, hasValues, isAsStated, holdsOn, endHolds, claimHolds, Peers}
 
@@ -76,11 +77,10 @@ has-values t d (some r) h =
     }
 
 -- two verdicts of one block have its height
-pub one-block : (v w : AnyVerdict) → blockDifference v w ≡ 0 → blockHeight v ≡ blockHeight w
+pub one-block : (a b : Block) → blockDifference a b ≡ 0 → a .height ≡ b .height
 unfolding blockDifference
-one-block v w h =
-    let a = passed _ 145 0 h in
-    let q = eqb-true (blockHeight v .0) (blockHeight w .0) (and-both (a .0) .0) in
+one-block a b h =
+    let q = eqb-true (a .height .0) (b .height .0) (and-both (passed _ 145 0 h .0) .0) in
     λ i. record { 0 = q i }
 
 -- CLAIMS: one that holds is as stated

@@ -3,11 +3,12 @@ use mathlib.Core.Path.{_≡_}
 use mathlib.Core.Bool.{Bool, true}
 use mathlib.Core.List.{List}
 use mathlib.Core.Option.{Option}
-use Prim.Native.Nat.{ℕ, _≤_, _<_}
+use Prim.Native.Nat.{ℕ, _<_}
 use Rattle.wire.specs.Choice.{_and_}
 use Rattle.wire.specs.Bytes.{Every}
 use Rattle.slots.specs.declared.OtherHeight.{OtherHeight}
-use Rattle.slots.specs.Height.{seenAcross, isUpToOther, UpToOther, BelowOther}
+use Rattle.slots.specs.declared.OtherTime.{OtherTime}
+use Rattle.slots.specs.Height.{seenAcross, timeSeenAcross, isUpToOther, UpToOther, BelowOther, UpToOtherTime}
 use Rattle.slots.specs.Layout.{storeIn}
 use Rattle.datagram.specs.Kind.{Kind}
 use Rattle.datagram.specs.Datagram.{AnyVerdict, blockHeight, blockTime, verdictsOf}
@@ -18,12 +19,12 @@ use Rattle.rules.specs.Calls.{Side, across, Call, datagramGot, At, store
 abbrev pub verdictsGot : Call → List AnyVerdict
 verdictsGot c = verdictsOf (datagramGot c)
 
--- its height, as the ledger across sees it, and its time
+-- its height and its time, as the ledger across sees them
 abbrev pub heightOf : Call → OtherHeight
 heightOf c = seenAcross (datagramGot c .context .height)
 
-abbrev pub timeOf : Call → ℕ
-timeOf c = datagramGot c .context .time
+abbrev pub timeOf : Call → OtherTime
+timeOf c = timeSeenAcross (datagramGot c .context .time)
 
 pub record AcceptedOn (z : Side) (cs : List Call) (i : ℕ) (c : Call) : Type 0 where
   pub at : At cs i c
@@ -40,9 +41,9 @@ pub record TrueVerdict (start : Side → List ℕ) (cs : List Call) (i : ℕ) (z
   pub closed : (j : ℕ) (e : Call) → AcceptedOn z cs j e → i < j → BelowOther (blockHeight v) (heightOf e)
   -- the block's time is not below any of theirs, and not above that of any accepted call of greater height
   pub notBelow : (j : ℕ) (e : Call) → AcceptedOn z cs j e → UpToOther (heightOf e) (blockHeight v) →
-      timeOf e ≤ blockTime v
+      UpToOtherTime (timeOf e) (blockTime v)
   pub notAbove : (j : ℕ) (e : Call) → AcceptedOn z cs j e → BelowOther (blockHeight v) (heightOf e) →
-      blockTime v ≤ timeOf e
+      UpToOtherTime (blockTime v) (timeOf e)
   -- the claim holds after the accepted calls up to that height
   pub holds : claimHolds v (storeIn (storeAfter (isUpTo z (blockHeight v)) (start z) cs)) ≡ true
 

@@ -12,6 +12,7 @@ use Rattle.wire.specs.Bytes.{Bytes, little, part, patch, digestSize}
 use Rattle.wire.proofs.BytesLaws.{length-little, length-part}
 use Rattle.wire.proofs.PatchLaws.{patch-behind, patch-middle}
 use Rattle.slots.specs.declared.OwnHeight.{OwnHeight}
+use Rattle.slots.specs.declared.OwnTime.{OwnTime}
 use Rattle.slots.specs.declared.Channel.{Channel}
 use Rattle.slots.specs.declared.Record.{Record}
 use Rattle.slots.specs.Limits.{channelLimit, versionSize}
@@ -27,10 +28,10 @@ use Rattle.slots.proofs.TableBytesLaws.{each-drop, SlotsSized, patch-sl
 
 -- THE WHOLE
 abbrev headerOf : Store → List ℕ
-headerOf s = headerBytes (s .height .0) (s .time) (length (s .records)) (s .next)
+headerOf s = headerBytes (s .height .0) (s .time .0) (length (s .records)) (s .next)
 
 header-size : (s : Store) → length (headerOf s) ≡ headerSize
-header-size s = length-header (s .height .0) (s .time) (length (s .records)) (s .next)
+header-size s = length-header (s .height .0) (s .time .0) (length (s .records)) (s .next)
 
 -- the sizes that its parts have
 pub record Sizes (s : Store) : Type 0 where
@@ -105,11 +106,11 @@ module _ (s : Store) where
   front : List ℕ
   front = little 4 (sizeFor (length (s .records))) ++ (little 2 storeKind ++ little 2 channelLimit)
 
-  times : OwnHeight → (time : ℕ) → List ℕ
-  times h t = little 8 (h .0) ++ little 8 t
+  times : OwnHeight → OwnTime → List ℕ
+  times h t = little 8 (h .0) ++ little 8 (t .0)
 
-  pub patch-times : (h : OwnHeight) (t : ℕ) →
-      patch 8 (little 8 (h .0) ++ little 8 t) (bytesOf s) ≡ bytesOf (withTimes s h t)
+  pub patch-times : (h : OwnHeight) (t : OwnTime) →
+      patch 8 (little 8 (h .0) ++ little 8 (t .0)) (bytesOf s) ≡ bytesOf (withTimes s h t)
   unfolding bytesOf headerBytes tables front times
   patch-times h t =
       let rest : List ℕ = little 4 (length (s .records)) ++ (little 8 (s .next) ++ (replicate 28 0 ++ tables)) in
@@ -150,8 +151,8 @@ module _ (bs : List ℕ) (exact : Exact bs) where
       patch i new bs ≡ bytesOf s
   exact-so i new s p = ap (patch i new) (sym (exact .laid)) ∙ p
 
-  pub exact-times : (h : OwnHeight) (t : ℕ) →
-      patch 8 (little 8 (h .0) ++ little 8 t) bs ≡ bytesOf (withTimes (storeIn bs) h t)
+  pub exact-times : (h : OwnHeight) (t : OwnTime) →
+      patch 8 (little 8 (h .0) ++ little 8 (t .0)) bs ≡ bytesOf (withTimes (storeIn bs) h t)
   exact-times h t = exact-so 8 _ _ (patch-times (storeIn bs) h t)
 
   pub exact-next : (n : ℕ) → patch 28 (little 8 n) bs ≡ bytesOf (withNext (storeIn bs) n)

@@ -9,6 +9,7 @@ use lib.ListN.{length, length-set}
 use Rattle.wire.proofs.ChoiceLaws.{and-both}
 use Rattle.wire.proofs.BytesLaws.{same-eq}
 use Rattle.slots.specs.declared.OwnHeight.{OwnHeight}
+use Rattle.slots.specs.declared.OwnTime.{OwnTime}
 use Rattle.slots.specs.declared.Channel.{Channel}
 use Rattle.slots.specs.declared.Record.{Record}
 use Rattle.slots.specs.Layout.{Store, bytesOf, storeIn}
@@ -50,7 +51,7 @@ module _ {s : Store} {bs : List ℕ} (h : Held s bs) (next : List ℕ) where
   held-after : (g : Store → Store) → StoreFields (g s) → next ≡ bytesOf (g (storeIn bs)) → Held (g s) next
   held-after g f e = record { bytes = e ∙ ap (λ (u : Store). bytesOf (g u)) (held-store h); fields = f }
 
-  pub held-times : (k : OwnHeight) (t : ℕ) → k .0 < 256 ^ 8 → t < 256 ^ 8 →
+  pub held-times : (k : OwnHeight) (t : OwnTime) → k .0 < 256 ^ 8 → t .0 < 256 ^ 8 →
       next ≡ bytesOf (withTimes (storeIn bs) k t) → Held (withTimes s k t) next
   held-times k t p q e =
       let f = h .fields in

@@ -9,10 +9,10 @@ use Rattle.slots.specs.declared.Timeout.{Timeout}
 use Rattle.slots.specs.declared.Counters.{Counters}
 use Rattle.slots.specs.declared.Channel.{Channel}
 use Rattle.slots.specs.declared.Record.{Record}
-use Rattle.slots.specs.Names.{channelLimit, recordLimit, versionSize, ownHeight, Store, headerSize, slotSize}
+use Rattle.slots.specs.Names.{channelLimit, recordLimit, versionSize, ownHeight, ownTime, Store, headerSize}
 use Rattle.slots.specs.Names.{recordsFrom, sizeFor, roomIn, channelBytes, recordBytes, slotBytes, tableBytes}
 use Rattle.slots.specs.Names.{headerBytes, bytesOf, channelIn, recordIn, slotIn, tableIn, storeIn, commitmentKind}
-use Rattle.slots.specs.Names.{timeoutReceiptKind}
+use Rattle.slots.specs.Names.{slotSize, timeoutReceiptKind}
 use Rattle.slots.proofs.TableLaws.{Each, each-map}
 
 -- BOUNDS: each number fits its field
@@ -49,7 +49,7 @@ pub record RecordFields (r : Record) : Type 0 where
 
 pub record StoreFields (s : Store) : Type 0 where
   pub height : s .height .0 < 256 ^ 8
-  pub time : s .time < 256 ^ 8
+  pub time : s .time .0 < 256 ^ 8
   pub next : s .next < 256 ^ 8
   pub slots : length (s .channels) ≡ channelLimit
   pub low : 1 ≤ length (s .records)
@@ -209,7 +209,7 @@ module _ (s : Store) (ok : StoreFields s) where
   read-back = λ i.
       record {
         height = ownHeight (read-little 8 (s .height .0) (ok .height) i);
-        time = read-little 8 (s .time) (ok .time) i;
+        time = ownTime (read-little 8 (s .time .0) (ok .time) i);
         next = read-little 8 (s .next) (ok .next) i;
         channels = channels i;
         records = records i;

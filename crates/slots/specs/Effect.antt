@@ -7,6 +7,7 @@ use mathlib.Core.Option.{Option, none, some}
 use Prim.Native.Nat.{ℕ, suc, _+_}
 use lib.ListN.{length, take, drop, set}
 use Rattle.slots.specs.declared.OwnHeight.{OwnHeight}
+use Rattle.slots.specs.declared.OwnTime.{OwnTime}
 use Rattle.slots.specs.declared.Channel.{Channel}
 use Rattle.slots.specs.declared.Record.{Record}
 use Rattle.slots.specs.Layout.{Store, bytesOf, storeIn}
@@ -17,7 +18,7 @@ pub record Exact (bs : List ℕ) : Type 0 where
   pub size : sizeFits (length bs) ≡ true
   pub laid : bytesOf (storeIn bs) ≡ bs
 
-abbrev pub withTimes : Store → OwnHeight → (time : ℕ) → Store
+abbrev pub withTimes : Store → OwnHeight → OwnTime → Store
 withTimes s h t =
     record { height = h; time = t; next = s .next; channels = s .channels; records = s .records }
 

@@ -6,17 +6,18 @@ use lib.ListN.{length, getD, drop, replicate}
 use Rattle.wire.specs.Choice.{pick}
 use Rattle.wire.specs.Bytes.{areZero, little, part, field, pieces, digestSize}
 use Rattle.slots.specs.declared.OwnHeight.{OwnHeight}
+use Rattle.slots.specs.declared.OwnTime.{OwnTime}
 use Rattle.slots.specs.declared.Channel.{Channel}
 use Rattle.slots.specs.declared.Record.{Record}
 use Rattle.slots.specs.Limits.{channelLimit, versionSize}
 use Rattle.slots.specs.Codes.{storeKind, channelKind}
-use Rattle.slots.specs.Height.{ownHeight}
+use Rattle.slots.specs.Height.{ownHeight, ownTime}
 use Rattle.slots.specs.Part.{portChannelIn, timeoutIn}
 
 -- what a store says: last height and time, the next channel number, and the slots of its two tables
 pub record Store : Type 0 where
   pub height : OwnHeight
-  pub time : ℕ
+  pub time : OwnTime
   pub next : ℕ
   pub channels : List (Option Channel)
   pub records : List (Option Record)
@@ -65,7 +66,7 @@ headerBytes h t n m =
 
 unfoldable pub bytesOf : Store → List ℕ
 bytesOf s =
-    headerBytes (s .height .0) (s .time) (length (s .records)) (s .next) ++
+    headerBytes (s .height .0) (s .time .0) (length (s .records)) (s .next) ++
     (tableBytes channelBytes (s .channels) ++ tableBytes recordBytes (s .records))
 
 -- READ
@@ -100,7 +101,7 @@ unfoldable pub storeIn : List ℕ → Store
 storeIn bs =
     record {
       height = ownHeight (field 8 8 bs);
-      time = field 16 8 bs;
+      time = ownTime (field 16 8 bs);
       next = field 28 8 bs;
       channels = tableIn channelIn channelLimit (drop headerSize bs);
       records = tableIn recordIn (roomIn (length bs)) (drop recordsFrom bs);

@@ -27,10 +27,14 @@ impl Layout {
     pub const RECORDS_FROM: usize = Layout::HEADER + Layout::SLOT * Layout::CHANNELS;
 }
 
-// A height of this ledger, and a height of the other one. Neither can stand where the other is meant.
+// A height and a time of this ledger, and of the other one. None can stand where another is meant.
 pub struct OwnHeight(pub u64);
 
+pub struct OwnTime(pub u64);
+
 pub struct OtherHeight(pub u64);
+
+pub struct OtherTime(pub u64);
 
 // A port and a channel of it.
 pub struct PortChannel {
@@ -38,7 +42,7 @@ pub struct PortChannel {
     pub channel: u32,
 }
 
-// A packet's timeouts, 0 for none. Whose height the first one is depends on who asks: specs/Height.antt.
+// A packet's timeouts, 0 for none. Whose height and time they are depends on who asks: specs/Height.antt.
 pub struct Timeout {
     pub height: u64,
     pub time: u64,

@@ -37,22 +37,22 @@ end-alike s t r (some c) h = rw (received-alike (s .records) (t .records) c (r .
 module _ (s : Store) where
   before : List ℕ
   before =
-      headerBytes (s .height .0) (s .time) (length (s .records)) (s .next) ++ tableBytes channelBytes (s .channels)
+      headerBytes (s .height .0) (s .time .0) (length (s .records)) (s .next) ++ tableBytes channelBytes (s .channels)
 
   split : bytesOf s ≡ before ++ tableBytes recordBytes (s .records)
   unfolding before bytesOf
   split =
-      sym (append-assoc (headerBytes (s .height .0) (s .time) (length (s .records)) (s .next))
+      sym (append-assoc (headerBytes (s .height .0) (s .time .0) (length (s .records)) (s .next))
       (tableBytes channelBytes (s .channels)) (tableBytes recordBytes (s .records)))
 
   before-size : StoreFields s → length before ≡ recordsFrom
   unfolding before
   before-size f =
       let sized = each-map (λ c k. length-channel c (k .size)) (s .channels) (f .channels) in
-      length-append (headerBytes (s .height .0) (s .time) (length (s .records)) (s .next)) _ ∙
+      length-append (headerBytes (s .height .0) (s .time .0) (length (s .records)) (s .next)) _ ∙
       omega (
         arith,
-        length-header (s .height .0) (s .time) (length (s .records)) (s .next),
+        length-header (s .height .0) (s .time .0) (length (s .records)) (s .next),
         length-table channelBytes (s .channels) sized,
         f .slots,
       )

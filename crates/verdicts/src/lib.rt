@@ -1,18 +1,17 @@
 // Line 14, a verdict against what is needed of it: the number of the part that differs first, 0 where none does. And of
 // line 15, what a verdict says of the packet's turn.
+use datagram::Block;
 use datagram::Packet;
 use datagram::Verdict;
 use heights::no_timeout;
 use heights::same_timeout;
 use ordering::absence_claim;
 use slots::Channel;
-use slots::OtherHeight;
 use slots::PortChannel;
 use slots::Timeout;
 use wire::same_digest;
 ghost use mathlib.Core.Path.{_≡_};
 ghost use Rattle.wire.specs.Choice.{pick};
-ghost use Rattle.datagram.specs.Datagram.{AnyVerdict, blockHeight, blockTime};
 ghost use Rattle.rules.specs.Verdict.{firstDifference, blockDifference};
 ghost use Rattle.rules.specs.Refusals.{commitmentDifference, acknowledgementDifference, claimsNext, absenceDifference};
 ghost use Rattle.rules.specs.Refusals.{claimsTaken};
@@ -97,14 +96,15 @@ pub fn claims_taken(v: Verdict, sequence: u64) -> bool
     (v.claim == Verdict::NEXT_RECEIVE_IS) & (sequence < v.sequence)
 }
 
-// For 12: 146 where two verdicts, each of a height and a time, are not of one block of the other ledger.
-pub fn block_difference(height: OtherHeight, time: u64, other: OtherHeight, other_time: u64) -> u8
-    ensures { λ r. ⌜
-        ((v w : AnyVerdict) → blockHeight v ≡ height → blockTime v ≡ time → blockHeight w ≡ other →
-        blockTime w ≡ «other_time» → r ≡ blockDifference v w)
-        ⌝ }
+// For 12: 146 where the blocks of two verdicts are not one.
+pub fn block_difference(a: Block, b: Block) -> u8
+    ensures { λ r. ⌜ r ≡ blockDifference a b ⌝ }
 {
-    if (height.0 == other.0) & (time == other_time) {
+    let height = a.height;
+    let time = a.time;
+    let other = b.height;
+    let other_time = b.time;
+    if (height.0 == other.0) & (time.0 == other_time.0) {
         return 0;
     }
     146

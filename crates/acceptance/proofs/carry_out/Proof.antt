@@ -33,7 +33,7 @@ end-fields o =
       bytes = bytes-array (o .args .p .decision .end .version) (λ i. search (needs, g));
     }
 
-times : (o : tie.Start) → (o .args .p .context .height .0 < 256 ^ 8) × (o .args .p .context .time < 256 ^ 8)
+times : (o : tie.Start) → (o .args .p .context .height .0 < 256 ^ 8) × (o .args .p .context .time .0 < 256 ^ 8)
 times o = (omega arith, omega arith)
 
 number : (o : tie.Start) → o .args .p .next < 256 ^ 8
@@ -62,7 +62,7 @@ held f =
     }
 
 abbrev first : tie.After-set-times → tie.After-slice-known
-first t = t .before .before .before
+first t = t .before .before .before .before
 
 timed-held : (t : tie.After-set-times) → Held (timed (first t .before)) (t .set-times .last .0)
 timed-held t =
@@ -138,5 +138,5 @@ pub carry-out-spec : {M : Type 1} → statement M
 carry-out-spec =
     tie.close
     (tie.spec
-    (λ c κs. fit-exact (now (c .before .before .before .args .store)) (c .before .before .before .pre .0))
+    (λ c κs. let o = c .before .before .before .before in fit-exact (now (o .args .store)) (o .pre .0))
     set-next-requires put-end-requires edit-records-requires (λ c. search needs) returns)

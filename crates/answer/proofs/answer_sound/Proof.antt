@@ -12,7 +12,7 @@ use borrow.Author.Tests.{eqb-true}
 use Rattle.wire.specs.Choice.{_or_, withNumber}
 use Rattle.wire.proofs.ChoiceLaws.{cases}
 use Rattle.slots.specs.declared.Channel.{Channel}
-use Rattle.slots.specs.Height.{ownHeight}
+use Rattle.slots.specs.Height.{ownHeight, ownTime}
 use Rattle.slots.specs.Layout.{slotSize, recordsFrom, roomIn, Store, storeIn}
 use Rattle.slots.proofs.FitLaws.{Sized, fits-size}
 use Rattle.slots.proofs.FitRecordLaws.{fit-in-order}
@@ -56,7 +56,7 @@ clock k =
     let height = k .before .before in
     rw (← height .before .context-in .ensures)
     (k .goes-back .ensures (storeIn (bytes (start k))) (ap ownHeight (sym (height .u64-at .ensures)))
-    (sym (k .before .u64-at2 .ensures)))
+    (ap ownTime (sym (k .before .u64-at2 .ensures))))
 
 context-in-requires : tie.Need-context-in-requires
 context-in-requires c κs = body (c .before .before)

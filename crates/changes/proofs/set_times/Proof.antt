@@ -16,7 +16,7 @@ returns c =
     let o = first .before .before .before in
     let a = o .args in
     let h = a .height .0 in
-    let both = patch-then 8 8 (little 8 h) (little 8 (a .time)) (now (a .s)) (length-little 8 h) in
+    let both = patch-then 8 8 (little 8 h) (little 8 (a .time .0)) (now (a .s)) (length-little 8 h) in
     rw (second .put-u642 .ensures, first .put-u64 .ensures, both)
     (exact-times (now (a .s)) (o .pre) (a .height) (a .time))
 

@@ -10,8 +10,8 @@ use Rattle.slots.specs.declared.Channel.{Channel}
 use Rattle.slots.specs.Codes.{stateClosed}
 use Rattle.slots.specs.Layout.{Store}
 use Rattle.datagram.specs.Kind.{only, timeOut, timeOutOnClose}
-use Rattle.datagram.specs.Datagram.{Datagram, onPacket, onEnd}
-use Rattle.rules.specs.Verdict.{firstEndDifference, blockDifference, hasVersion}
+use Rattle.datagram.specs.Datagram.{Datagram}
+use Rattle.rules.specs.Verdict.{firstEndDifference, hasVersion}
 use Rattle.rules.specs.Ordering.{timesOutInOrder, isTimeoutAtTop}
 use Rattle.rules.specs.Handshake.{neededPeer}
 use Rattle.rules.specs.Refusals.{claimsTaken, firstGiven, table}
@@ -30,20 +30,13 @@ Left n o =
     (s : Store) (d : Datagram) → Has o d →
     numberBehind 13 (some timeOutOnClose) s d (o .args .c) ≡ numberBehind n (some timeOutOnClose) s d (o .args .c)
 
--- WHAT LINE 14 GIVES of the end verdict, and of both blocks
+-- WHAT LINE 14 GIVES of the end verdict
 end-number : (k : tie.After-end-difference) →
     let a = k .before .before .args in
     k .end-difference .result ≡ firstEndDifference (a .v) (neededPeer stateClosed (a .c))
 end-number k =
     k .end-difference .ensures ∙
     ap (firstEndDifference (k .before .before .args .v)) (k .before .needed-peer .ensures)
-
-block-number : (k : tie.After-block-difference) →
-    let a = k .before .before .before .before .before .before .args in
-    k .block-difference .result ≡ blockDifference (onEnd (a .v)) (onPacket (a .w))
-block-number k =
-    let a = k .before .before .before .before .before .before .args in
-    k .block-difference .ensures (onEnd (a .v)) (onPacket (a .w)) refl refl refl refl
 
 returns : tie.Need-returns
 unfolding numberBehind behind table firstGiven only _or_
@@ -63,7 +56,7 @@ unfolding numberBehind behind table firstGiven only _or_
 returns-3 c =
     let e2 = c .before .before in
     let e1 = e2 .before .before in
-    let n = block-number (c .before) in
+    let n = c .before .block-difference .ensures in
     λ s d p v w. rw (
       p,
       v,
@@ -85,7 +78,7 @@ past-14 e s d h =
       h .2,
       is-zero (end-number (e1 .before)) (e1 .if1 .left),
       is-zero (e2 .before .absence-difference .ensures) (e2 .if2 .left),
-      is-zero (block-number (e .before)) (e .if3 .left),
+      is-zero (e .before .block-difference .ensures) (e .if3 .left),
     )
 
 -- THE LINES BEHIND: those of a time-out, and then the last

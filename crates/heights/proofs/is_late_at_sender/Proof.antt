@@ -6,10 +6,8 @@ use Rattle.heights.proofs.is_late_at_sender.Tie as tie
 
 returns : tie.Need-returns
 unfolding isLateAtSender
-returns c = rw (c .is-past-other .ensures, c .before .height-at-sender .ensures)
+returns c = c .is-past .ensures
 
 pub is-late-at-sender-spec : {M : Type 1} → statement M
 is-late-at-sender-spec =
-    tie.close
-    (tie.spec
-    (λ c κs. search needs) (λ c κs. search needs) returns)
+    tie.close (tie.spec (λ c κs. search needs) returns)

@@ -6,11 +6,11 @@ use Rattle.verdicts.proofs.block_difference.Tie as tie
 
 returns : tie.Need-returns
 unfolding blockDifference _and_
-returns c = λ v w h t i u. rw (h, t, i, u, c .if1 .taken)
+returns c = rw (c .if1 .taken)
 
 returns-2 : tie.Need-returns-2
 unfolding blockDifference _and_
-returns-2 c = λ v w h t i u. rw (h, t, i, u, c .if1 .left)
+returns-2 c = rw (c .if1 .left)
 
 pub block-difference-spec : {M : Type 1} → statement M
 block-difference-spec = tie.close (tie.spec returns returns-2)

@@ -13,7 +13,7 @@ returns c =
     let time = c .before .before .before in
     λ i. record {
       height = record { 0 = time .before .u64-at .ensures i };
-      time = time .u64-at2 .ensures i;
+      time = record { 0 = time .u64-at2 .ensures i };
       client = record { 0 = c .before .before .u64-at3 .ensures i };
       port = c .before .u16-at .ensures i;
       connected = eqb (getD (now (time .before .before .before .args .d)) 32 0) 1;

@@ -8,11 +8,10 @@ returns : tie.Need-returns
 unfolding endVerdictIn
 returns c =
     let kind = c .before in
-    let time = kind .before in
+    let block = kind .before in
     λ i. record {
-      claim = time .before .before .u16-at .ensures i;
-      height = record { 0 = time .before .u64-at .ensures i };
-      time = time .u64-at2 .ensures i;
+      claim = block .before .u16-at .ensures i;
+      block = block .block-at .ensures i;
       kind = kind .u16-at2 .ensures i;
       end = c .channel-at .ensures i;
     }
@@ -22,4 +21,4 @@ end-verdict-at-spec =
     tie.close
     (tie.spec
     (λ c κs. search needs) (λ c. search needs) (λ c κs. search needs) (λ c. search needs) (λ c κs. search needs)
-    (λ c. search needs) (λ c κs. search needs) (λ c. search needs) (λ c κs. search needs) returns)
+    (λ c. search needs) (λ c κs. search needs) returns)

@@ -8,13 +8,12 @@ returns : tie.Need-returns
 unfolding verdictIn
 returns c =
     let about = c .before .before .before in
-    let time = about .before in
+    let block = about .before in
     λ i. record {
-      claim = time .before .before .u16-at .ensures i;
-      height = record { 0 = time .before .u64-at .ensures i };
-      time = time .u64-at2 .ensures i;
+      claim = block .before .u16-at .ensures i;
+      block = block .block-at .ensures i;
       about = about .port-channel-at .ensures i;
-      sequence = c .before .before .u64-at3 .ensures i;
+      sequence = c .before .before .u64-at .ensures i;
       timeout = c .before .timeout-at .ensures i;
       digest = c .digest-at .ensures i;
     }
@@ -25,4 +24,4 @@ verdict-at-spec =
     (tie.spec
     (λ c κs. search needs) (λ c. search needs) (λ c κs. search needs) (λ c. search needs) (λ c κs. search needs)
     (λ c. search needs) (λ c κs. search needs) (λ c. search needs) (λ c κs. search needs) (λ c. search needs)
-    (λ c κs. search needs) (λ c. search needs) (λ c κs. search needs) returns)
+    (λ c κs. search needs) returns)
