@@ -38,7 +38,7 @@ contextIn d =
     record {
       height = ownHeight (field 6 8 d);
       time = ownTime (field 14 8 d);
-      client = otherHeight (field 22 8 d);
+      client = record { height = otherHeight (field 22 8 d); time = otherTime (field 38 8 d) };
       port = field 30 2 d;
       connected = eqb (getD d 32 0) 1;
     }

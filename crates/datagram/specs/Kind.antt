@@ -51,7 +51,7 @@ only (j ∷ js) k = isOf j k or only js k
 
 -- SIZES, each stated once
 abbrev pub contextSize : ℕ
-contextSize = 32
+contextSize = 40
 
 abbrev pub packetSize : ℕ
 packetSize = 68

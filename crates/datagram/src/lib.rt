@@ -16,12 +16,12 @@ pub struct Block {
     pub time: OtherTime,
 }
 
-// What the host says of the call: this ledger's height and time, the client's latest height of the other ledger,
-// the caller's port, and whether the connection is open.
+// What the host says of the call: this ledger's height and time, the latest block of the other ledger that the client
+// knows, the caller's port, and whether the connection is open.
 pub struct Context {
     pub height: OwnHeight,
     pub time: OwnTime,
-    pub client: OtherHeight,
+    pub client: Block,
     pub port: u16,
     pub connected: bool,
 }

@@ -8,7 +8,7 @@ ghost use mathlib.Core.Bool.{true};
 ghost use Rattle.datagram.specs.Kind.{kindOf, digestPart, verdictPart, counterpartyPart, orderPart};
 ghost use Rattle.datagram.specs.Kind.{endVerdictPart, versionPart, bodyOf, hasPart, placeOf};
 
-const CONTEXT: usize = 32;
+const CONTEXT: usize = 40;
 
 pub const BODY: usize = FRAME + CONTEXT;
 

@@ -38,6 +38,7 @@ ghost use Rattle.datagram.specs.Datagram.{kindIn, contextIn, packetIn, b
 ghost use Rattle.datagram.specs.Datagram.{digestFrom, verdictFrom, endVerdictFrom, counterpartyFrom, orderFrom};
 ghost use Rattle.datagram.specs.Datagram.{channelFrom};
 
+// The client's time stands apart from its height, at the end.
 pub fn context_in(d: &[u8]) -> Context
     requires { ⌜ bodyFrom ≤ length (now d) ⌝ }
     ensures { λ r. ⌜ r ≡ contextIn (now (d .entry)) ⌝ }
@@ -45,7 +46,10 @@ pub fn context_in(d: &[u8]) -> Context
     Context {
         height: OwnHeight(u64_at(d, FRAME)),
         time: OwnTime(u64_at(d, FRAME + 8)),
-        client: OtherHeight(u64_at(d, FRAME + 16)),
+        client: Block {
+            height: OtherHeight(u64_at(d, FRAME + 16)),
+            time: OtherTime(u64_at(d, FRAME + 32)),
+        },
         port: u16_at(d, FRAME + 24),
         connected: d[FRAME + 26] == 1,
     }

@@ -71,12 +71,13 @@ pub fn goes_back(last: OwnHeight, last_time: OwnTime, x: Context) -> bool
     time.0 != last_time.0
 }
 
-// 11, at the sender: by the client's height of the other ledger.
+// 11, at the sender: by the client's height or time of the other ledger.
 pub fn is_late_at_sender(x: Context, t: Timeout) -> bool
     ensures { λ r. ⌜ r ≡ isLateAtSender x t ⌝ }
 {
-    let client = x.client;
-    is_past(t.height, client.0)
+    let height = x.client.height;
+    let time = x.client.time;
+    has_passed(t, height.0, time.0)
 }
 
 // 11, at the receiver: by its own height or time.

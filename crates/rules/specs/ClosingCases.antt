@@ -6,8 +6,8 @@
 use mathlib.Core.Path.{_≡_}
 use mathlib.Core.Bool.{Bool, true, false}
 use mathlib.Core.List.{List, [], _∷_, _++_, map}
-use Prim.Native.Nat.{ℕ}
-use lib.ListN.{replicate, take, drop, set}
+use Prim.Native.Nat.{ℕ, _+_}
+use lib.ListN.{replicate, drop, set}
 use Rattle.wire.specs.Bytes.{little, noDigest}
 use Rattle.slots.specs.Limits.{top}
 use Rattle.slots.specs.Layout.{storeIn}
@@ -22,7 +22,7 @@ use Rattle.rules.specs.Examples.{anOpening, aSlice, aContext, aDigest, a
 use Rattle.rules.specs.Examples.{aVersion, endWith, anEndVerdict, aSend, receiveOf, timeoutBy, aCloseInit}
 use Rattle.rules.specs.Examples.{closeConfirmBy, closeConfirmOf, timeoutOnCloseBy, timeoutOnCloseOf, anOutput}
 use Rattle.rules.specs.Cases.{usual, toNine, toTen, anAcknowledge, aTimeout, ofEachKind, fresh, ready, after}
-use Rattle.rules.specs.Cases.{numbersFrom}
+use Rattle.rules.specs.Cases.{notZero, numbersFrom}
 use Rattle.rules.specs.HandshakeCases.{storeOf, version, inEachState, unchanged, otherVersion, blockPlaces}
 use Rattle.rules.specs.HandshakeCases.{recordPlaces, versionPlaces, shorter, longer, answered}
 
@@ -119,11 +119,14 @@ packetsBy f = map f (timeouts usual unchanged unchanged)
 abbrev pub numbersOf : (ℕ → List (List ℕ)) → List ℕ → List (List ℕ)
 numbersOf ds ns = map (numbersFrom (sent 3 3)) (map ds ns)
 
--- the first and the last byte of a packet's parts in its datagram: sequence, timeouts, source port and channel,
--- destination port and channel, digest
+-- a place in a datagram by its place in the packet; and the first and the last byte of a packet's parts: sequence,
+-- timeouts, source port and channel, destination port and channel, digest
+abbrev pub inPacket : (place : ℕ) → ℕ
+inPacket i = 46 + i
+
 abbrev pub packetPlaces : List ℕ
 packetPlaces =
-    38 ∷ 45 ∷ 46 ∷ 53 ∷ 54 ∷ 61 ∷ 62 ∷ 63 ∷ 64 ∷ 67 ∷ 68 ∷ 69 ∷ 70 ∷ 73 ∷ 74 ∷ 105 ∷ []
+    map inPacket (0 ∷ 7 ∷ 8 ∷ 15 ∷ 16 ∷ 23 ∷ 24 ∷ 25 ∷ 26 ∷ 29 ∷ 30 ∷ 31 ∷ 32 ∷ 35 ∷ 36 ∷ 67 ∷ [])
 
 -- the other end is OPEN, with another version; and the number claimed is above the packet's sequence
 abbrev pub openEnd : List ℕ → List ℕ
@@ -137,8 +140,8 @@ above v = byteAt 24 3 v
 abbrev pub malformedClosings : List (List ℕ)
 malformedClosings =
     map (λ d. d ++ (1 ∷ [])) (closings usual) ++ map shorter (closings usual) ++ map longer (closings usual) ++
-    closings (take 31 usual ++ (1 ∷ [])) ++ closings (aContext 100 1000 5 2) ++ closings (aContext 0 1000 5 1) ++
-    map (byteAt 38 0) (timeouts usual unchanged unchanged)
+    closings notZero ++ closings (aContext 100 1000 5 2) ++ closings (aContext 0 1000 5 1) ++
+    map (byteAt (inPacket 0) 0) (timeouts usual unchanged unchanged)
 
 -- STRANDED: port 5 sent packet 1 on 7 and on 8 and then closed both. Across it was received on both, which closed since
 abbrev pub stranded : List ℕ
@@ -223,13 +226,13 @@ pub record ClosingCases : Type 0 where
   -- 26, line 14's and 27, 15 and 27, 26 and 27
   pub portOrConnection : numbersFrom (sent 3 3) (closings (aContext 100 1000 6 0)) ≡ replicate 6 7
   pub portOrPacket : numbersFrom (sent 3 3)
-      (map (byteAt 68 4) (timeouts (aContext 100 1000 6 1) unchanged unchanged)) ≡ replicate 2 7
+      (map (byteAt (inPacket 30) 4) (timeouts (aContext 100 1000 6 1) unchanged unchanged)) ≡ replicate 2 7
   pub connectionOrVerdict : numbersFrom (sent 3 3) (confirms (aContext 100 1000 5 0) openEnd) ≡ replicate 2 8
   pub connectionOrState : numbersFrom (sent 4 4)
       (inits (aContext 100 1000 5 0) ++ confirms (aContext 100 1000 5 0) unchanged) ≡ replicate 4 8
-  pub packetOrCommitment : numbersFrom (sent 3 3) (packetsBy (λ d. byteAt 68 4 (byteAt 38 1 d))) ≡ replicate 2 9
+  pub packetOrCommitment : numbersFrom (sent 3 3) (packetsBy (λ d. byteAt (inPacket 30) 4 (byteAt (inPacket 0) 1 d))) ≡ replicate 2 9
   pub commitmentOrVerdict : numbersFrom (sent 3 3)
-      (map (byteAt 38 1)
+      (map (byteAt (inPacket 0) 1)
       (timeouts usual openEnd unchanged ++ verdictsBy (byteAt 18 4) ++ verdictsBy (byteAt 2 4))) ≡
       replicate 6 13
   pub verdictOrOrder : numbersFrom (sent 3 3)

@@ -26,9 +26,9 @@ openings = anOpening 5 7 6 9 1 ++ anOpening 5 8 6 10 2
 unfoldable pub empty : List ℕ
 empty = makeStore aSlice []
 
--- PARTS OF DATAGRAMS
+-- PARTS OF DATAGRAMS: the client's height is 50, and its time 0
 unfoldable pub aContext : (height time port connection : ℕ) → List ℕ
-aContext h t p k = little 8 h ++ little 8 t ++ little 8 50 ++ little 2 p ++ (k ∷ replicate 5 0)
+aContext h t p k = little 8 h ++ little 8 t ++ little 8 50 ++ little 2 p ++ (k ∷ replicate 5 0) ++ little 8 0
 
 -- the digest of a packet's data, and that of an acknowledgement
 unfoldable pub aDigest : List ℕ

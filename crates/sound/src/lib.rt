@@ -68,7 +68,7 @@ fn is_sized(kind: u16, size: usize) -> bool
     }
 }
 
-// The context's last word is the port, the connection's state, 0 or 1, and five zero bytes: below 2 times 2^16.
+// A word of the context is the port, the connection's state, 0 or 1, and five zero bytes: below 2 times 2^16.
 fn is_context_sound(d: &[u8]) -> bool
     requires { ⌜ bodyFrom ≤ length (now d) ⌝ }
     ensures { λ r. ⌜ r ≡ isContextSound (now (d .entry)) ⌝ }
