@@ -189,8 +189,8 @@ impl History {
 
     fn context(&mut self, at: usize, port: u16) -> Context {
         let (height, time) = self.ledgers[at].next_moment(&mut self.rng);
-        let known = self.ledgers[1 - at].now().0;
-        Context { height, time, client_height: self.rng.between(0, known), port, connection: 1 }
+        let (client_height, client_time) = self.ledgers[1 - at].known(&mut self.rng);
+        Context { height, time, client_height, client_time, port, connection: 1 }
     }
 
     /// An end of this store: mostly one that is wanted, and else any.

@@ -114,7 +114,7 @@ fn wrong_length(rng: &mut Rng, bytes: &mut Vec<u8>) -> Option<()> {
 }
 
 fn zero_byte(rng: &mut Rng, bytes: &mut Vec<u8>) -> Option<()> {
-    flip(rng, bytes, frame::BODY + context::ZEROS, context::LENGTH - context::ZEROS)
+    flip(rng, bytes, frame::BODY + context::ZEROS, context::CLIENT_TIME - context::ZEROS)
 }
 
 fn connection(rng: &mut Rng, bytes: &mut Vec<u8>) -> Option<()> {
@@ -174,7 +174,7 @@ pub fn garbage(rng: &mut Rng) -> Vec<u8> {
     }
     if length >= frame::BODY + context::LENGTH && !rng.one_in(3) {
         bytes[frame::BODY + context::CONNECTION] = rng.below(2) as u8;
-        bytes[frame::BODY + context::ZEROS..frame::BODY + context::LENGTH].fill(0);
+        bytes[frame::BODY + context::ZEROS..frame::BODY + context::CLIENT_TIME].fill(0);
     }
     let order = frame::BODY + context::LENGTH + open_init::ORDER;
     if kind == OPEN_INIT && length > order && rng.one_in(2) {
