@@ -95,7 +95,8 @@ fn wrong_length(rng: &mut Rng, bytes: &mut Vec<u8>) -> Option<()> {
         0 => {
             let whole = length_of(kind)?;
             let any = 6 + rng.index(whole - 6);
-            bytes.truncate(rng.pick(&[whole - 1, any]));
+            // One byte less, or as many as the client's time has.
+            bytes.truncate(rng.pick(&[whole - 1, whole - (context::LENGTH - context::CLIENT_TIME), any]));
         }
         1 if !has_version(kind) => {
             let length = bytes.len() + 1 + rng.index(140);

@@ -11,8 +11,8 @@ pub const TRYOPEN: u8 = 2;
 pub const OPEN: u8 = 3;
 pub const CLOSED: u8 = 4;
 pub const VERSION: &[u8] = b"v1";
-/// Where the verdicts of a datagram begin: of a receive and of a time-out, of an acknowledge, of a close confirm, and both
-/// of a time-out on close.
+/// Where the verdicts of a datagram begin: of a receive and of a time-out, of an acknowledge, of a close confirm, and
+/// both of a time-out on close.
 pub const BEHIND_PACKET: usize = BODY + 68;
 pub const BEHIND_ACKNOWLEDGEMENT: usize = BEHIND_PACKET + 32;
 pub const CONFIRM_VERDICT: usize = BODY + 4;
