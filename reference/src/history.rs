@@ -131,18 +131,19 @@ impl History {
         outcome.answers.count(&datagram, left.number);
         outcome.differences.extend(differences(&expected, &left).iter().map(|text| format!("{place}: {text}")));
         if left.number != 0 {
+            self.tally.take_refused(&datagram, left.number);
             return;
         }
         outcome.differences.extend(checks_differ(&left.store).map(|text| format!("{place}: {text}")));
-        if length < OUTPUT || !fit(&left.store) || read(&datagram).is_none() {
+        let Some(Datagram { context, .. }) = read(&datagram).filter(|_| length >= OUTPUT && fit(&left.store)) else {
             outcome
                 .broken
                 .push(format!("{place}: accepted with a short output or malformed, or the store is unfit now"));
             return;
-        }
+        };
         let emitted = left.output.get(..left.size as usize).unwrap_or_default();
         let kind = get_u16(&datagram, frame::KIND);
-        self.tally.take(at, kind, emitted, &left.store);
+        self.tally.take(at, kind, &context, emitted, &left.store);
         if kind == SEND {
             self.sent.push((at, Packet::read(&left.output[frame::BODY..])));
         }
