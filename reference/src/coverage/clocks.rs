@@ -1,4 +1,4 @@
-//! What calls have to meet beside the clocks of two ledgers: a send asks what the client knows of the other ledger, a
+//! What calls have to meet of the clocks of two ledgers: a send asks what the client knows of the other ledger, a
 //! receive asks the own height and time.
 
 use std::fmt;

@@ -102,7 +102,7 @@ fn client(rng: &mut Rng, own: u64) -> u64 {
     let far = 1 + rng.below(8);
     match rng.below(4) {
         0 => own.saturating_sub(far),
-        1 => own.saturating_add(far),
+        1 | 2 => own.saturating_add(far),
         _ => rng.number(),
     }
 }
@@ -148,14 +148,15 @@ fn fill_receive(rng: &mut Rng, draft: &mut Draft, end: &Channel) -> Option<()> {
 /// Lets a packet be late at this height and time of the ledger that it is for, by one of its timeouts or by both; often
 /// at the very timeout or one behind it. The height is at least 1.
 pub fn come_late(rng: &mut Rng, packet: &mut Packet, height: u64, time: u64) {
-    let by_time = time >= 1 && rng.one_in(2);
-    let (by_height, far) = (!by_time || rng.one_in(3), rng.pick(&[0, 1, u64::MAX]));
+    let all = [(true, false), (false, true), (true, true)];
+    let (by_height, by_time) = if time == 0 { all[0] } else { rng.pick(&all) };
+    let far = rng.pick(&[0, 1, 1, u64::MAX]);
     let mut passed = |now: u64| rng.between(now.saturating_sub(far).max(1), now);
-    if by_time {
-        packet.timeout_timestamp = passed(time);
-    }
     if by_height {
         packet.timeout_height = passed(height);
+    }
+    if by_time {
+        packet.timeout_timestamp = passed(time);
     }
 }
 
