@@ -146,10 +146,13 @@ fn fill_receive(rng: &mut Rng, draft: &mut Draft, end: &Channel) -> Option<()> {
 }
 
 /// Lets a packet be late at this height and time of the ledger that it is for, by one of its timeouts or by both; often
-/// at the very timeout or one behind it. The height is at least 1.
+/// at the very timeout or one behind it. Height and time are not both 0.
 pub fn come_late(rng: &mut Rng, packet: &mut Packet, height: u64, time: u64) {
-    let all = [(true, false), (false, true), (true, true)];
-    let (by_height, by_time) = if time == 0 { all[0] } else { rng.pick(&all) };
+    let (by_height, by_time) = match (height, time) {
+        (_, 0) => (true, false),
+        (0, _) => (false, true),
+        _ => rng.pick(&[(true, false), (false, true), (true, true)]),
+    };
     let far = rng.pick(&[0, 1, 1, u64::MAX]);
     let mut passed = |now: u64| rng.between(now.saturating_sub(far).max(1), now);
     if by_height {

@@ -90,7 +90,9 @@ fn wrong_end(rng: &mut Rng, draft: &mut Draft) {
 fn pass(rng: &mut Rng, draft: &mut Draft) {
     let context = &mut draft.context;
     let (height, time) = if draft.kind == SEND {
-        context.client_height = context.client_height.max(1);
+        if context.client_time == 0 {
+            context.client_height = context.client_height.max(1);
+        }
         (context.client_height, context.client_time)
     } else {
         (context.height, context.time)
