@@ -2,6 +2,7 @@
 
 mod allow_timeout;
 pub mod cell;
+mod clocks;
 mod closing;
 mod converter;
 mod place;
@@ -187,6 +188,7 @@ fn cells_of_store(store: &[u8], bytes: &[u8], applying: &[Line]) -> Vec<Cell> {
     cells.extend(end.and_then(|end| cell_of_end(kind, &end, &datagram, applying)));
     cells.extend(end.filter(|_| applying.is_empty()).and_then(|end| closing::reached(&end, &datagram)));
     cells.extend(end.iter().flat_map(|end| allow_timeout::reached(end, &datagram, applying)));
+    cells.extend(end.iter().flat_map(|end| clocks::reached(end, &datagram, applying)));
     cells
 }
 

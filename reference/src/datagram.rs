@@ -41,12 +41,16 @@ pub const ALL_KINDS: [u16; 12] = [
     TIME_OUT_ON_CLOSE,
 ];
 
-/// What the host says about the moment of the call.
+/// What the host says about the moment of the call. The two ledgers have clocks of their own: a height or time of the
+/// one is never compared with that of the other.
 #[derive(Clone, Copy, Debug, PartialEq, Eq)]
 pub struct Context {
+    /// Of this ledger.
     pub height: u64,
     pub time: u64,
+    /// Of the other ledger: the latest that the client here knows.
     pub client_height: u64,
+    pub client_time: u64,
     pub port: u16,
     pub connection: u8,
 }
@@ -139,10 +143,12 @@ fn read_context(bytes: &[u8]) -> Option<Context> {
         height: get_u64(bytes, context::HEIGHT),
         time: get_u64(bytes, context::TIME),
         client_height: get_u64(bytes, context::CLIENT_HEIGHT),
+        client_time: get_u64(bytes, context::CLIENT_TIME),
         port: get_u16(bytes, context::PORT),
         connection: bytes[context::CONNECTION],
     };
-    let well = context.height != 0 && context.connection <= 1 && all_zero(&bytes[context::ZEROS..]);
+    let zeros = &bytes[context::ZEROS..context::CLIENT_TIME];
+    let well = context.height != 0 && context.connection <= 1 && all_zero(zeros);
     well.then_some(context)
 }
 

@@ -131,18 +131,19 @@ impl History {
         outcome.answers.count(&datagram, left.number);
         outcome.differences.extend(differences(&expected, &left).iter().map(|text| format!("{place}: {text}")));
         if left.number != 0 {
+            self.tally.take_refused(&datagram, left.number);
             return;
         }
         outcome.differences.extend(checks_differ(&left.store).map(|text| format!("{place}: {text}")));
-        if length < OUTPUT || !fit(&left.store) || read(&datagram).is_none() {
+        let Some(Datagram { context, .. }) = read(&datagram).filter(|_| length >= OUTPUT && fit(&left.store)) else {
             outcome
                 .broken
                 .push(format!("{place}: accepted with a short output or malformed, or the store is unfit now"));
             return;
-        }
+        };
         let emitted = left.output.get(..left.size as usize).unwrap_or_default();
         let kind = get_u16(&datagram, frame::KIND);
-        self.tally.take(at, kind, emitted, &left.store);
+        self.tally.take(at, kind, &context, emitted, &left.store);
         if kind == SEND {
             self.sent.push((at, Packet::read(&left.output[frame::BODY..])));
         }
@@ -189,8 +190,8 @@ impl History {
 
     fn context(&mut self, at: usize, port: u16) -> Context {
         let (height, time) = self.ledgers[at].next_moment(&mut self.rng);
-        let known = self.ledgers[1 - at].now().0;
-        Context { height, time, client_height: self.rng.between(0, known), port, connection: 1 }
+        let (client_height, client_time) = self.ledgers[1 - at].known(&mut self.rng);
+        Context { height, time, client_height, client_time, port, connection: 1 }
     }
 
     /// An end of this store: mostly one that is wanted, and else any.

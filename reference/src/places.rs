@@ -56,14 +56,17 @@ pub mod record {
     pub const DIGEST: usize = 32;
 }
 
+/// Height and time are this ledger's, those of the client are the other ledger's.
 pub mod context {
-    pub const LENGTH: usize = 32;
     pub const HEIGHT: usize = 0;
     pub const TIME: usize = 8;
     pub const CLIENT_HEIGHT: usize = 16;
     pub const PORT: usize = 24;
     pub const CONNECTION: usize = 26;
+    /// Five of them.
     pub const ZEROS: usize = 27;
+    pub const CLIENT_TIME: usize = 32;
+    pub const LENGTH: usize = CLIENT_TIME + 8;
 }
 
 pub mod packet {

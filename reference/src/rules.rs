@@ -86,15 +86,7 @@ impl Call<'_> {
     }
 
     fn send(&self, timeout_height: u64, timeout_timestamp: u64, digest: &Digest) -> Result<Effect, u8> {
-        refuse_if(timeout_height == 0 && timeout_timestamp == 0, NO_TIMEOUT)?;
-        // Only the height is asked: the context tells the sender no time of the other ledger.
-        refuse_if(reached(self.context.client_height, timeout_height), TIMEOUT_PASSED)?;
         let (mut end, digest, sequence) = (self.end, *digest, self.end.next_sequence_send);
-        end.next_sequence_send = raised(sequence)?;
-        self.room()?;
-        let (Ok(index) | Err(index)) = self.search(COMMITMENT, sequence);
-        let record =
-            Record { kind: COMMITMENT, channel: end.channel, sequence, timeout_height, timeout_timestamp, digest };
         let packet = Packet {
             sequence,
             timeout_height,
@@ -105,6 +97,14 @@ impl Call<'_> {
             dest_channel: end.counterparty_channel,
             digest,
         };
+        refuse_if(timeout_height == 0 && timeout_timestamp == 0, NO_TIMEOUT)?;
+        // The packet is for the other ledger, of which the client knows height and time.
+        refuse_if(passed(&packet, self.context.client_height, self.context.client_time), TIMEOUT_PASSED)?;
+        end.next_sequence_send = raised(sequence)?;
+        self.room()?;
+        let (Ok(index) | Err(index)) = self.search(COMMITMENT, sequence);
+        let record =
+            Record { kind: COMMITMENT, channel: end.channel, sequence, timeout_height, timeout_timestamp, digest };
         Ok(self.effect(end, Some(self.inserted(index, record)), Emitted::Sent(packet)))
     }
 

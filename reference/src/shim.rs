@@ -81,6 +81,7 @@ macro_rules! behind_c {
 }
 
 // Behind the macro, which most of them use.
+pub mod clocks;
 pub mod closing;
 pub mod handshake;
 pub mod lapse;

@@ -90,9 +90,10 @@ fn of_end(store: &[u8], datagram: &Datagram, end: &Channel) -> Vec<(u8, bool)> {
 }
 
 fn of_send(store: &[u8], context: &Context, end: &Channel, height: u64, time: u64) -> Vec<(u8, bool)> {
+    let late = reached(context.client_height, height) || reached(context.client_time, time);
     vec![
         (NO_TIMEOUT, height == 0 && time == 0),
-        (TIMEOUT_PASSED, reached(context.client_height, height)),
+        (TIMEOUT_PASSED, late),
         (COUNTER_AT_END, end.next_sequence_send == u64::MAX),
         (NO_FREE_RECORD, is_full(store)),
     ]

@@ -10,7 +10,7 @@ use crate::datagram::{read, PACKET_KINDS};
 use crate::generate::{Generator, Origin, Row};
 use crate::history::{self, Truth};
 use crate::places::{frame, OUTPUT};
-use crate::shim::{self, closing, handshake, lapse, maker, order, pass, time_out, verdict};
+use crate::shim::{self, clocks, closing, handshake, lapse, maker, order, pass, time_out, verdict};
 use crate::store::*;
 use crate::subject::Handle;
 use crate::table::own_channel;
@@ -39,14 +39,14 @@ fn unmet_cells_are_told() {
 
 #[test]
 fn wrong_handlers_are_found() {
-    let of_packets = shim::WRONG.into_iter().chain(lapse::WRONG).chain(time_out::WRONG);
+    let of_packets = shim::WRONG.into_iter().chain(lapse::WRONG).chain(time_out::WRONG).chain(clocks::WRONG);
     let of_steps = handshake::WRONG.into_iter().chain(closing::WRONG);
     let handlers = of_packets.chain(of_steps).chain(order::WRONG).chain(pass::WRONG).chain(verdict::WRONG);
     let converters = order::WRONG_CONVERTERS.map(|(name, convert)| (name, shim::with_converter(convert)));
     let makers = maker::WRONG.map(|(name, make)| (name, shim::with_maker(make)));
     let others = makers.into_iter().chain(converters);
     for (name, subject) in handlers.map(|(name, handle)| (name, shim::with(handle))).chain(others) {
-        let first = first_different(&subject, 20_000, SEED);
+        let first = first_different(&subject, 100_000, SEED);
         println!("{name}: differs at call {first:?}");
         assert!(first.is_some(), "{name}");
     }
@@ -87,7 +87,7 @@ fn right_histories_keep_all_promises() {
 }
 
 /// Handlers with the truth of a history and the promise that they break then.
-const BREAKING: [(&str, Handle, Truth, &str); 42] = [
+const BREAKING: [(&str, Handle, Truth, &str); 45] = [
     ("without receipt", shim::WITHOUT_RECEIPT, Truth::Everything, "delivered twice"),
     ("without receipt", shim::WITHOUT_RECEIPT, Truth::Openings, "delivered twice"),
     ("frees all", shim::FREES_ALL, Truth::Everything, "left"),
@@ -130,6 +130,9 @@ const BREAKING: [(&str, Handle, Truth, &str); 42] = [
     ("out of turn", time_out::OUT_OF_TURN, Truth::Nothing, "finished out of order"),
     ("two blocks", closing::TWO_BLOCKS, Truth::Everything, "timed out on close after its delivery"),
     ("gives back", closing::GIVES_BACK_ON_CLOSE, Truth::Everything, "timed out on close after its delivery"),
+    ("no time asked", clocks::NOT_ASKED, Truth::Nothing, "sent after its timeout"),
+    ("own time", clocks::OWN_TIME, Truth::Everything, "sent after its timeout"),
+    ("at the very timeout time", clocks::AT_TIMEOUT, Truth::Everything, "sent after its timeout"),
 ];
 
 /// Counting alone finds these, without the reference implementation beside them.

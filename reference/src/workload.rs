@@ -13,7 +13,6 @@ use crate::generate::rng::Rng;
 use crate::generate::shape::{channels, fill};
 use crate::places::{opening, OUTPUT};
 use crate::refusal::Line;
-use crate::rules::passed;
 use crate::store::*;
 
 /// After so many calls the store is set back, so that it stays full of the same mixture.
@@ -114,8 +113,8 @@ impl Segment {
         let any = rng.pick(&[SEND, RECEIVE, WRITE, ACKNOWLEDGE, TIME_OUT]);
         let kind = if free_count(&self.store) > FREE { SEND } else { any };
         let draft = accepted(rng, &self.store, kind)?;
-        let (end, Context { height, time, .. }) = (draft.end(), draft.context);
-        let has_receipt = end.is_unordered() || end.allows_timeouts() && passed(&draft.packet, height, time);
+        let end = draft.end();
+        let has_receipt = end.is_unordered() || end.allows_timeouts() && draft.is_late();
         let stays = kind == WRITE || kind == RECEIVE && has_receipt;
         if kind == TIME_OUT && end.is_ordered() || stays && self.kept >= KEPT {
             return None;

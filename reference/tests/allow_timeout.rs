@@ -17,7 +17,7 @@ fn receive(sequence: u64, height: u64, time: u64) -> Vec<u8> {
 }
 
 fn write(sequence: u64) -> Vec<u8> {
-    start(82, 3, 5).n32(6).n64(sequence).digest(0xac).0
+    start(90, 3, 5).n32(6).n64(sequence).digest(0xac).0
 }
 
 /// With this claim.
@@ -83,7 +83,8 @@ fn refusals_of_receives() {
         full[RECEIVE_COUNTER..RECEIVE_COUNTER + 8].copy_from_slice(&TOP);
         assert_eq!(number(&mut full, &receive(u64::MAX, height, 0)), 19);
         let right = receive(1, height, 0);
-        let faults = [(38 + 32, 11, 5), (30, 6, 7), (32, 0, 8), (38 + 24, 7, 9), (BEHIND_PACKET, 6, 140)];
+        let faults =
+            [(BODY + 32, 11, 5), (CALLER, 6, 7), (CONNECTION, 0, 8), (BODY + 24, 7, 9), (BEHIND_PACKET, 6, 140)];
         for (place, value, expected) in faults {
             assert_eq!(number(&mut fresh(), &with(right.clone(), &[(place, value)])), expected, "{place}");
         }

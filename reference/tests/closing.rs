@@ -31,7 +31,7 @@ fn close_confirm_answers_a_close() {
         assert_eq!(channel(&store, end.index), end.record(CLOSED, 1));
         assert_eq!((&store[8..16], &store[16..24]), (&100u64.to_le_bytes()[..], &1000u64.to_le_bytes()[..]));
         for state in [INIT, TRYOPEN, OPEN] {
-            let early = start(124, 11, 5).n32(end.own).text(&end.shown(state, VERSION)).0;
+            let early = start(132, 11, 5).n32(end.own).text(&end.shown(state, VERSION)).0;
             assert_eq!(number(&mut fresh(), &early), 145, "{state}");
         }
     }
@@ -51,9 +51,10 @@ fn closing_frees_nothing() {
 /// Only an OPEN end closes, and where several apply the one at the first place is given.
 #[test]
 fn refusals_of_closes_come_by_place() {
-    let no_channel = (38, 11);
-    let (caller, unconnected, claim, open) = ((30, 6), (CONNECTION, 0), (CONFIRM_VERDICT, 1), (60 + 2, OPEN));
-    let other_version = (60 + 40, b'w');
+    let no_channel = (BODY, 11);
+    let (caller, unconnected, claim) = ((CALLER, 6), (CONNECTION, 0), (CONFIRM_VERDICT, 1));
+    let shown = CONFIRM_VERDICT + 18;
+    let (open, other_version) = ((shown + 2, OPEN), (shown + 40, b'w'));
     for state in [INIT, TRYOPEN, CLOSED] {
         let mut store = ORDERED.sent(state);
         if state == INIT {
@@ -61,7 +62,7 @@ fn refusals_of_closes_come_by_place() {
         }
         let (init, mut confirm) = (ORDERED.close_init(), ORDERED.close_confirm());
         if state == INIT {
-            confirm[60 + 4] = 0;
+            confirm[shown + 4] = 0;
         }
         let mut answer =
             |datagram: &[u8], changes: &[(usize, u8)]| number(&mut store, &with(datagram.to_vec(), changes));
@@ -78,7 +79,7 @@ fn refusals_of_closes_come_by_place() {
     }
     assert_eq!(number(&mut fresh(), &with(ORDERED.close_confirm(), &[other_version])), 27);
     // One height, another time.
-    assert_eq!(number(&mut ORDERED.sent(OPEN), &with(ORDERED.close_init(), &[(14, 0xe9), (30, 6)])), 4);
+    assert_eq!(number(&mut ORDERED.sent(OPEN), &with(ORDERED.close_init(), &[(14, 0xe9), (CALLER, 6)])), 4);
 }
 
 /// Every byte of the verdict: the claim, the block, which is compared with nothing, the record, its version.

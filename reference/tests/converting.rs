@@ -50,11 +50,11 @@ fn store_of<T: AsRef<[u8]>>(records: &[T]) -> Vec<u8> {
 
 /// What is accepted wherever the store is fit.
 fn close() -> Vec<u8> {
-    start(42, 10, 5).n32(ORDERED).0
+    start(50, 10, 5).n32(ORDERED).0
 }
 
 fn send(channel: u32) -> Vec<u8> {
-    start(90, 1, 5).n32(channel).n64(60).n64(0).digest(0xd1).0
+    start(98, 1, 5).n32(channel).n64(60).n64(0).digest(0xd1).0
 }
 
 fn handled(store: &[u8]) -> u8 {
@@ -185,7 +185,7 @@ fn later_records_shift_down() {
         let (ordered, other) = (channel == ORDERED, if channel == ORDERED { 9 } else { 10 });
         let packet = Bytes::default().n64(sequence).n64(60).n64(0).n16(5).n32(channel).n16(6).n32(other).digest(0xd1).0;
         let absent = Bytes::default().n16(3 + u16::from(ordered)).n64(60).n64(0).n16(6).n32(other).n64(sequence);
-        let time_out = start(186, 5, 5).text(&packet).text(&absent.n64(0).n64(0).digest(0).0).0;
+        let time_out = start(194, 5, 5).text(&packet).text(&absent.n64(0).n64(0).digest(0).0).0;
         let mut store = store_of(&rising());
         assert_eq!(number(&mut store, &time_out), 0);
         let mut left = rising();

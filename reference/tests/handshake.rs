@@ -10,6 +10,12 @@ const TRYOPEN: u8 = 2;
 const OPEN: u8 = 3;
 const CLOSED: u8 = 4;
 const VERSION: &[u8] = b"v1";
+/// Places of an init and of a try: the order; and where the verdicts begin, of a try, an acknowledge and a confirm.
+const INIT_ORDER: usize = BODY + 2;
+const TRY_ORDER: usize = BODY + 6;
+const TRY_VERDICT: usize = BODY + 7;
+const ACKNOWLEDGE_VERDICT: usize = BODY + 8;
+const CONFIRM_VERDICT: usize = BODY + 4;
 
 fn empty() -> Vec<u8> {
     let mut store = vec![0xee; 1088 + 2 * 64];
@@ -29,21 +35,21 @@ fn verdict(state: u8, own: (u16, u32), other: (u16, u32), version: &[u8]) -> Vec
 }
 
 fn init(version: &[u8]) -> Vec<u8> {
-    start(41 + version.len() as u32, 6, 5).n16(6).n8(1).text(version).0
+    start(49 + version.len() as u32, 6, 5).n16(6).n8(1).text(version).0
 }
 
 /// Answers channel 1 of port 5.
 fn open_try(verdict: &[u8], version: &[u8]) -> Vec<u8> {
-    start(127 + version.len() as u32, 7, 6).n16(5).n32(1).n8(1).text(verdict).text(version).0
+    start(135 + version.len() as u32, 7, 6).n16(5).n32(1).n8(1).text(verdict).text(version).0
 }
 
 /// Channel 1 of port 5 learns that this channel of port 6 answers it.
 fn acknowledge(caller: u16, channel: u32, answer: u32, verdict: &[u8]) -> Vec<u8> {
-    start(128, 8, caller).n32(channel).n32(answer).text(verdict).0
+    start(136, 8, caller).n32(channel).n32(answer).text(verdict).0
 }
 
 fn confirm(caller: u16, channel: u32, verdict: &[u8]) -> Vec<u8> {
-    start(124, 9, caller).n32(channel).text(verdict).0
+    start(132, 9, caller).n32(channel).text(verdict).0
 }
 
 fn made(port: u16, channel: u32) -> Vec<u8> {
@@ -101,7 +107,7 @@ fn both_ends_open() {
     // The other end that answered has no verdict to open with, and the initiator no second choice.
     assert_eq!(number(&mut other, &confirm(6, 1, &shows_open(2))), 145);
     assert_eq!(number(&mut one, &acknowledge(5, 1, 1, &shows_tried(1))), 26);
-    let send = start(90, 1, 5).n32(1).n64(60).n64(0).digest(0xd1).0;
+    let send = start(98, 1, 5).n32(1).n64(60).n64(0).digest(0xd1).0;
     assert_eq!(number(&mut one, &send), 0);
 }
 
@@ -110,11 +116,12 @@ fn both_ends_open() {
 fn ends_of_each_order() {
     for order in [1, 2, 3] {
         let mut store = empty();
-        assert_eq!(number(&mut store, &spoiled(init(VERSION), 40, order)), 0);
+        assert_eq!(number(&mut store, &spoiled(init(VERSION), INIT_ORDER, order)), 0);
         assert_eq!(channel(&store, 0)[3], order);
         for shown in [1, 2, 3] {
             // The order in the verdict's record, and the one in the datagram.
-            let tried = spoiled(spoiled(open_try(&shows_init(), VERSION), 45 + 18 + 3, shown), 44, order);
+            let tried = spoiled(open_try(&shows_init(), VERSION), TRY_VERDICT + 18 + 3, shown);
+            let tried = spoiled(tried, TRY_ORDER, order);
             let mut other = empty();
             assert_eq!(number(&mut other, &tried), if shown == order { 0 } else { 145 });
             assert_eq!(channel(&other, 0)[3], if shown == order { order } else { 0 });
@@ -126,12 +133,12 @@ fn ends_of_each_order() {
 #[test]
 fn no_packets_before_an_end_is_open() {
     for (mut store, caller) in [(after_init(), 5), (after_tries(), 6)] {
-        assert_eq!(number(&mut store, &start(90, 1, caller).n32(1).n64(60).n64(0).digest(0xd1).0), 6);
-        assert_eq!(number(&mut store, &start(82, 3, caller).n32(1).n64(1).digest(0xac).0), 6);
+        assert_eq!(number(&mut store, &start(98, 1, caller).n32(1).n64(60).n64(0).digest(0xd1).0), 6);
+        assert_eq!(number(&mut store, &start(90, 3, caller).n32(1).n64(1).digest(0xac).0), 6);
     }
     let packet = Bytes::default().n64(1).n64(60).n64(0).n16(5).n32(1).n16(6).n32(0).digest(0xd1).0;
     let absent = Bytes::default().n16(4).n64(60).n64(0).n16(6).n32(0).n64(1).n64(0).n64(0).digest(0).0;
-    assert_eq!(number(&mut after_init(), &start(186, 5, 5).text(&packet).text(&absent).0), 13);
+    assert_eq!(number(&mut after_init(), &start(194, 5, 5).text(&packet).text(&absent).0), 13);
 }
 
 #[test]
@@ -195,9 +202,9 @@ fn versions() {
 #[test]
 fn verdicts_about_another_end() {
     let steps = [
-        (empty(), open_try(&shows_init(), VERSION), 45),
-        (after_init(), acknowledge(5, 1, 2, &shows_tried(2)), 46),
-        (after_tries(), confirm(6, 2, &shows_open(2)), 42),
+        (empty(), open_try(&shows_init(), VERSION), TRY_VERDICT),
+        (after_init(), acknowledge(5, 1, 2, &shows_tried(2)), ACKNOWLEDGE_VERDICT),
+        (after_tries(), confirm(6, 2, &shows_open(2)), CONFIRM_VERDICT),
     ];
     for (store, datagram, at) in steps {
         let with = |place: usize, value: u8| number(&mut store.clone(), &spoiled(datagram.clone(), place, value));
@@ -213,25 +220,24 @@ fn verdicts_about_another_end() {
 /// Where several apply, the one at the first place is given.
 #[test]
 fn refusals_come_by_place() {
-    let connection = 32;
     let mut tried = after_tries();
     let other_state = verdict(CLOSED, (5, 1), (6, 1), b"w");
     for (datagram, expected) in [
-        (spoiled(confirm(5, 3, &other_state), connection, 0), 5),
-        (spoiled(confirm(5, 1, &other_state), connection, 0), 7),
-        (spoiled(confirm(6, 1, &other_state), connection, 0), 8),
-        (spoiled(confirm(6, 1, &other_state), 42, 4), 140),
+        (spoiled(confirm(5, 3, &other_state), CONNECTION, 0), 5),
+        (spoiled(confirm(5, 1, &other_state), CONNECTION, 0), 7),
+        (spoiled(confirm(6, 1, &other_state), CONNECTION, 0), 8),
+        (spoiled(confirm(6, 1, &other_state), CONFIRM_VERDICT, 4), 140),
         (confirm(6, 1, &other_state), 145),
         (confirm(6, 1, &verdict(OPEN, (5, 1), (6, 1), b"w")), 27),
-        (spoiled(acknowledge(6, 1, 1, &verdict(TRYOPEN, (5, 1), (6, 1), b"w")), 46, 1), 140),
+        (spoiled(acknowledge(6, 1, 1, &verdict(TRYOPEN, (5, 1), (6, 1), b"w")), ACKNOWLEDGE_VERDICT, 1), 140),
         (acknowledge(6, 1, 1, &verdict(OPEN, (5, 1), (6, 1), b"w")), 145),
         (acknowledge(6, 1, 1, &verdict(TRYOPEN, (5, 1), (6, 1), b"w")), 26),
     ] {
         assert_eq!(number(&mut tried, &datagram), expected);
     }
-    let unconnected = spoiled(open_try(&shows_tried(1), b"w"), connection, 0);
+    let unconnected = spoiled(open_try(&shows_tried(1), b"w"), CONNECTION, 0);
     assert_eq!(number(&mut empty(), &unconnected), 8);
-    assert_eq!(number(&mut empty(), &spoiled(init(VERSION), connection, 0)), 0);
+    assert_eq!(number(&mut empty(), &spoiled(init(VERSION), CONNECTION, 0)), 0);
     // One height, another time.
     assert_eq!(number(&mut after_init(), &spoiled(init(b"\0"), 14, 0xe9)), 4);
 }
@@ -251,15 +257,15 @@ fn malformed_steps() {
         assert_eq!(number(&mut empty(), &short(datagram)), 3);
     }
     for order in [0, 4, 0x11] {
-        assert_eq!(number(&mut empty(), &spoiled(init(VERSION), 40, order)), 3);
-        assert_eq!(number(&mut empty(), &spoiled(open_try(&shows_init(), VERSION), 44, order)), 3);
+        assert_eq!(number(&mut empty(), &spoiled(init(VERSION), INIT_ORDER, order)), 3);
+        assert_eq!(number(&mut empty(), &spoiled(open_try(&shows_init(), VERSION), TRY_ORDER, order)), 3);
     }
     for claim in [0, 7, 0xff] {
-        assert_eq!(number(&mut empty(), &spoiled(open_try(&shows_init(), VERSION), 45, claim)), 3);
-        assert_eq!(number(&mut after_init(), &spoiled(acknowledge(5, 1, 1, &tried), 46, claim)), 3);
-        assert_eq!(number(&mut after_tries(), &spoiled(confirm(6, 1, &open), 42, claim)), 3);
+        assert_eq!(number(&mut empty(), &spoiled(open_try(&shows_init(), VERSION), TRY_VERDICT, claim)), 3);
+        assert_eq!(number(&mut after_init(), &spoiled(acknowledge(5, 1, 1, &tried), ACKNOWLEDGE_VERDICT, claim)), 3);
+        assert_eq!(number(&mut after_tries(), &spoiled(confirm(6, 1, &open), CONFIRM_VERDICT, claim)), 3);
     }
-    for (place, value) in [(6, 0), (32, 2), (33, 1), (37, 1)] {
+    for (place, value) in [(6, 0), (CONNECTION, 2), (33, 1), (37, 1)] {
         assert_eq!(number(&mut empty(), &spoiled(init(VERSION), place, value)), 3, "{place}");
     }
 }

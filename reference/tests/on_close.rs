@@ -34,7 +34,7 @@ fn on_close_in_every_state() {
             if state == INIT {
                 // An INIT end names channel 0: so do the packet and both verdicts.
                 store[64 + 64 * end.index + 12] = 0;
-                [38 + 32, END_VERDICT + 18 + 4, VERDICT + 20].into_iter().for_each(|place| datagram[place] = 0);
+                [BODY + 32, END_VERDICT + 18 + 4, VERDICT + 20].into_iter().for_each(|place| datagram[place] = 0);
             }
             let after = if end.order == 1 { CLOSED } else { state };
             assert_eq!((number(&mut store, &datagram), channel(&store, end.index)[2]), (0, after), "{state}");
@@ -96,10 +96,10 @@ fn two_verdicts_of_one_block() {
 fn refusals_on_close_come_by_place() {
     let right = ORDERED.on_close();
     let faults = [
-        (38 + 26, 11, 5),
-        (30, 6, 7),
-        (38 + 30, 9, 9),
-        (38 + 36, 0, 13),
+        (BODY + 26, 11, 5),
+        (CALLER, 6, 7),
+        (BODY + 30, 9, 9),
+        (BODY + 36, 0, 13),
         (END_VERDICT, 4, 140),
         (END_VERDICT + 18 + 2, OPEN, 145),
         (VERDICT, 5, 140),
@@ -117,7 +117,7 @@ fn refusals_on_close_come_by_place() {
     }
     assert_eq!(number(&mut ORDERED.sent(CLOSED), &right), 0);
     // One height, another time.
-    assert_eq!(number(&mut ORDERED.sent(CLOSED), &with(right, &[(14, 0xe9), (30, 6)])), 4);
+    assert_eq!(number(&mut ORDERED.sent(CLOSED), &with(right, &[(14, 0xe9), (CALLER, 6)])), 4);
 }
 
 #[test]
@@ -128,7 +128,7 @@ fn malformed_time_outs_on_close() {
             assert_eq!(number(&mut ORDERED.sent(OPEN), &with(ORDERED.on_close(), &[(place, claim)])), 3);
         }
     }
-    assert_eq!(number(&mut ORDERED.sent(OPEN), &with(ORDERED.on_close(), &[(38, 0)])), 3);
+    assert_eq!(number(&mut ORDERED.sent(OPEN), &with(ORDERED.on_close(), &[(BODY, 0)])), 3);
 }
 
 /// Two packets, of which the first was received before the other end closed: it can be given back no more, and as the
@@ -142,7 +142,7 @@ fn a_delivered_packet_is_stranded() {
     assert_eq!(channel(&store, 0)[2], CLOSED);
     assert_eq!(number(&mut store, &ORDERED.on_close_with(1, &shown, &next)), 15);
     let written = Bytes::default().n16(2).n64(51).n64(777).n16(6).n32(9).n64(1).n64(0).n64(0).digest(0xac).0;
-    let acknowledge = start(218, 4, 5).text(&ORDERED.packet(1)).digest(0xac).text(&written).0;
+    let acknowledge = start(226, 4, 5).text(&ORDERED.packet(1)).digest(0xac).text(&written).0;
     assert_eq!(number(&mut store, &acknowledge), 6);
     assert_eq!(record(&store, 0)[8..16], 1u64.to_le_bytes());
 }

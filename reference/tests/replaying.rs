@@ -14,11 +14,13 @@ fn opening() -> Vec<u8> {
 
 /// A send on channel 7 with timeout height 60, as the worked cases have it, at this own height.
 fn send(height: u64) -> Vec<u8> {
-    let mut bytes = vec![90, 0, 0, 0, 1, 0];
+    let mut bytes = vec![98, 0, 0, 0, 1, 0];
     for number in [height, 1000, 50] {
         bytes.extend(number.to_le_bytes());
     }
-    bytes.extend([5, 0, 1, 0, 0, 0, 0, 0, 7, 0, 0, 0]);
+    bytes.extend([5, 0, 1, 0, 0, 0, 0, 0]);
+    bytes.extend([0; 8]);
+    bytes.extend([7, 0, 0, 0]);
     bytes.extend(60u64.to_le_bytes());
     bytes.extend([0; 8]);
     bytes.extend([1; 32]);
@@ -89,7 +91,7 @@ fn longest_records() {
 #[test]
 fn datagram_torn() {
     let whole = [first(2, &opening()), send(100), send(100)].concat();
-    let start = whole.len() - 90;
+    let start = whole.len() - send(100).len();
     assert_eq!(transcript(&whole[..start]), "open 0\n1 0\nend 1\n");
     for cut in start + 1..whole.len() {
         assert_eq!(transcript(&whole[..cut]), "open 0\n1 0\ntorn 1\n", "{cut}");

@@ -15,12 +15,12 @@ fn fresh() -> Vec<u8> {
 }
 
 fn send(caller: u16, timeout_height: u64) -> Vec<u8> {
-    start(90, 1, caller).n32(ORDERED_END).n64(timeout_height).n64(0).digest(0xd1).0
+    start(98, 1, caller).n32(ORDERED_END).n64(timeout_height).n64(0).digest(0xd1).0
 }
 
 fn receive(channel: u32, sequence: u64, timeout_height: u64, timeout_timestamp: u64) -> Vec<u8> {
     let other = if channel == ORDERED_END { 9 } else { 10 };
-    start(186, 2, 5)
+    start(194, 2, 5)
         .n64(sequence)
         .n64(timeout_height)
         .n64(timeout_timestamp)
@@ -43,7 +43,7 @@ fn receive(channel: u32, sequence: u64, timeout_height: u64, timeout_timestamp: 
 
 /// Times out a packet that was sent as in case 1.
 fn time_out(sequence: u64, proof_height: u64, claimed: u64) -> Vec<u8> {
-    let sent = start(186, 5, 5).n64(sequence).n64(60).n64(0).n16(5).n32(ORDERED_END).n16(6).n32(9).digest(0xd1);
+    let sent = start(194, 5, 5).n64(sequence).n64(60).n64(0).n16(5).n32(ORDERED_END).n16(6).n32(9).digest(0xd1);
     sent.n16(4).n64(proof_height).n64(0).n16(6).n32(9).n64(claimed).n64(0).n64(0).digest(0).0
 }
 
@@ -160,7 +160,7 @@ fn records_come_in_either_order() {
 fn acknowledgement_is_written_and_taken() {
     let mut store = fresh();
     assert_eq!(number(&mut store, &receive(8, 3, 0, 0)), 0);
-    let write = start(82, 3, 5).n32(8).n64(3).digest(0xac).0;
+    let write = start(90, 3, 5).n32(8).n64(3).digest(0xac).0;
     let written = Bytes::default().n32(52).n16(0x0103).n16(5).n32(8).n64(3).digest(0xac).0;
     assert_eq!(answer(&mut store, &write), (0, written));
     assert_eq!(record(&store, 1), Bytes::default().n16(3).n16(0).n32(8).n64(3).n64(0).n64(0).digest(0xac).0);
@@ -168,7 +168,7 @@ fn acknowledgement_is_written_and_taken() {
     let mut store = after_case_1();
     let packet = Bytes::default().n64(1).n64(60).n64(0).n16(5).n32(7).n16(6).n32(9).digest(0xd1).digest(0xac).0;
     let verdict = Bytes::default().n16(2).n64(0).n64(0).n16(6).n32(9).n64(1).n64(0).n64(0).digest(0xac).0;
-    let datagram = [start(218, 4, 5).0, packet.clone(), verdict].concat();
+    let datagram = [start(226, 4, 5).0, packet.clone(), verdict].concat();
     let emitted = [Bytes::default().n32(106).n16(0x0104).0, packet].concat();
     assert_eq!(answer(&mut store, &datagram), (0, emitted));
     assert_eq!(record(&store, 0), [0; 64]);

@@ -3,11 +3,11 @@
 use std::fmt;
 
 use super::cell::{name, Cell};
+use super::clocks::Late;
 use crate::datagram::*;
 use crate::generate::fault::{aims, never_given};
 use crate::generate::Row;
 use crate::refusal::*;
-use crate::rules::reached as is_reached;
 use crate::store::*;
 use crate::verdict::*;
 
@@ -28,14 +28,6 @@ pub enum Allowed {
     OnClose(u16, Line),
 }
 
-/// Which timeouts have passed at the receiver.
-#[derive(Clone, Copy, Debug, PartialEq, Eq, PartialOrd, Ord)]
-pub enum Late {
-    Height,
-    Time,
-    Both,
-}
-
 /// The two claims that a time-out on close can have.
 const CLAIMS: [u16; 2] = [NEXT_RECV_EQUALS, TIMEOUT_RECEIPT_PRESENT];
 
@@ -49,7 +41,7 @@ fn lines(kind: u16) -> impl Iterator<Item = Line> {
 /// The cells that a run can reach here.
 pub fn possible() -> Vec<Cell> {
     let mut all = Vec::new();
-    for by in [Late::Height, Late::Time, Late::Both] {
+    for by in Late::ALL {
         all.extend([true, false].map(|at_timeout| Allowed::Lapsed { by, at_timeout }));
     }
     all.extend(lines(RECEIVE).map(Allowed::Late));
@@ -103,17 +95,10 @@ pub fn reached(end: &Channel, datagram: &Datagram, applying: &[Line]) -> Vec<Cel
 
 /// Which timeouts have passed, and whether this is the very moment.
 fn late(context: &Context, packet: &Packet) -> Option<(Late, bool)> {
-    let by_height = is_reached(context.height, packet.timeout_height);
-    let by_time = is_reached(context.time, packet.timeout_timestamp);
-    let by = match (by_height, by_time) {
-        (true, true) => Late::Both,
-        (true, false) => Late::Height,
-        (false, true) => Late::Time,
-        (false, false) => return None,
-    };
-    let later =
-        by_height && context.height > packet.timeout_height || by_time && context.time > packet.timeout_timestamp;
-    Some((by, !later))
+    let by = Late::at((context.height, context.time), (packet.timeout_height, packet.timeout_timestamp))?;
+    let later_height = by != Late::Time && context.height > packet.timeout_height;
+    let later_time = by != Late::Height && context.time > packet.timeout_timestamp;
+    Some((by, !later_height && !later_time))
 }
 
 fn not_its_turn(kind: u16, end: &Channel, packet: &Packet) -> Option<Allowed> {
@@ -124,11 +109,6 @@ impl fmt::Display for Allowed {
     fn fmt(&self, out: &mut fmt::Formatter) -> fmt::Result {
         match self {
             Allowed::Lapsed { by, at_timeout } => {
-                let by = match by {
-                    Late::Height => "its height",
-                    Late::Time => "its time",
-                    Late::Both => "height and time",
-                };
                 write!(out, "a packet lapses by {by}, {}", if *at_timeout { "at the very timeout" } else { "later" })
             }
             Allowed::Late(line) => write!(out, "a packet comes late, {line} alone"),

@@ -3,6 +3,7 @@
 use std::fmt;
 
 use super::allow_timeout::Allowed;
+use super::clocks::Clocks;
 use super::closing::Circumstance;
 use super::converter::Disorder;
 use super::place::Place;
@@ -49,6 +50,8 @@ pub enum Cell {
     OnClose(Circumstance),
     /// A call met this on an end where timeouts are allowed.
     Allowed(Allowed),
+    /// A call met this, with the clocks of two ledgers.
+    Clocks(Clocks),
     /// On an end in this state, which is not the one that the kind is for, this line applied and no other.
     InState(Row, u8, Line),
     /// A datagram had or showed a version of this sort, and was accepted or refused for it alone.
@@ -78,7 +81,7 @@ pub enum Cell {
 }
 
 /// The sorts of cells, as a run tells them.
-pub const SORTS: [&str; 21] = [
+pub const SORTS: [&str; 22] = [
     "answers by kind",
     "refusals alone",
     "pairs",
@@ -100,6 +103,7 @@ pub const SORTS: [&str; 21] = [
     "orders converted",
     "timeouts allowed",
     "maker's orders",
+    "clocks",
 ];
 
 impl Cell {
@@ -127,6 +131,7 @@ impl Cell {
             Cell::Converted(_) => 18,
             Cell::Allowed(_) => 19,
             Cell::Opened(_) => 20,
+            Cell::Clocks(_) => 21,
         }
     }
 }
@@ -158,6 +163,7 @@ impl fmt::Display for Cell {
             }
             Cell::OnClose(circumstance) => write!(out, "{circumstance}"),
             Cell::Allowed(allowed) => write!(out, "timeouts allowed: {allowed}"),
+            Cell::Clocks(clocks) => write!(out, "{clocks}"),
             Cell::InState(row, state, line) => write!(out, "{row}: {line} alone, end {}", state_name(*state)),
             Cell::Version(kind, text) => write!(out, "{}: version {text}", name(*kind)),
             Cell::Room(kind, room) => write!(out, "{}: {room}", name(*kind)),

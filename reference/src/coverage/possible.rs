@@ -1,7 +1,7 @@
 //! What a run has to reach, cell by cell.
 
 use super::cell::Cell;
-use super::{allow_timeout, closing, converter, place as places, standing, step};
+use super::{allow_timeout, clocks, closing, converter, place as places, standing, step};
 use crate::datagram::*;
 use crate::generate::draft::absence_claims;
 use crate::generate::{although, damage, fault, malform, Row};
@@ -110,6 +110,7 @@ pub fn possible() -> Vec<Cell> {
     cells.extend(step::possible());
     cells.extend(closing::possible());
     cells.extend(allow_timeout::possible());
+    cells.extend(clocks::possible());
     cells.extend(places::possible());
     cells.extend(converter::possible());
     cells.extend(EMITTED.map(Cell::Emitted));

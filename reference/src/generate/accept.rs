@@ -68,6 +68,7 @@ pub fn later(rng: &mut Rng, height: u64, time: u64) -> (u64, u64) {
 
 fn blank(rng: &mut Rng, store: &[u8], index: usize, kind: u16) -> Draft {
     let (height, time) = later(rng, last_height(store), last_time(store));
+    let (client_height, client_time) = (client(rng, height), client(rng, time));
     let needs_connection = matches!(kind, RECEIVE | ACKNOWLEDGE) || is_step(kind) && kind != OPEN_INIT;
     let connection = u8::from(needs_connection || !rng.one_in(6));
     let end = Channel::read(&store[channel_place(index)..]);
@@ -85,13 +86,24 @@ fn blank(rng: &mut Rng, store: &[u8], index: usize, kind: u16) -> Draft {
         store: store.to_vec(),
         index,
         kind,
-        context: Context { height, time, client_height: rng.number(), port: end.port, connection },
+        context: Context { height, time, client_height, client_time, port: end.port, connection },
         packet,
         acknowledgement: rng.digest(),
         verdict: Verdict { proof_height: rng.number(), proof_time: rng.number(), ..NO_VERDICT },
         absence: rng.pick(absence_claims(kind, end.order)),
         claimed: 0,
         step: Step::default(),
+    }
+}
+
+/// A height or time that the client knows. Often it is near the own one, so that timeouts come between the two: there
+/// it matters which of them is asked.
+fn client(rng: &mut Rng, own: u64) -> u64 {
+    let far = 1 + rng.below(8);
+    match rng.below(4) {
+        0 => own.saturating_sub(far),
+        1 | 2 => own.saturating_add(far),
+        _ => rng.number(),
     }
 }
 
@@ -107,12 +119,10 @@ fn ahead(rng: &mut Rng, now: u64) -> u64 {
 fn fill_send(rng: &mut Rng, draft: &mut Draft, end: &Channel) -> Option<()> {
     has_room(&draft.store).then_some(())?;
     end.next_sequence_send.checked_add(1)?;
-    draft.packet.timeout_height = ahead(rng, draft.context.client_height);
-    draft.packet.timeout_timestamp = if rng.one_in(2) { 0 } else { rng.number() };
-    if draft.packet.timeout_height == 0 {
-        draft.packet.timeout_timestamp = draft.packet.timeout_timestamp.max(1);
-    }
-    Some(())
+    let packet = &mut draft.packet;
+    packet.timeout_height = ahead(rng, draft.context.client_height);
+    packet.timeout_timestamp = ahead(rng, draft.context.client_time);
+    (packet.timeout_height != 0 || packet.timeout_timestamp != 0).then_some(())
 }
 
 fn fill_receive(rng: &mut Rng, draft: &mut Draft, end: &Channel) -> Option<()> {
@@ -130,21 +140,26 @@ fn fill_receive(rng: &mut Rng, draft: &mut Draft, end: &Channel) -> Option<()> {
     packet.sequence = end.next_sequence_recv;
     // It lapses then, for which a record has to be free.
     if end.allows_timeouts() && has_room(&draft.store) && rng.one_in(2) {
-        come_late(rng, &draft.context, packet);
+        come_late(rng, packet, draft.context.height, draft.context.time);
     }
     Some(())
 }
 
-/// Lets a packet that is to be received come late, by one of its timeouts or by both; often at the very timeout.
-pub fn come_late(rng: &mut Rng, context: &Context, packet: &mut Packet) {
-    let by_time = context.time >= 1 && rng.one_in(2);
-    let (by_height, at_timeout) = (!by_time || rng.one_in(3), rng.one_in(3));
-    let mut passed = |now: u64| if at_timeout { now } else { rng.between(1, now) };
-    if by_time {
-        packet.timeout_timestamp = passed(context.time);
-    }
+/// Lets a packet be late at this height and time of the ledger that it is for, by one of its timeouts or by both; often
+/// at the very timeout or one behind it. Height and time are not both 0.
+pub fn come_late(rng: &mut Rng, packet: &mut Packet, height: u64, time: u64) {
+    let (by_height, by_time) = match (height, time) {
+        (_, 0) => (true, false),
+        (0, _) => (false, true),
+        _ => rng.pick(&[(true, false), (false, true), (true, true)]),
+    };
+    let far = rng.pick(&[0, 1, 1, u64::MAX]);
+    let mut passed = |now: u64| rng.between(now.saturating_sub(far).max(1), now);
     if by_height {
-        packet.timeout_height = passed(context.height);
+        packet.timeout_height = passed(height);
+    }
+    if by_time {
+        packet.timeout_timestamp = passed(time);
     }
 }
 

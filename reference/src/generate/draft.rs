@@ -203,6 +203,7 @@ fn write_context(context: &Context, bytes: &mut [u8]) {
     put_u64(bytes, context::HEIGHT, context.height);
     put_u64(bytes, context::TIME, context.time);
     put_u64(bytes, context::CLIENT_HEIGHT, context.client_height);
+    put_u64(bytes, context::CLIENT_TIME, context.client_time);
     put_u16(bytes, context::PORT, context.port);
     bytes[context::CONNECTION] = context.connection;
 }

@@ -86,13 +86,18 @@ fn wrong_end(rng: &mut Rng, draft: &mut Draft) {
     }
 }
 
+/// By what the client knows of the other ledger for a packet that is sent there, by the own moment for one that comes.
 fn pass(rng: &mut Rng, draft: &mut Draft) {
-    if draft.kind == SEND {
-        draft.context.client_height = draft.context.client_height.max(1);
-        draft.packet.timeout_height = rng.between(1, draft.context.client_height);
-        return;
-    }
-    come_late(rng, &draft.context, &mut draft.packet);
+    let context = &mut draft.context;
+    let (height, time) = if draft.kind == SEND {
+        if context.client_time == 0 {
+            context.client_height = context.client_height.max(1);
+        }
+        (context.client_height, context.client_time)
+    } else {
+        (context.height, context.time)
+    };
+    come_late(rng, &mut draft.packet, height, time);
 }
 
 /// The commitment goes, or differs from the packet in one value.
@@ -210,7 +215,7 @@ fn counter_at_end(draft: &mut Draft) -> bool {
 fn no_free_record(rng: &mut Rng, draft: &mut Draft) -> bool {
     let end = draft.end();
     if draft.kind == RECEIVE && end.allows_timeouts() {
-        come_late(rng, &draft.context, &mut draft.packet);
+        come_late(rng, &mut draft.packet, draft.context.height, draft.context.time);
     }
     let filled = fill(rng, &mut draft.store, 0, Some((end.channel, draft.packet.sequence)));
     filled && (end.next_sequence_send == u64::MAX || draft.end().next_sequence_send < u64::MAX)

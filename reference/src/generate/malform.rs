@@ -95,7 +95,8 @@ fn wrong_length(rng: &mut Rng, bytes: &mut Vec<u8>) -> Option<()> {
         0 => {
             let whole = length_of(kind)?;
             let any = 6 + rng.index(whole - 6);
-            bytes.truncate(rng.pick(&[whole - 1, any]));
+            // One byte less, or as many as the client's time has.
+            bytes.truncate(rng.pick(&[whole - 1, whole - (context::LENGTH - context::CLIENT_TIME), any]));
         }
         1 if !has_version(kind) => {
             let length = bytes.len() + 1 + rng.index(140);
@@ -114,7 +115,7 @@ fn wrong_length(rng: &mut Rng, bytes: &mut Vec<u8>) -> Option<()> {
 }
 
 fn zero_byte(rng: &mut Rng, bytes: &mut Vec<u8>) -> Option<()> {
-    flip(rng, bytes, frame::BODY + context::ZEROS, context::LENGTH - context::ZEROS)
+    flip(rng, bytes, frame::BODY + context::ZEROS, context::CLIENT_TIME - context::ZEROS)
 }
 
 fn connection(rng: &mut Rng, bytes: &mut Vec<u8>) -> Option<()> {
@@ -174,7 +175,7 @@ pub fn garbage(rng: &mut Rng) -> Vec<u8> {
     }
     if length >= frame::BODY + context::LENGTH && !rng.one_in(3) {
         bytes[frame::BODY + context::CONNECTION] = rng.below(2) as u8;
-        bytes[frame::BODY + context::ZEROS..frame::BODY + context::LENGTH].fill(0);
+        bytes[frame::BODY + context::ZEROS..frame::BODY + context::CLIENT_TIME].fill(0);
     }
     let order = frame::BODY + context::LENGTH + open_init::ORDER;
     if kind == OPEN_INIT && length > order && rng.one_in(2) {

@@ -73,6 +73,14 @@ impl Ledger {
         (last_height(&self.store), last_time(&self.store))
     }
 
+    /// What a client knows of this ledger: height and time of its latest block, or of an earlier one where it is
+    /// behind. Before the first call both are 0.
+    pub fn known(&self, rng: &mut Rng) -> (u64, u64) {
+        let last = self.blocks.len() as u64 - 1;
+        let block = &self.blocks[rng.between(0, last) as usize];
+        (block.height, block.time)
+    }
+
     /// A moment for the next call that leaves closed blocks closed.
     pub fn next_moment(&self, rng: &mut Rng) -> (u64, u64) {
         let (last_height, last_time) = self.now();

@@ -14,8 +14,13 @@ impl History {
         let end = self.some_end(&store, Channel::is_open)?;
         let (height, time) = self.ledgers[1 - at].now();
         let far = self.rng.pick(&[4, 16, 60, 200]);
-        let mut ahead = |now: u64| if self.rng.one_in(3) { 0 } else { now + 1 + self.rng.below(far) };
-        let (timeout_height, timeout_timestamp) = (ahead(height), ahead(time));
+        let mut timeout = |now: u64| match self.rng.below(12) {
+            0..=3 => 0,
+            // It has passed there, whether the client knows that or not.
+            4 => now.saturating_sub(self.rng.below(3)),
+            _ => now + 1 + self.rng.below(far),
+        };
+        let (timeout_height, timeout_timestamp) = (timeout(height), timeout(time));
         let packet = Packet {
             sequence: 0,
             timeout_height,

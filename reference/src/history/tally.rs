@@ -6,9 +6,11 @@ use super::ends::{Broken, End, Ends};
 use super::sequences::{Fault, Sequences};
 use super::Truth;
 use crate::bytes::*;
-use crate::datagram::{Packet, TIME_OUT, TIME_OUT_ON_CLOSE};
+use crate::datagram::{read, Body, Context, Packet, TIME_OUT, TIME_OUT_ON_CLOSE};
 use crate::generate::shape::channels;
 use crate::places::{frame, packet};
+use crate::refusal::TIMEOUT_PASSED;
+use crate::rules::{passed, reached};
 use crate::store::*;
 
 /// A packet's name: its sender's ledger, source channel and sequence.
@@ -23,7 +25,7 @@ struct Sums {
 }
 
 /// What is counted, besides the promises.
-pub const TOTALS: [&str; 24] = [
+pub const TOTALS: [&str; 26] = [
     "packets sent",
     "delivered at paired ends",
     "of them at ends of the handshake",
@@ -48,6 +50,8 @@ pub const TOTALS: [&str; 24] = [
     "timed out there by the same counter",
     "and on an end that was not OPEN",
     "ends that did both by one counter",
+    "packets sent with a timeout time",
+    "sends refused for the client's time",
 ];
 
 #[derive(Default)]
@@ -70,6 +74,9 @@ pub struct Tally {
     /// Time-outs on close of packets that had not lapsed, where timeouts are allowed.
     not_taken: u64,
     sequences: Sequences,
+    /// Sends with a timeout time: those accepted, and those refused with 11 that the client's time had reached.
+    timed: u64,
+    refused_for_time: u64,
     /// Each fault is told once.
     told: BTreeSet<String>,
     pub broken: Vec<String>,
@@ -83,10 +90,7 @@ impl Tally {
     }
 
     pub fn totals(&self) -> [u64; TOTALS.len()] {
-        let timed_out = self.timed_out.len();
-        let acknowledged = self.finished.len() - timed_out;
-        let [sent, delivered, acknowledged, timed_out] =
-            [self.sent.len(), self.delivered.len(), acknowledged, timed_out].map(|count| count as u64);
+        let (finished, timed_out) = (self.finished.len() as u64, self.timed_out.len() as u64);
         let [inits, tries, by_acknowledge, by_confirm] = self.ends.steps();
         let (twice, crossing) = (self.ends.answered_twice(), self.ends.crossing());
         let [by_close_init, by_close_confirm] = self.ends.closes();
@@ -94,10 +98,10 @@ impl Tally {
         let lapsed = |kind: u16| of_kind(kind).filter(|name| self.lapsed.contains(name)).count() as u64;
         let [acknowledged_there, timed_out_there, not_open, by_one_counter] = self.sequences.totals();
         [
-            sent,
-            delivered,
+            self.sent.len() as u64,
+            self.delivered.len() as u64,
             self.at_handshake,
-            acknowledged,
+            finished - timed_out,
             timed_out,
             self.on_closed,
             inits,
@@ -118,6 +122,8 @@ impl Tally {
             timed_out_there,
             not_open,
             by_one_counter,
+            self.timed,
+            self.refused_for_time,
         ]
     }
 
@@ -129,15 +135,24 @@ impl Tally {
         delivered.filter(|(ledger, channel, _)| self.ends.is_closed(&(*ledger, *channel))).count() as u64
     }
 
+    /// Takes a call that was refused with this number.
+    pub fn take_refused(&mut self, bytes: &[u8], number: u8) {
+        let by_time = read(bytes).is_some_and(|it| match it.body {
+            Body::Send { timeout_timestamp, .. } => reached(it.context.client_time, timeout_timestamp),
+            _ => false,
+        });
+        self.refused_for_time += u64::from(by_time && number == TIMEOUT_PASSED);
+    }
+
     /// Takes what an accepted call of this kind on this ledger emitted, if anything, and the store that it left.
-    pub fn take(&mut self, ledger: usize, datagram: u16, emitted: &[u8], store: &[u8]) {
+    pub fn take(&mut self, ledger: usize, datagram: u16, context: &Context, emitted: &[u8], store: &[u8]) {
         let (kind, bytes) = match emitted.get(frame::BODY..) {
             Some(bytes) => (get_u16(emitted, frame::KIND), bytes),
             None => (0, emitted),
         };
         let made = (kind == 0x0107).then(|| (get_u16(bytes, 0), get_u32(bytes, 2)));
         match kind {
-            0x0101 => self.take_sent(ledger, get(bytes, 0)),
+            0x0101 => self.take_sent(ledger, context, get(bytes, 0)),
             0x0102 => self.take_delivered(ledger, get(bytes, 0)),
             0x0104 => self.take_finished(ledger, &Packet::read(bytes), None),
             0x0105 => self.take_finished(ledger, &Packet::read(bytes), Some(datagram)),
@@ -150,12 +165,15 @@ impl Tally {
         self.check_missing(ledger, store);
     }
 
-    fn take_sent(&mut self, ledger: usize, bytes: [u8; packet::LENGTH]) {
+    fn take_sent(&mut self, ledger: usize, context: &Context, bytes: [u8; packet::LENGTH]) {
         let packet = Packet::read(&bytes);
         let name = (ledger, packet.source_channel, packet.sequence);
         self.sums.entry((ledger, packet.source_channel)).or_default().sent += 1;
+        self.timed += u64::from(packet.timeout_timestamp != 0);
         let again = self.sent.insert(name, bytes).is_some();
-        self.note_packet(name, &[(Truth::Nothing, again, "sent twice")]);
+        let late = passed(&packet, context.client_height, context.client_time);
+        let faults = [(Truth::Nothing, again, "sent twice"), (Truth::Nothing, late, "sent after its timeout")];
+        self.note_packet(name, &faults);
     }
 
     fn take_delivered(&mut self, ledger: usize, bytes: [u8; packet::LENGTH]) {

@@ -42,8 +42,21 @@ pub fn opening(port: u16, channel: u32, other_port: u16, other_channel: u32, ord
     Bytes::default().n32(20).n16(0x10).n16(port).n32(channel).n16(other_port).n32(other_channel).n8(order).n8(0).0
 }
 
+/// Places of a datagram: the caller's port, the connection and the client's time, and where the context ends.
+pub const CALLER: usize = 30;
+pub const CONNECTION: usize = 32;
+pub const CLIENT_TIME: usize = 38;
+pub const BODY: usize = CLIENT_TIME + 8;
+
+/// Frame and context of a datagram at height 100 and time 1,000; the client knows height 50 and time 0.
 pub fn start(length: u32, kind: u16, caller: u16) -> Bytes {
-    Bytes::default().n32(length).n16(kind).n64(100).n64(1000).n64(50).n16(caller).n8(1).zeros(5)
+    start_at(length, kind, caller, 0)
+}
+
+/// The same where the client knows this time.
+pub fn start_at(length: u32, kind: u16, caller: u16, client_time: u64) -> Bytes {
+    let frame = Bytes::default().n32(length).n16(kind);
+    frame.n64(100).n64(1000).n64(50).n16(caller).n8(1).zeros(5).n64(client_time)
 }
 
 /// Handles it and checks that a refusal changes nothing and an acceptance nothing behind what it emits.

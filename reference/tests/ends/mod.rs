@@ -11,14 +11,13 @@ pub const TRYOPEN: u8 = 2;
 pub const OPEN: u8 = 3;
 pub const CLOSED: u8 = 4;
 pub const VERSION: &[u8] = b"v1";
-/// Places of a datagram: the connection, and where the verdicts begin, of a receive and of a time-out, of an
-/// acknowledge, of a close confirm, and both of a time-out on close.
-pub const CONNECTION: usize = 32;
-pub const BEHIND_PACKET: usize = 106;
-pub const BEHIND_ACKNOWLEDGEMENT: usize = 138;
-pub const CONFIRM_VERDICT: usize = 42;
-pub const END_VERDICT: usize = 106;
-pub const VERDICT: usize = 188;
+/// Where the verdicts of a datagram begin: of a receive and of a time-out, of an acknowledge, of a close confirm, and
+/// both of a time-out on close.
+pub const BEHIND_PACKET: usize = BODY + 68;
+pub const BEHIND_ACKNOWLEDGEMENT: usize = BEHIND_PACKET + 32;
+pub const CONFIRM_VERDICT: usize = BODY + 4;
+pub const END_VERDICT: usize = BEHIND_PACKET;
+pub const VERDICT: usize = END_VERDICT + 82;
 
 #[derive(Clone, Copy)]
 pub struct End {
@@ -66,15 +65,15 @@ impl End {
     }
 
     pub fn send(self) -> Vec<u8> {
-        start(90, 1, 5).n32(self.own).n64(60).n64(0).digest(0xd1).0
+        start(98, 1, 5).n32(self.own).n64(60).n64(0).digest(0xd1).0
     }
 
     pub fn close_init(self) -> Vec<u8> {
-        start(42, 10, 5).n32(self.own).0
+        start(50, 10, 5).n32(self.own).0
     }
 
     pub fn close_confirm(self) -> Vec<u8> {
-        start(124, 11, 5).n32(self.own).text(&self.shown(CLOSED, VERSION)).0
+        start(132, 11, 5).n32(self.own).text(&self.shown(CLOSED, VERSION)).0
     }
 
     /// Of packet 1, with everything as it has to be.
@@ -83,7 +82,7 @@ impl End {
     }
 
     pub fn on_close_with(self, sequence: u64, shown: &[u8], absent: &[u8]) -> Vec<u8> {
-        start(268, 12, 5).text(&self.packet(sequence)).text(shown).text(absent).0
+        start(276, 12, 5).text(&self.packet(sequence)).text(shown).text(absent).0
     }
 
     pub fn time_out(self) -> Vec<u8> {
@@ -92,7 +91,7 @@ impl End {
 
     /// In a block at the timeout.
     pub fn time_out_with(self, sequence: u64, absent: &[u8]) -> Vec<u8> {
-        with(start(186, 5, 5).text(&self.packet(sequence)).text(absent).0, &[(BEHIND_PACKET + 2, 60)])
+        with(start(194, 5, 5).text(&self.packet(sequence)).text(absent).0, &[(BEHIND_PACKET + 2, 60)])
     }
 
     /// A packet that the counterparty has sent.
@@ -109,13 +108,13 @@ impl End {
     pub fn receive_with(self, sequence: u64, height: u64, time: u64) -> Vec<u8> {
         let front = Bytes::default().n16(1).n64(51).n64(777).n16(6).n32(self.other);
         let verdict = front.n64(sequence).n64(height).n64(time).digest(0xd2).0;
-        start(186, 2, 5).text(&self.packet_to(sequence, height, time)).text(&verdict).0
+        start(194, 2, 5).text(&self.packet_to(sequence, height, time)).text(&verdict).0
     }
 
     pub fn acknowledge(self, sequence: u64) -> Vec<u8> {
         let front = Bytes::default().n16(2).n64(51).n64(777).n16(6).n32(self.other);
         let verdict = front.n64(sequence).n64(0).n64(0).digest(0xac).0;
-        start(218, 4, 5).text(&self.packet(sequence)).digest(0xac).text(&verdict).0
+        start(226, 4, 5).text(&self.packet(sequence)).digest(0xac).text(&verdict).0
     }
 
     pub fn timed_out(self, sequence: u64) -> Vec<u8> {

@@ -97,18 +97,18 @@ impl Pair {
         let (own, other) = (ENDS[at].1, 1 - at);
         let begun = |length| self.start(length, kind, at);
         let bytes = match kind {
-            SEND => begun(90).n32(own).n64(timeout).n64(0).digest(DATA),
-            RECEIVE => begun(186).text(&self.packet(other, sequence)?).text(&self.commitment(other, sequence)?),
-            WRITE => begun(82).n32(own).n64(sequence).digest(ACKNOWLEDGED),
+            SEND => begun(98).n32(own).n64(timeout).n64(0).digest(DATA),
+            RECEIVE => begun(194).text(&self.packet(other, sequence)?).text(&self.commitment(other, sequence)?),
+            WRITE => begun(90).n32(own).n64(sequence).digest(ACKNOWLEDGED),
             ACKNOWLEDGE => {
-                let packet = begun(218).text(&self.packet(at, sequence)?).digest(ACKNOWLEDGED);
+                let packet = begun(226).text(&self.packet(at, sequence)?).digest(ACKNOWLEDGED);
                 packet.text(&self.acknowledgement(at, sequence)?)
             }
-            TIME_OUT => begun(186).text(&self.packet(at, sequence)?).text(&self.absence(at, sequence, kind)?),
-            CLOSE_INIT => begun(42).n32(own),
-            CLOSE_CONFIRM => begun(124).n32(own).text(&self.shown(other)),
+            TIME_OUT => begun(194).text(&self.packet(at, sequence)?).text(&self.absence(at, sequence, kind)?),
+            CLOSE_INIT => begun(50).n32(own),
+            CLOSE_CONFIRM => begun(132).n32(own).text(&self.shown(other)),
             _ => {
-                let packet = begun(268).text(&self.packet(at, sequence)?);
+                let packet = begun(276).text(&self.packet(at, sequence)?);
                 packet.text(&self.shown(other)).text(&self.absence(at, sequence, kind)?)
             }
         };
@@ -117,7 +117,8 @@ impl Pair {
 
     fn start(&self, length: u32, kind: u16, at: usize) -> Bytes {
         let frame = Bytes::default().n32(length).n16(kind);
-        frame.n64(self.clock).n64(10 * self.clock).n64(self.clock).n16(ENDS[at].0).n8(1).zeros(5)
+        let own = frame.n64(self.clock).n64(10 * self.clock);
+        own.n64(self.clock).n16(ENDS[at].0).n8(1).zeros(5).n64(10 * self.clock)
     }
 
     /// The height at which a packet that is committed on this ledger times out.
