@@ -6,11 +6,11 @@ use crate::{Context, Digest, End, EndVerdict, Order, Packet, Timeout, Verdict};
 /// The bytes of a datagram, for [`Store::handle`](crate::Store::handle).
 ///
 /// ```
-/// use route::{Context, Datagram, OtherHeight, OwnHeight, Timeout};
-/// let context =
-///     Context { height: OwnHeight(100), time: 1_000, client: OtherHeight(50), port: 5, connected: true };
+/// use route::{Block, Context, Datagram, OtherHeight, OtherTime, OwnHeight, OwnTime, Timeout};
+/// let client = Block { height: OtherHeight(50), time: OtherTime(900) };
+/// let context = Context { height: OwnHeight(100), time: OwnTime(1_000), client, port: 5, connected: true };
 /// let send = Datagram::send(&context, 7, Timeout::at_height(OtherHeight(60)), [1; 32]);
-/// assert_eq!(send.as_bytes().len(), 90);
+/// assert_eq!(send.as_bytes().len(), 98);
 /// ```
 #[derive(Clone, Debug, PartialEq, Eq, Hash)]
 pub struct Datagram(Vec<u8>);
@@ -26,7 +26,8 @@ impl Datagram {
         Datagram(bytes)
     }
 
-    /// Sends a packet on a channel of this ledger.
+    /// Sends a packet on a channel of this ledger. It is refused if the timeout
+    /// [has passed](Timeout::has_passed_at) at the latest block of the other ledger that the light client knows.
     pub fn send(context: &Context, channel: u32, timeout: Timeout, digest: Digest) -> Datagram {
         let (height, time) = timeout.numbers();
         Datagram::new(1, context, 52, |to| to.u32(channel).u64(height).u64(time).bytes(&digest))
