@@ -34,7 +34,7 @@ impl Datagram {
     }
 
     /// Receives a packet that the other ledger sent. The verdict needed is [`Verdict::commitment_present`]. One that
-    /// comes late is refused, but with [`Order::OrderedAllowTimeout`] it lapses, and
+    /// comes late, by the own height and time, is refused, but with [`Order::OrderedAllowTimeout`] it lapses, and
     /// [`Emitted::Lapsed`](crate::Emitted::Lapsed) tells it from a delivery.
     pub fn receive(context: &Context, packet: &Packet, verdict: &Verdict) -> Datagram {
         Datagram::new(2, context, 148, |to| verdict.write(packet.write(to)))
@@ -51,10 +51,10 @@ impl Datagram {
         Datagram::new(4, context, 180, |to| verdict.write(packet.write(to).bytes(&acknowledgement)))
     }
 
-    /// Times out a packet that this ledger sent and the other did not receive. The verdict needed is
-    /// [`Verdict::next_receive`] with [`Order::Ordered`], [`Verdict::receipt_absent`] with [`Order::Unordered`], and
-    /// [`Verdict::timeout_receipt_present`] with [`Order::OrderedAllowTimeout`], where a packet first has to come late
-    /// and lapse.
+    /// Times out a packet that this ledger sent and the other did not receive. Its timeout has to have passed at the
+    /// block of the verdict. The verdict needed is [`Verdict::next_receive`] with [`Order::Ordered`],
+    /// [`Verdict::receipt_absent`] with [`Order::Unordered`], and [`Verdict::timeout_receipt_present`] with
+    /// [`Order::OrderedAllowTimeout`], where a packet first has to come late and lapse.
     pub fn time_out(context: &Context, packet: &Packet, verdict: &Verdict) -> Datagram {
         Datagram::new(5, context, 148, |to| verdict.write(packet.write(to)))
     }
