@@ -43,19 +43,21 @@ extern "C" {
 #define ROUTE_OPENING_LENGTH 20
 
 /* The lengths of the datagrams, and of the emitted records. An open init and an open try have the version behind these
- * bytes. */
-#define ROUTE_SEND_LENGTH 90
-#define ROUTE_RECEIVE_LENGTH 186
-#define ROUTE_WRITE_LENGTH 82
-#define ROUTE_ACKNOWLEDGE_LENGTH 218
-#define ROUTE_TIME_OUT_LENGTH 186
-#define ROUTE_OPEN_INIT_LENGTH 41
-#define ROUTE_OPEN_TRY_LENGTH 127
-#define ROUTE_OPEN_ACKNOWLEDGE_LENGTH 128
-#define ROUTE_OPEN_CONFIRM_LENGTH 124
-#define ROUTE_CLOSE_INIT_LENGTH 42
-#define ROUTE_CLOSE_CONFIRM_LENGTH 124
-#define ROUTE_TIME_OUT_ON_CLOSE_LENGTH 268
+ * bytes. Every context ends with the client's latest time, at offset 38 of the datagram; the body begins at 46. A
+ * datagram in the layout from before that is 8 bytes shorter and gets ROUTE_MALFORMED (docs/DATAGRAMS.md has an
+ * exception). Stores from before are taken as they are. */
+#define ROUTE_SEND_LENGTH 98
+#define ROUTE_RECEIVE_LENGTH 194
+#define ROUTE_WRITE_LENGTH 90
+#define ROUTE_ACKNOWLEDGE_LENGTH 226
+#define ROUTE_TIME_OUT_LENGTH 194
+#define ROUTE_OPEN_INIT_LENGTH 49
+#define ROUTE_OPEN_TRY_LENGTH 135
+#define ROUTE_OPEN_ACKNOWLEDGE_LENGTH 136
+#define ROUTE_OPEN_CONFIRM_LENGTH 132
+#define ROUTE_CLOSE_INIT_LENGTH 50
+#define ROUTE_CLOSE_CONFIRM_LENGTH 132
+#define ROUTE_TIME_OUT_ON_CLOSE_LENGTH 276
 #define ROUTE_SENT_LENGTH 74
 #define ROUTE_DELIVERED_LENGTH 74
 #define ROUTE_WRITTEN_LENGTH 52
@@ -101,7 +103,7 @@ enum route_state {
     ROUTE_STATE_CLOSED = 4   /* by a close, or by a time-out on a channel of order 1; it takes time-outs only */
 };
 
-/* Orders of a channel: of an opening at offset 18, of an open init at 40, of an open try at 44, of a channel record at
+/* Orders of a channel: of an opening at offset 18, of an open init at 48, of an open try at 52, of a channel record at
  * offset 3. Both ends have the same one, and it never changes. */
 enum route_order {
     ROUTE_ORDERED = 1,              /* packets are received and acknowledged in order; a time-out closes the end */
@@ -146,8 +148,10 @@ enum route_answer {
     ROUTE_NO_CONNECTION = 8,         /* 2, 4, 7 to 11: the connection is not open */
     ROUTE_WRONG_END = 9,             /* 2, 4, 5, 12: the packet's ports and other channel do not fit this end */
     ROUTE_NO_TIMEOUT = 10,           /* 1: both timeouts are zero */
-    ROUTE_TIMEOUT_PASSED = 11,       /* 1, 2: the timeout has passed; never 2 on order 3, where the packet lapses */
-    ROUTE_TIMEOUT_NOT_PASSED = 12,   /* 5: the timeout has not passed */
+    ROUTE_TIMEOUT_PASSED = 11,       /* 1: the client's height or time, which are the other ledger's, is at or above the
+                                        timeout; 2: the own height or time is, but never on order 3, where the packet
+                                        lapses */
+    ROUTE_TIMEOUT_NOT_PASSED = 12,   /* 5: neither the verdict's height nor its time is at or above the timeout */
     ROUTE_NO_COMMITMENT = 13,        /* 4, 5, 12: no commitment with this sequence, timeouts and digest */
     ROUTE_VERDICT_CLAIM = 140,       /* 2, 4, 5, 7, 8, 9, 11, 12: the verdict has another claim */
     ROUTE_VERDICT_PORT = 141,        /* 2, 4, 5, 12: the verdict has another port */

@@ -12,11 +12,11 @@ OPEN += "channel 11 port 5 ordered-allow-timeout to 6/12\n"
 
 # The opening and the send of docs/REPLAY.md, byte for byte.
 OPENING = "14000000 1000 0500 07000000 0600 09000000 01 00"
-CONTEXT = "6400000000000000 e803000000000000 3200000000000000 0500 01 0000000000"
-SEND = "5a000000 0100" + CONTEXT + "07000000 3c00000000000000 0000000000000000 01" + "00" * 31
+CONTEXT = "6400000000000000 e803000000000000 3200000000000000 0500 01 0000000000 8403000000000000"
+SEND = "62000000 0100" + CONTEXT + "07000000 3c00000000000000 0000000000000000 01" + "00" * 31
 
 # The steps that open and close a channel, byte for byte, each with the lines that write it.
-STEPS = """at height 100 time 1000 client 50
+STEPS = """at height 100 time 1000 client 50/900
 init 1 port 5 ordered to 6 version v1
 try 2 port 5 unordered to 6/4 version v1
 open-acknowledge 1 to 9
@@ -24,15 +24,15 @@ open-confirm 2
 close-init 1
 close-confirm 2
 """
-PROOF = "0500 3200000000000000 e803000000000000"
+PROOF = "0500 3200000000000000 8403000000000000"
 BEHIND = "00" * 24 + "7631" + "00" * 22  # counters, which are zero, and version
 STEP_BYTES = [
-    "2b000000 0600" + CONTEXT + "0600 01 7631",
-    "81000000 0700" + CONTEXT + "0600 04000000 02" + PROOF + "0100 01 02 04000000 0600 0500 00000000" + BEHIND + "7631",
-    "80000000 0800" + CONTEXT + "01000000 09000000" + PROOF + "0100 02 01 09000000 0600 0500 01000000" + BEHIND,
-    "7c000000 0900" + CONTEXT + "02000000" + PROOF + "0100 03 02 04000000 0600 0500 02000000" + BEHIND,
-    "2a000000 0a00" + CONTEXT + "01000000",
-    "7c000000 0b00" + CONTEXT + "02000000" + PROOF + "0100 04 02 04000000 0600 0500 02000000" + BEHIND,
+    "33000000 0600" + CONTEXT + "0600 01 7631",
+    "89000000 0700" + CONTEXT + "0600 04000000 02" + PROOF + "0100 01 02 04000000 0600 0500 00000000" + BEHIND + "7631",
+    "88000000 0800" + CONTEXT + "01000000 09000000" + PROOF + "0100 02 01 09000000 0600 0500 01000000" + BEHIND,
+    "84000000 0900" + CONTEXT + "02000000" + PROOF + "0100 03 02 04000000 0600 0500 02000000" + BEHIND,
+    "32000000 0a00" + CONTEXT + "01000000",
+    "84000000 0b00" + CONTEXT + "02000000" + PROOF + "0100 04 02 04000000 0600 0500 02000000" + BEHIND,
 ]
 
 
@@ -55,54 +55,54 @@ def records(text):
 
 class Bytes(unittest.TestCase):
     def test_example_of_the_format(self):
-        text = "open 2\nchannel 7 port 5 ordered to 6/9\nat height 100 time 1000 client 50\nsend 7 height 60\n"
+        text = "open 2\nchannel 7 port 5 ordered to 6/9\nat height 100 time 1000 client 50/900\nsend 7 height 60\n"
         expected = bytes.fromhex("1c000000 2000 0200" + OPENING + SEND)
         self.assertEqual(run(text).stdout, expected)
 
     def test_lengths(self):
         lines = "send 7\nreceive 7\nwrite 7\nacknowledge 7\ntimeout 7\ntimeout-on-close 7\nraw 0600 0000 0900\n"
         made = records(OPEN + lines)
-        self.assertEqual([len(record) for record in made], [90, 186, 82, 218, 186, 268, 6])
+        self.assertEqual([len(record) for record in made], [98, 194, 90, 226, 194, 276, 6])
         self.assertEqual([record[4] for record in made], [1, 2, 3, 4, 5, 12, 9])
 
     def test_needed_verdicts(self):
         lines = "receive 7 height 60\nacknowledge 7 height 60\ntimeout 7 sequence 4 height 60\ntimeout 8 height 60\n"
         lines += "timeout 11 sequence 4 height 60\n"
         receive, acknowledge, ordered, unordered, allowed = records(OPEN + lines)
-        self.assertEqual(receive[106], 1)
+        self.assertEqual(receive[114], 1)
         # Source, sequence, timeouts and digest are the packet's.
-        self.assertEqual(receive[124:130], receive[62:68])
-        self.assertEqual(receive[130:186], receive[38:62] + receive[74:106])
-        self.assertEqual(acknowledge[138], 2)
-        self.assertEqual(acknowledge[156:162], acknowledge[68:74])
-        self.assertEqual(acknowledge[162:218], acknowledge[38:46] + bytes(16) + acknowledge[106:138])
-        self.assertEqual((ordered[106], unordered[106], allowed[106]), (4, 3, 6))
+        self.assertEqual(receive[132:138], receive[70:76])
+        self.assertEqual(receive[138:194], receive[46:70] + receive[82:114])
+        self.assertEqual(acknowledge[146], 2)
+        self.assertEqual(acknowledge[164:170], acknowledge[76:82])
+        self.assertEqual(acknowledge[170:226], acknowledge[46:54] + bytes(16) + acknowledge[114:146])
+        self.assertEqual((ordered[114], unordered[114], allowed[114]), (4, 3, 6))
         for timeout in (ordered, unordered, allowed):
-            self.assertEqual(timeout[124:186], timeout[68:74] + timeout[38:46] + bytes(48))
+            self.assertEqual(timeout[132:194], timeout[76:82] + timeout[46:54] + bytes(48))
 
     def test_verdicts_of_a_timeout_on_close(self):
         """The packet and its verdict are those of a time-out, with the end verdict of a close-confirm between them."""
         for own, claim in ((7, 4), (8, 3), (11, 4)):
             packet = f"{own} sequence 4 height 60 digest 05"
-            lines = f"at client 50 time 9\ntimeout {packet}\nclose-confirm {own}\ntimeout-on-close {packet}\n"
+            lines = f"at client 50/9 time 7\ntimeout {packet}\nclose-confirm {own}\ntimeout-on-close {packet}\n"
             timeout, confirm, on_close = records(OPEN + lines)
-            self.assertEqual(on_close[38:], timeout[38:106] + confirm[42:] + bytes([claim, 0]) + timeout[108:])
-            self.assertEqual((on_close[108:124], confirm[62]), (on_close[190:206], 4))
+            self.assertEqual(on_close[46:], timeout[46:114] + confirm[50:] + bytes([claim, 0]) + timeout[116:])
+            self.assertEqual((on_close[116:132], confirm[70]), (on_close[198:214], 4))
             told = " end-verdict claim 4 at 51 state open verdict claim 2 at 52/8 sequence 3"
-            (other,) = records(OPEN + f"at client 50 time 9\ntimeout-on-close {packet}{told}\n")
+            (other,) = records(OPEN + f"at client 50/9 time 7\ntimeout-on-close {packet}{told}\n")
             expected = bytes.fromhex("0400 3300000000000000 0900000000000000 0100 03")
-            self.assertEqual(other[106:127], expected)
-            self.assertEqual(other[127:188], on_close[127:188])
+            self.assertEqual(other[114:135], expected)
+            self.assertEqual(other[135:196], on_close[135:196])
             expected = bytes.fromhex("0200 3400000000000000 0800000000000000")
-            self.assertEqual(other[188:220], expected + on_close[206:212] + bytes([3] + [0] * 7))
+            self.assertEqual(other[196:228], expected + on_close[214:220] + bytes([3] + [0] * 7))
 
     def test_every_part_can_be_told(self):
         line = "receive 7 sequence 2 height 3 time 4 from 5/6 to 7/8 digest 09"
         told = " verdict claim 2 at 10/11 on 12/13 sequence 14 height 15 time 16 digest 11"
         (record,) = records(OPEN + line + told)
-        numbers = [(38, 8, 2), (46, 8, 3), (54, 8, 4), (62, 2, 5), (64, 4, 6), (68, 2, 7), (70, 4, 8), (74, 1, 9)]
-        numbers += [(106, 2, 2), (108, 8, 10), (116, 8, 11), (124, 2, 12), (126, 4, 13), (130, 8, 14), (138, 8, 15)]
-        numbers += [(146, 8, 16), (154, 1, 17)]
+        numbers = [(46, 8, 2), (54, 8, 3), (62, 8, 4), (70, 2, 5), (72, 4, 6), (76, 2, 7), (78, 4, 8), (82, 1, 9)]
+        numbers += [(114, 2, 2), (116, 8, 10), (124, 8, 11), (132, 2, 12), (134, 4, 13), (138, 8, 14), (146, 8, 15)]
+        numbers += [(154, 8, 16), (162, 1, 17)]
         for at, width, value in numbers:
             self.assertEqual(int.from_bytes(record[at : at + width], "little"), value, at)
 
@@ -113,10 +113,10 @@ class Bytes(unittest.TestCase):
 
     def test_every_part_of_an_end_verdict_can_be_told(self):
         told = " verdict claim 1 at 10/11 on 12/13 to 14/15 state closed order ordered version 0x6100"
-        steps = [("try 1 port 5 ordered-allow-timeout to 6/9", 45), ("open-acknowledge 8 to 9", 46)]
-        steps += [("open-confirm 8", 42), ("close-confirm 8", 42), ("timeout-on-close 8", 106)]
+        steps = [("try 1 port 5 ordered-allow-timeout to 6/9", 53), ("open-acknowledge 8 to 9", 54)]
+        steps += [("open-confirm 8", 50), ("close-confirm 8", 50), ("timeout-on-close 8", 114)]
         for line, at in steps:
-            (record,) = records(OPEN + line + (told if at != 106 else told.replace("verdict", "end-verdict")))
+            (record,) = records(OPEN + line + (told if at != 114 else told.replace("verdict", "end-verdict")))
             expected = "0100 0a00000000000000 0b00000000000000 0100 04 01 0d000000 0c00 0e00 0f000000"
             self.assertEqual(record[at : at + 82].hex(), bytes.fromhex(expected + "00" * 24 + "61" + "00" * 23).hex())
 
@@ -125,28 +125,40 @@ class Bytes(unittest.TestCase):
             lines = f"channel 9 port 5 {order} to 6/9\ninit 1 port 5 {order} to 6\ntry 1 port 5 {order} to 6/9\n"
             data = run("open 2\n" + lines + f"close-confirm 7 verdict order {order}\n").stdout
             # At its place in the opening, the init, the try with its verdict, and the record of an end verdict.
-            self.assertEqual([data[at] for at in (26, 68, 113, 135, 259)], [number] * 5)
+            self.assertEqual([data[at] for at in (26, 76, 129, 151, 283)], [number] * 5)
 
     def test_versions(self):
         lines = "init 1 port 5 ordered to 6\ninit 1 port 5 ordered to 6 version 0x610062\n"
         lines += "try 1 port 5 ordered to 6/9 version " + "v" * 25
         empty, inside, long = records(OPEN + lines)
-        self.assertEqual((len(empty), inside[41:]), (41, b"a\0b"))
-        self.assertEqual((long[103:127], long[127:]), (b"v" * 24, b"v" * 25))
+        self.assertEqual((len(empty), inside[49:]), (49, b"a\0b"))
+        self.assertEqual((long[111:135], long[135:]), (b"v" * 24, b"v" * 25))
 
     def test_opened_end_is_known(self):
         lines = "open-acknowledge 1 to 9\nat caller 7\ninit 2 port 5 unordered to 6\nat caller owner\n"
         lines += "acknowledge 1\nsend 2\n"
         *_, acknowledge, send = records(OPEN + "init 1 port 5 ordered to 6\n" + lines)
         self.assertEqual(acknowledge[30:32].hex(), "0500")
-        self.assertEqual(acknowledge[62:74].hex(), "0500" "01000000" "0600" "09000000")
+        self.assertEqual(acknowledge[70:82].hex(), "0500" "01000000" "0600" "09000000")
         self.assertEqual(send[30:32].hex(), "0700")
 
     def test_context_stays(self):
-        lines = "at height 9 time 8 client 7 caller 6 connection closed\nsend 7\nat caller owner\nsend 7\n"
+        lines = "at height 9 time 8 client 7/5 caller 6 connection closed\nsend 7\nat caller owner\nsend 7\n"
         first, second = records(OPEN + lines)
-        self.assertEqual(first[6:38].hex(), "0900000000000000" "0800000000000000" "0700000000000000" "0600" + "00" * 6)
+        expected = "0900000000000000" "0800000000000000" "0700000000000000" "0600" + "00" * 6 + "0500000000000000"
+        self.assertEqual(first[6:46].hex(), expected)
         self.assertEqual(second[30:33].hex(), "050000")
+
+    def test_clients_block(self):
+        """At first 0/0. Without a time it keeps the one that it had, and a verdict has the client's."""
+        lines = "timeout 7\nat time 9 client 3\ntimeout 7\nat client 4/5\ntimeout 7\nat client 6\ntimeout 7\n"
+        lines += "timeout 7 verdict at 8\ntimeout 7 verdict at 8/2\n"
+        told = []
+        for record in records(OPEN + lines):
+            blocks = [record[22:30], record[38:46], record[116:124], record[124:132]]
+            told.append([int.from_bytes(number, "little") for number in blocks])
+        expected = [[0, 0, 0, 0], [3, 0, 3, 0], [4, 5, 4, 5], [6, 5, 6, 5], [6, 5, 8, 5], [6, 5, 8, 2]]
+        self.assertEqual(told, expected)
 
 
 class Beside(unittest.TestCase):
@@ -194,6 +206,9 @@ BAD_LINES = [
     ("receive 7 from 5", "is not PORT/CHANNEL"),
     ("receive 7 from 70000/1", "70000 is not between 0 and 65535"),
     ("at connection perhaps", "is not one of: open, closed"),
+    ("at client 50/", "'' is not a number"),
+    ("at client 50/x", "'x' is not a number"),
+    ("at client 50/9/8", "'9/8' is not a number"),
     ("raw", "is missing"),
     ("raw 0", "is not hexadecimal"),
     ("open 2", "'open' comes once"),

@@ -64,6 +64,7 @@ def end(word):
 
 
 def block(word):
+    """Height and time of a block of the other ledger; the time may be left out."""
     height, slash, time = word.partition("/")
     return number(height, 64), number(time, 64) if slash else None
 
@@ -87,7 +88,7 @@ def caller(word):
 
 TIMEOUTS = {"height": wide(64), "time": wide(64)}
 PACKET = {"sequence": wide(64), **TIMEOUTS, "from": end, "to": end, "digest": digest}
-CONTEXT = {**TIMEOUTS, "client": wide(64), "caller": caller, "connection": choice(open=1, closed=0)}
+CONTEXT = {**TIMEOUTS, "client": block, "caller": caller, "connection": choice(open=1, closed=0)}
 CHANNEL = {"port": wide(16), "to": end}
 PARTS = {
     "send": {**TIMEOUTS, "digest": digest},

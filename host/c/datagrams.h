@@ -29,14 +29,23 @@ static void start(uint8_t *datagram, uint32_t length, uint16_t kind)
     put(datagram + 22, 50, 8);   /* client height */
     put(datagram + 30, 5, 2);    /* caller's port */
     datagram[32] = 1;            /* connection open */
+    put(datagram + 38, 900, 8);  /* client time */
 }
 
 static void make_send(uint8_t *datagram, uint64_t timeout_height)
 {
     start(datagram, ROUTE_SEND_LENGTH, ROUTE_SEND);
-    put(datagram + 38, 7, 4);
-    put(datagram + 42, timeout_height, 8);
-    datagram[58] = 1; /* digest */
+    put(datagram + 46, 7, 4);
+    put(datagram + 50, timeout_height, 8);
+    datagram[66] = 1; /* digest */
+}
+
+/* The same with a timeout time too, and with this client time. */
+static void make_timed_send(uint8_t *datagram, uint64_t timeout_height, uint64_t timeout_time, uint64_t client_time)
+{
+    make_send(datagram, timeout_height);
+    put(datagram + 58, timeout_time, 8);
+    put(datagram + 38, client_time, 8);
 }
 
 /* A packet that was sent by make_send with timeout height 60. */
@@ -55,7 +64,7 @@ static void put_packet(uint8_t *at, uint64_t sequence)
 static void make_receive(uint8_t *datagram, uint64_t sequence)
 {
     start(datagram, ROUTE_RECEIVE_LENGTH, ROUTE_RECEIVE);
-    uint8_t *packet = datagram + 38, *verdict = datagram + 106;
+    uint8_t *packet = datagram + 46, *verdict = datagram + 114;
     put(packet, sequence, 8);
     put(packet + 8, 120, 8); /* timeout height */
     put(packet + 24, 6, 2);
@@ -74,16 +83,16 @@ static void make_receive(uint8_t *datagram, uint64_t sequence)
 static void make_late_receive(uint8_t *datagram, uint64_t sequence)
 {
     make_receive(datagram, sequence);
-    put(datagram + 46, 100, 8);
-    put(datagram + 138, 100, 8);
+    put(datagram + 54, 100, 8);
+    put(datagram + 146, 100, 8);
 }
 
 static void make_write(uint8_t *datagram, uint64_t sequence)
 {
     start(datagram, ROUTE_WRITE_LENGTH, ROUTE_WRITE);
-    put(datagram + 38, 7, 4);
-    put(datagram + 42, sequence, 8);
-    datagram[50] = 2; /* digest */
+    put(datagram + 46, 7, 4);
+    put(datagram + 50, sequence, 8);
+    datagram[58] = 2; /* digest */
 }
 
 /* What a verdict says: the other end waits for the first packet. */
@@ -99,8 +108,8 @@ static void put_not_received(uint8_t *at, uint64_t proof_height)
 static void make_time_out(uint8_t *datagram, uint64_t sequence, uint64_t proof_height)
 {
     start(datagram, ROUTE_TIME_OUT_LENGTH, ROUTE_TIME_OUT);
-    put_packet(datagram + 38, sequence);
-    put_not_received(datagram + 106, proof_height);
+    put_packet(datagram + 46, sequence);
+    put_not_received(datagram + 114, proof_height);
 }
 
 /* What a verdict says: the packet lapsed at the other end. */
@@ -115,9 +124,9 @@ static void put_lapsed(uint8_t *at, uint64_t sequence, uint64_t proof_height)
 static void make_open_init(uint8_t *datagram)
 {
     start(datagram, ROUTE_OPEN_INIT_LENGTH + 2, ROUTE_OPEN_INIT);
-    put(datagram + 38, 6, 2);
-    datagram[40] = ROUTE_ORDERED;
-    memcpy(datagram + 41, "v1", 2);
+    put(datagram + 46, 6, 2);
+    datagram[48] = ROUTE_ORDERED;
+    memcpy(datagram + 49, "v1", 2);
 }
 
 /* What an end verdict says, at height 50: channel 9 of port 6 is in this state, names this channel of port 5, and has
@@ -140,33 +149,33 @@ static void put_end_verdict(uint8_t *at, uint8_t state, uint32_t counterparty, c
 static void make_open_try(uint8_t *datagram)
 {
     start(datagram, ROUTE_OPEN_TRY_LENGTH + 2, ROUTE_OPEN_TRY);
-    put(datagram + 38, 6, 2);
-    put(datagram + 40, 9, 4);
-    datagram[44] = ROUTE_ORDERED;
-    put_end_verdict(datagram + 45, ROUTE_STATE_INIT, 0, "v1");
-    memcpy(datagram + 127, "v1", 2);
+    put(datagram + 46, 6, 2);
+    put(datagram + 48, 9, 4);
+    datagram[52] = ROUTE_ORDERED;
+    put_end_verdict(datagram + 53, ROUTE_STATE_INIT, 0, "v1");
+    memcpy(datagram + 135, "v1", 2);
 }
 
 static void make_close_init(uint8_t *datagram)
 {
     start(datagram, ROUTE_CLOSE_INIT_LENGTH, ROUTE_CLOSE_INIT);
-    put(datagram + 38, 7, 4);
+    put(datagram + 46, 7, 4);
 }
 
 /* Channel 7 was made with the store, so it has the empty version. */
 static void make_close_confirm(uint8_t *datagram, uint8_t state, const char *version)
 {
     start(datagram, ROUTE_CLOSE_CONFIRM_LENGTH, ROUTE_CLOSE_CONFIRM);
-    put(datagram + 38, 7, 4);
-    put_end_verdict(datagram + 42, state, 7, version);
+    put(datagram + 46, 7, 4);
+    put_end_verdict(datagram + 50, state, 7, version);
 }
 
 static void make_time_out_on_close(uint8_t *datagram, uint64_t sequence, uint8_t state, uint64_t proof_height)
 {
     start(datagram, ROUTE_TIME_OUT_ON_CLOSE_LENGTH, ROUTE_TIME_OUT_ON_CLOSE);
-    put_packet(datagram + 38, sequence);
-    put_end_verdict(datagram + 106, state, 7, "");
-    put_not_received(datagram + 188, proof_height);
+    put_packet(datagram + 46, sequence);
+    put_end_verdict(datagram + 114, state, 7, "");
+    put_not_received(datagram + 196, proof_height);
 }
 
 #endif

@@ -67,7 +67,7 @@ static void test_refusals(void)
     make_send(send, 51);
     send[30] = 6;
     EXPECT(call(send, sizeof send) == ROUTE_NOT_OWNER);
-    send[38] = 8;
+    send[46] = 8;
     EXPECT(call(send, sizeof send) == ROUTE_NO_CHANNEL);
     EXPECT(call(send, sizeof send - 1) == ROUTE_MALFORMED);
     EXPECT(call(NULL, 0) == ROUTE_MALFORMED);
@@ -79,15 +79,30 @@ static void test_refusals(void)
     EXPECT(call(send, sizeof send) == ROUTE_ACCEPTED);
 }
 
+/* A send's timeout time is compared with the client time, here 900, and not with the own time, which is 1000. */
+static void test_client_time(void)
+{
+    uint8_t send[ROUTE_SEND_LENGTH];
+    fresh();
+    make_timed_send(send, 0, 900, 900);
+    EXPECT(call(send, sizeof send) == ROUTE_TIMEOUT_PASSED);
+    make_timed_send(send, 51, 900, 900);
+    EXPECT(call(send, sizeof send) == ROUTE_TIMEOUT_PASSED);
+    make_timed_send(send, 0, 901, 900);
+    EXPECT(call(send, sizeof send) == ROUTE_ACCEPTED);
+    make_timed_send(send, 51, 0, UINT64_MAX); /* no timeout time */
+    EXPECT(call(send, sizeof send) == ROUTE_ACCEPTED);
+}
+
 /* A verdict that differs in ever more parts, from the last to the first: the first one is told. */
 static void test_verdict(void)
 {
     static const struct {
         size_t at;
         uint8_t answer;
-    } parts[] = {{154, ROUTE_VERDICT_DIGEST}, {146, ROUTE_VERDICT_TIMEOUTS}, {138, ROUTE_VERDICT_TIMEOUTS},
-                 {130, ROUTE_VERDICT_SEQUENCE}, {126, ROUTE_VERDICT_CHANNEL}, {124, ROUTE_VERDICT_PORT},
-                 {106, ROUTE_VERDICT_CLAIM}};
+    } parts[] = {{162, ROUTE_VERDICT_DIGEST}, {154, ROUTE_VERDICT_TIMEOUTS}, {146, ROUTE_VERDICT_TIMEOUTS},
+                 {138, ROUTE_VERDICT_SEQUENCE}, {134, ROUTE_VERDICT_CHANNEL}, {132, ROUTE_VERDICT_PORT},
+                 {114, ROUTE_VERDICT_CLAIM}};
     uint8_t receive[ROUTE_RECEIVE_LENGTH];
     fresh();
     make_receive(receive, 1);
@@ -97,11 +112,11 @@ static void test_verdict(void)
     }
     make_receive(receive, 2); /* the first packet is waited for */
     EXPECT(call(receive, sizeof receive) == ROUTE_OUT_OF_ORDER);
-    receive[154] ^= 2;
+    receive[162] ^= 2;
     EXPECT(call(receive, sizeof receive) == ROUTE_VERDICT_DIGEST);
     make_receive(receive, 1);
     EXPECT(call(receive, sizeof receive) == ROUTE_ACCEPTED && size == ROUTE_DELIVERED_LENGTH);
-    EXPECT(emitted_packet(ROUTE_DELIVERED, receive + 38));
+    EXPECT(emitted_packet(ROUTE_DELIVERED, receive + 46));
 }
 
 /* An ordered channel is closed by a time-out. It then takes no send, but the time-out of a packet behind it. */
@@ -117,12 +132,12 @@ static void test_time_out(void)
     make_time_out(time_out, 1, 60);
     memcpy(behind, store + 1152, 64);
     EXPECT(call(time_out, sizeof time_out) == ROUTE_ACCEPTED && size == ROUTE_TIMED_OUT_LENGTH);
-    EXPECT(emitted_packet(ROUTE_TIMED_OUT, time_out + 38));
+    EXPECT(emitted_packet(ROUTE_TIMED_OUT, time_out + 46));
     EXPECT(store[66] == 4 && memcmp(store + 1088, behind, 64) == 0 && all_are(store + 1152, 64, 0));
     EXPECT(call(time_out, sizeof time_out) == ROUTE_NO_COMMITMENT);
     EXPECT(call(send, sizeof send) == ROUTE_NOT_OPEN);
     make_time_out(time_out, 2, 60);
-    EXPECT(call(time_out, sizeof time_out) == ROUTE_ACCEPTED && memcmp(output + 6, time_out + 38, 68) == 0);
+    EXPECT(call(time_out, sizeof time_out) == ROUTE_ACCEPTED && memcmp(output + 6, time_out + 46, 68) == 0);
     EXPECT(store[66] == 4 && all_are(store + 1088, 128, 0));
 }
 
@@ -133,21 +148,21 @@ static void test_open_init(void)
     uint8_t init[ROUTE_OPEN_INIT_LENGTH + 2], acknowledge[ROUTE_OPEN_ACKNOWLEDGE_LENGTH], send[ROUTE_SEND_LENGTH];
     EXPECT(route_make_store(store, STORE, NULL, 0) == ROUTE_ACCEPTED && store[28] == 1);
     make_open_init(init);
-    init[42] = 0;
+    init[50] = 0;
     EXPECT(call(init, sizeof init) == ROUTE_WRONG_VERSION);
     make_open_init(init);
     EXPECT(call(init, sizeof init) == ROUTE_ACCEPTED && size == ROUTE_NEW_END_LENGTH);
     EXPECT(memcmp(output, made, sizeof made) == 0 && all_are(output + sizeof made, OUTPUT - sizeof made, FILL));
     EXPECT(store[28] == 2 && store[66] == ROUTE_STATE_INIT && store[68] == 1 && memcmp(store + 104, "v1", 3) == 0);
     make_send(send, 60);
-    put(send + 38, 1, 4);
+    put(send + 46, 1, 4);
     EXPECT(call(send, sizeof send) == ROUTE_NOT_OPEN);
     start(acknowledge, sizeof acknowledge, ROUTE_OPEN_ACKNOWLEDGE);
-    put(acknowledge + 38, 1, 4);
-    put(acknowledge + 42, 9, 4);
-    put_end_verdict(acknowledge + 46, ROUTE_STATE_OPEN, 1, "v1");
+    put(acknowledge + 46, 1, 4);
+    put(acknowledge + 50, 9, 4);
+    put_end_verdict(acknowledge + 54, ROUTE_STATE_OPEN, 1, "v1");
     EXPECT(call(acknowledge, sizeof acknowledge) == ROUTE_VERDICT_DIGEST);
-    put_end_verdict(acknowledge + 46, ROUTE_STATE_TRYOPEN, 1, "v1");
+    put_end_verdict(acknowledge + 54, ROUTE_STATE_TRYOPEN, 1, "v1");
     EXPECT(call(acknowledge, sizeof acknowledge) == ROUTE_ACCEPTED && size == 0 && all_are(output, OUTPUT, FILL));
     EXPECT(store[28] == 2 && store[66] == ROUTE_STATE_OPEN && store[76] == 9);
     EXPECT(call(acknowledge, sizeof acknowledge) == ROUTE_WRONG_STATE);
@@ -160,14 +175,14 @@ static void test_open_try(void)
     uint8_t open_try[ROUTE_OPEN_TRY_LENGTH + 2], confirm[ROUTE_OPEN_CONFIRM_LENGTH];
     EXPECT(route_make_store(store, STORE, NULL, 0) == ROUTE_ACCEPTED);
     make_open_try(open_try);
-    open_try[128] = '2';
+    open_try[136] = '2';
     EXPECT(call(open_try, sizeof open_try) == ROUTE_WRONG_VERSION);
     make_open_try(open_try);
     EXPECT(call(open_try, sizeof open_try) == ROUTE_ACCEPTED && size == ROUTE_NEW_END_LENGTH && output[8] == 1);
     EXPECT(store[28] == 2 && store[66] == ROUTE_STATE_TRYOPEN && store[76] == 9);
     start(confirm, sizeof confirm, ROUTE_OPEN_CONFIRM);
-    put(confirm + 38, 1, 4);
-    put_end_verdict(confirm + 42, ROUTE_STATE_OPEN, 1, "v1");
+    put(confirm + 46, 1, 4);
+    put_end_verdict(confirm + 50, ROUTE_STATE_OPEN, 1, "v1");
     EXPECT(call(confirm, sizeof confirm) == ROUTE_ACCEPTED && size == 0 && all_are(output, OUTPUT, FILL));
     EXPECT(store[66] == ROUTE_STATE_OPEN);
     EXPECT(call(confirm, sizeof confirm) == ROUTE_WRONG_STATE);
@@ -207,19 +222,19 @@ static void test_time_out_on_close(void)
     EXPECT(call(send, sizeof send) == ROUTE_ACCEPTED);
     EXPECT(call(send, sizeof send) == ROUTE_ACCEPTED);
     make_time_out_on_close(time_out, 2, ROUTE_STATE_OPEN, 51); /* the end verdict is of height 50 */
-    time_out[188] = ROUTE_CLAIM_RECEIPT_ABSENT;
+    time_out[196] = ROUTE_CLAIM_RECEIPT_ABSENT;
     EXPECT(call(time_out, sizeof time_out) == ROUTE_VERDICT_DIGEST);
-    time_out[126] = ROUTE_STATE_CLOSED;
+    time_out[134] = ROUTE_STATE_CLOSED;
     EXPECT(call(time_out, sizeof time_out) == ROUTE_VERDICT_CLAIM);
-    time_out[188] = ROUTE_CLAIM_NEXT_RECEIVE;
+    time_out[196] = ROUTE_CLAIM_NEXT_RECEIVE;
     EXPECT(call(time_out, sizeof time_out) == ROUTE_VERDICT_BLOCKS);
     make_time_out_on_close(time_out, 2, ROUTE_STATE_CLOSED, 50);
-    put(time_out + 212, 3, 8); /* the other end waits for the third one */
+    put(time_out + 220, 3, 8); /* the other end waits for the third one */
     EXPECT(call(time_out, sizeof time_out) == ROUTE_OUT_OF_ORDER);
     for (uint64_t sequence = 2; sequence >= 1; sequence--) {
         make_time_out_on_close(time_out, sequence, ROUTE_STATE_CLOSED, 50);
         EXPECT(call(time_out, sizeof time_out) == ROUTE_ACCEPTED && size == ROUTE_TIMED_OUT_LENGTH);
-        EXPECT(emitted_packet(ROUTE_TIMED_OUT, time_out + 38) && store[66] == ROUTE_STATE_CLOSED);
+        EXPECT(emitted_packet(ROUTE_TIMED_OUT, time_out + 46) && store[66] == ROUTE_STATE_CLOSED);
         EXPECT(call(time_out, sizeof time_out) == ROUTE_NO_COMMITMENT);
     }
     EXPECT(all_are(store + 1088, 128, 0));
@@ -267,6 +282,7 @@ int main(void)
     test_make();
     test_send();
     test_refusals();
+    test_client_time();
     test_verdict();
     test_time_out();
     test_open_init();

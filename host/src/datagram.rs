@@ -6,11 +6,11 @@ use crate::{Context, Digest, End, EndVerdict, Order, Packet, Timeout, Verdict};
 /// The bytes of a datagram, for [`Store::handle`](crate::Store::handle).
 ///
 /// ```
-/// use route::{Context, Datagram, OtherHeight, OwnHeight, Timeout};
-/// let context =
-///     Context { height: OwnHeight(100), time: 1_000, client: OtherHeight(50), port: 5, connected: true };
+/// use route::{Block, Context, Datagram, OtherHeight, OtherTime, OwnHeight, OwnTime, Timeout};
+/// let client = Block { height: OtherHeight(50), time: OtherTime(900) };
+/// let context = Context { height: OwnHeight(100), time: OwnTime(1_000), client, port: 5, connected: true };
 /// let send = Datagram::send(&context, 7, Timeout::at_height(OtherHeight(60)), [1; 32]);
-/// assert_eq!(send.as_bytes().len(), 90);
+/// assert_eq!(send.as_bytes().len(), 98);
 /// ```
 #[derive(Clone, Debug, PartialEq, Eq, Hash)]
 pub struct Datagram(Vec<u8>);
@@ -26,14 +26,15 @@ impl Datagram {
         Datagram(bytes)
     }
 
-    /// Sends a packet on a channel of this ledger.
+    /// Sends a packet on a channel of this ledger. It is refused if the timeout
+    /// [has passed](Timeout::has_passed_at) at the latest block of the other ledger that the light client knows.
     pub fn send(context: &Context, channel: u32, timeout: Timeout, digest: Digest) -> Datagram {
         let (height, time) = timeout.numbers();
         Datagram::new(1, context, 52, |to| to.u32(channel).u64(height).u64(time).bytes(&digest))
     }
 
     /// Receives a packet that the other ledger sent. The verdict needed is [`Verdict::commitment_present`]. One that
-    /// comes late is refused, but with [`Order::OrderedAllowTimeout`] it lapses, and
+    /// comes late, by the own height and time, is refused, but with [`Order::OrderedAllowTimeout`] it lapses, and
     /// [`Emitted::Lapsed`](crate::Emitted::Lapsed) tells it from a delivery.
     pub fn receive(context: &Context, packet: &Packet, verdict: &Verdict) -> Datagram {
         Datagram::new(2, context, 148, |to| verdict.write(packet.write(to)))
@@ -50,10 +51,10 @@ impl Datagram {
         Datagram::new(4, context, 180, |to| verdict.write(packet.write(to).bytes(&acknowledgement)))
     }
 
-    /// Times out a packet that this ledger sent and the other did not receive. The verdict needed is
-    /// [`Verdict::next_receive`] with [`Order::Ordered`], [`Verdict::receipt_absent`] with [`Order::Unordered`], and
-    /// [`Verdict::timeout_receipt_present`] with [`Order::OrderedAllowTimeout`], where a packet first has to come late
-    /// and lapse.
+    /// Times out a packet that this ledger sent and the other did not receive. Its timeout has to have passed at the
+    /// block of the verdict. The verdict needed is [`Verdict::next_receive`] with [`Order::Ordered`],
+    /// [`Verdict::receipt_absent`] with [`Order::Unordered`], and [`Verdict::timeout_receipt_present`] with
+    /// [`Order::OrderedAllowTimeout`], where a packet first has to come late and lapse.
     pub fn time_out(context: &Context, packet: &Packet, verdict: &Verdict) -> Datagram {
         Datagram::new(5, context, 148, |to| verdict.write(packet.write(to)))
     }

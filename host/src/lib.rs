@@ -49,7 +49,7 @@ mod view;
 pub use context::Context;
 pub use datagram::Datagram;
 pub use emitted::Emitted;
-pub use height::{Block, OtherHeight, OwnHeight, Timeout};
+pub use height::{Block, OtherHeight, OtherTime, OwnHeight, OwnTime, Timeout};
 pub use packet::{Digest, End, Order, Packet};
 pub use refusal::{NotARefusal, Refusal, VerdictPart};
 pub use store::{Opening, Store};

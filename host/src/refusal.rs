@@ -84,10 +84,11 @@ pub enum Refusal {
     WrongEnd,
     /// A send has neither timeout.
     NoTimeout,
-    /// The timeout has passed. With [`Order::OrderedAllowTimeout`](crate::Order) no receive is refused so: the packet
-    /// lapses.
+    /// The timeout has passed: at a send by the latest block of the other ledger that the light client knows, at a
+    /// receive by the own height and time. With [`Order::OrderedAllowTimeout`](crate::Order) no receive is refused so:
+    /// the packet lapses.
     TimeoutPassed,
-    /// The timeout has not passed.
+    /// The timeout has not passed at the block of the verdict.
     TimeoutNotPassed,
     /// There is no commitment with this sequence, timeouts and digest.
     NoCommitment,

@@ -1,7 +1,9 @@
 //! One ledger's store and the calls on it.
 
 use crate::bytes::{Reader, Writer};
-use crate::{ffi, Channel, Claim, Emitted, End, EndVerdict, Order, OwnHeight, Record, RecordKind, Refusal, Verdict};
+use crate::{
+    ffi, Channel, Claim, Emitted, End, EndVerdict, Order, OwnHeight, OwnTime, Record, RecordKind, Refusal, Verdict,
+};
 
 /// A channel end to be opened when a store is made.
 #[derive(Clone, Copy, Debug, PartialEq, Eq, Hash)]
@@ -30,14 +32,15 @@ impl Opening {
 /// A `Store` is always fit: it was made, tested or converted by the library, and no call makes a fit store unfit.
 ///
 /// ```
-/// use route::{Context, Datagram, Emitted, End, Opening, Order, OtherHeight, OwnHeight, Refusal, Store, Timeout};
+/// use route::{Block, Context, Datagram, OtherHeight, OtherTime, OwnHeight, OwnTime, Timeout};
+/// use route::{Emitted, End, Opening, Order, Refusal, Store};
 ///
 /// let own = End { port: 5, channel: 7 };
 /// let opening = Opening { own, counterparty: End { port: 6, channel: 9 }, order: Order::Ordered };
 /// let mut store = Store::make(2, &[opening])?;
 ///
-/// let context =
-///     Context { height: OwnHeight(100), time: 1_000, client: OtherHeight(50), port: 5, connected: true };
+/// let client = Block { height: OtherHeight(50), time: OtherTime(900) };
+/// let context = Context { height: OwnHeight(100), time: OwnTime(1_000), client, port: 5, connected: true };
 /// let send = Datagram::send(&context, 7, Timeout::at_height(OtherHeight(60)), [1; 32]);
 /// let Some(Emitted::Sent(packet)) = store.handle(&send)? else { unreachable!() };
 /// assert_eq!((packet.sequence, packet.source), (1, own));
@@ -119,11 +122,12 @@ impl Store {
     /// A vector is converted in place. A slice is copied and keeps its bytes.
     ///
     /// ```
-    /// # use route::{Context, Datagram, End, Opening, Order, OtherHeight, OwnHeight, Refusal, Store, Timeout};
+    /// # use route::{Block, Context, Datagram, OtherHeight, OtherTime, OwnHeight, OwnTime, Timeout};
+    /// # use route::{End, Opening, Order, Refusal, Store};
     /// # let (own, counterparty) = (End { port: 5, channel: 7 }, End { port: 6, channel: 9 });
     /// # let mut store = Store::make(2, &[Opening { own, counterparty, order: Order::Ordered }])?;
-    /// # let context =
-    /// #     Context { height: OwnHeight(100), time: 1_000, client: OtherHeight(50), port: 5, connected: true };
+    /// # let client = Block { height: OtherHeight(50), time: OtherTime(900) };
+    /// # let context = Context { height: OwnHeight(100), time: OwnTime(1_000), client, port: 5, connected: true };
     /// # let send = Datagram::send(&context, 7, Timeout::at_height(OtherHeight(60)), [1; 32]);
     /// # store.handle(&send)?;
     /// # store.handle(&send)?;
@@ -192,8 +196,8 @@ impl Store {
     }
 
     /// The time of the last accepted call, 0 before the first.
-    pub fn last_time(&self) -> u64 {
-        Reader::new(&self.bytes[16..]).u64()
+    pub fn last_time(&self) -> OwnTime {
+        OwnTime(Reader::new(&self.bytes[16..]).u64())
     }
 
     /// The number of the next channel end that is made here. If it is above 2^32 − 1, none can be made any more.

@@ -110,7 +110,7 @@ impl Verdict {
         let (height, time) = self.timeout.numbers();
         to.u16(self.claim.number())
             .u64(self.block.height.0)
-            .u64(self.block.time)
+            .u64(self.block.time.0)
             .u16(self.end.port)
             .u32(self.end.channel)
             .u64(self.sequence)
@@ -143,6 +143,6 @@ impl EndVerdict {
     }
 
     pub(crate) fn write(&self, to: Writer) -> Writer {
-        self.end.write(to.u16(self.claim.number()).u64(self.block.height.0).u64(self.block.time))
+        self.end.write(to.u16(self.claim.number()).u64(self.block.height.0).u64(self.block.time.0))
     }
 }

@@ -13,16 +13,16 @@ fn lengths_and_places() {
     let init = Datagram::close_init(&CONTEXT, 7);
     let confirm = Datagram::close_confirm(&CONTEXT, 7, &end);
     let time_out = Datagram::time_out_on_close(&CONTEXT, &packet, &end, &verdict);
-    for (datagram, kind, length) in [(&init, 10, 42), (&confirm, 11, 124), (&time_out, 12, 268)] {
+    for (datagram, kind, length) in [(&init, 10, 50), (&confirm, 11, 132), (&time_out, 12, 276)] {
         let bytes = datagram.as_bytes();
         let frame = [(length as u32).to_le_bytes().as_slice(), &[kind, 0]].concat();
         assert_eq!((bytes.len(), &bytes[..6]), (length, frame.as_slice()));
     }
-    assert_eq!(init.as_bytes()[38..], [7, 0, 0, 0]);
+    assert_eq!(init.as_bytes()[46..], [7, 0, 0, 0]);
     // The packet and its verdict are those of a time-out, with the end verdict of the confirm between them.
     let plain = Datagram::time_out(&CONTEXT, &packet, &verdict);
-    let parts = [&plain.as_bytes()[38..106], &confirm.as_bytes()[42..], &plain.as_bytes()[106..]].concat();
-    assert_eq!(time_out.as_bytes()[38..], parts);
+    let parts = [&plain.as_bytes()[46..114], &confirm.as_bytes()[50..], &plain.as_bytes()[114..]].concat();
+    assert_eq!(time_out.as_bytes()[46..], parts);
 }
 
 #[test]
@@ -73,8 +73,8 @@ fn malformed() {
     let good = Datagram::time_out_on_close(&CONTEXT, &sent(), &end, &verdict);
     let confirm = Datagram::close_confirm(&CONTEXT, 7, &end);
     // Sequence 0, an unknown claim in either verdict, a connection that is neither open nor closed.
-    let claims = [0, 7].map(|claim| [(&good, 106, claim), (&good, 188, claim), (&confirm, 42, claim)]);
-    for (datagram, at, value) in claims.into_iter().flatten().chain([(&good, 38, 0), (&confirm, 32, 2)]) {
+    let claims = [0, 7].map(|claim| [(&good, 114, claim), (&good, 196, claim), (&confirm, 50, claim)]);
+    for (datagram, at, value) in claims.into_iter().flatten().chain([(&good, 46, 0), (&confirm, 32, 2)]) {
         let mut bytes = datagram.as_bytes().to_vec();
         bytes[at] = value;
         assert_eq!(fresh().handle(&bytes), Err(Refusal::Malformed), "{at}");

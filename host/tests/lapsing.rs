@@ -10,7 +10,8 @@ const CHANNEL: u32 = ALLOW_TIMEOUT.own.channel;
 
 /// Those of the height 100 and the time 1000 of the context.
 fn late_timeouts() -> [Timeout; 4] {
-    [at(100), Timeout::at_time(1000), Timeout::new(OtherHeight(101), 1), Timeout::new(OtherHeight(1), 1001)]
+    let both = |height, time| Timeout::new(OtherHeight(height), OtherTime(time));
+    [at(100), at_time(1000), both(101, 1), both(1, 1001)]
 }
 
 fn allowing(records: usize) -> Store {
@@ -60,7 +61,7 @@ fn emitted_bytes() {
         let datagram = receive(ALLOW_TIMEOUT, 1, timeout);
         let mut output = [0xaa; 106];
         assert_eq!(allowing(1).handle_into(&datagram, &mut output), Ok(74));
-        let packet = &datagram.as_bytes()[38..106];
+        let packet = &datagram.as_bytes()[46..114];
         assert_eq!(output.to_vec(), [&[74, 0, 0, 0, kind, 1], packet, &[0xaa; 32]].concat());
     }
 }

@@ -116,15 +116,15 @@ fn open_init_refused() {
     assert_eq!(empty().handle(Datagram::open_init(&unconnected, 6, Order::Ordered, "v1")), new_end(5, 1));
     let with_order = |order: u8| {
         let mut bytes = init().into_bytes();
-        bytes[40] = order;
+        bytes[48] = order;
         empty().handle(&bytes)
     };
     assert_eq!([0, 4].map(with_order), [Err(Refusal::Malformed); 2]);
     assert_eq!([1, 2, 3].map(with_order), [new_end(5, 1); 3]);
-    let mut short = [&[40, 0, 0, 0], &init().as_bytes()[4..40]].concat();
+    let mut short = [&[48, 0, 0, 0], &init().as_bytes()[4..48]].concat();
     assert_eq!(empty().handle(&short), Err(Refusal::Malformed));
     short.push(2);
-    short[0] = 41;
+    short[0] = 49;
     assert_eq!(empty().handle(&short), new_end(5, 1));
 }
 

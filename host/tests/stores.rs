@@ -37,7 +37,7 @@ fn fresh_store_is_read() {
     };
     assert_eq!(store.channel(8), Some(end));
     assert_eq!((store.channel(9), store.next_channel()), (None, 9));
-    assert_eq!((store.last_height(), store.last_time(), store.records().count()), (OwnHeight(0), 0, 0));
+    assert_eq!((store.last_height(), store.last_time(), store.records().count()), (OwnHeight(0), OwnTime(0), 0));
 }
 
 #[test]
@@ -51,7 +51,7 @@ fn calls_are_read() {
     assert_eq!(store.records().collect::<Vec<_>>(), [commitment, receipt]);
     assert_eq!(store.record(RecordKind::Receipt, 8, 3), Some(receipt));
     assert_eq!(store.record(RecordKind::Acknowledgement, 8, 3), None);
-    assert_eq!((store.last_height(), store.last_time(), store.free_records()), (OwnHeight(100), 1000, 0));
+    assert_eq!((store.last_height(), store.last_time(), store.free_records()), (OwnHeight(100), OwnTime(1000), 0));
 }
 
 #[test]
@@ -85,7 +85,7 @@ fn any_bytes_may_be_handled() {
     let mut store = fresh();
     let before = store.clone();
     assert_eq!(store.handle([]), Err(Refusal::Malformed));
-    assert_eq!(store.handle(vec![7; 186]), Err(Refusal::Malformed));
+    assert_eq!(store.handle(vec![7; 194]), Err(Refusal::Malformed));
     assert_eq!(store.handle(&send(60).as_bytes()[1..]), Err(Refusal::Malformed));
     assert_eq!(store.handle(send(0)), Err(Refusal::NoTimeout));
     assert_eq!(store, before);

@@ -33,8 +33,8 @@ fn differing(from: Verdict, part: Part) -> Vec<Verdict> {
     let End { port, channel } = from.end;
     let Block { height, time } = from.block;
     let end = |port, channel| Verdict { end: End { port, channel }, ..from };
-    let block = |height, time| Verdict { block: Block { height: OtherHeight(height), time }, ..from };
-    let timeout = |height, time| Verdict { timeout: Timeout::new(OtherHeight(height), time), ..from };
+    let block = |height, time| Verdict { block: Block { height: OtherHeight(height), time: OtherTime(time) }, ..from };
+    let timeout = |height, time| Verdict { timeout: Timeout::new(OtherHeight(height), OtherTime(time)), ..from };
     let late = from.timeout.height_at_sender().unwrap_or_default().0;
     match part {
         Part::Claim => {
@@ -46,7 +46,7 @@ fn differing(from: Verdict, part: Part) -> Vec<Verdict> {
         Part::Sequence => vec![Verdict { sequence: from.sequence + 1, ..from }],
         Part::Timeouts => vec![timeout(late + 1, 0), timeout(late, 1)],
         Part::Digest => vec![Verdict { digest: [7; 32], ..from }],
-        _ => vec![block(height.0 + 1, time), block(height.0, time + 1)],
+        _ => vec![block(height.0 + 1, time.0), block(height.0, time.0 + 1)],
     }
 }
 
@@ -184,7 +184,7 @@ fn the_end_verdict_first() {
             }
         }
         // The blocks also differ where it is the end verdict that is of another one.
-        for block in [block(51), Block { time: 1, ..block(50) }] {
+        for block in [block(51), Block { time: OtherTime(1), ..block(50) }] {
             assert_eq!(call(EndVerdict { block, ..end }, verdict), refused(Part::Blocks), "{block:?}");
         }
         assert_eq!(north, before);
@@ -202,11 +202,11 @@ fn claim_record_version() {
         let version = Channel { version: Version::new("v2").unwrap(), ..record };
         assert_eq!(call(EndVerdict { end: version, ..needed }), refused(Part::Digest), "{record:?}");
     }
-    // The record stands from offset 60 on, and its last 24 bytes are the version.
-    for at in 60..124 {
+    // The record stands from offset 68 on, and its last 24 bytes are the version.
+    for at in 68..132 {
         let mut bytes = Datagram::close_confirm(&CONTEXT, 7, &needed).into_bytes();
         bytes[at] ^= 0x40;
-        let refusal = if at < 100 { Refusal::Verdict(Part::Digest) } else { Refusal::WrongVersion };
+        let refusal = if at < 108 { Refusal::Verdict(Part::Digest) } else { Refusal::WrongVersion };
         assert_eq!(fresh().handle(bytes), Err(refusal), "{at}");
     }
 }

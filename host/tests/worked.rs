@@ -23,7 +23,7 @@ fn cases_07_to_12_receives() {
     let packet = incoming(ORDERED, 1, at(101));
     assert_eq!(fresh().handle(receive(ORDERED, 1, at(101))), emits(Emitted::Delivered(packet)));
     assert_eq!(fresh().handle(receive(ORDERED, 1, at(100))), Err(Refusal::TimeoutPassed));
-    assert_eq!(fresh().handle(receive(ORDERED, 1, Timeout::at_time(1000))), Err(Refusal::TimeoutPassed));
+    assert_eq!(fresh().handle(receive(ORDERED, 1, at_time(1000))), Err(Refusal::TimeoutPassed));
     assert_eq!(fresh().handle(receive(ORDERED, 2, at(101))), Err(Refusal::OutOfOrder));
     let mut store = fresh();
     let packet = incoming(UNORDERED, 3, at(101));

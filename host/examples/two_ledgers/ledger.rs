@@ -1,7 +1,7 @@
 //! One ledger as a host keeps it, the light client that looks at the other one, and the calls with their verdicts.
 
 use route::{
-    Block, Context, Datagram, Digest, Emitted, End, EndVerdict, Order, OtherHeight, OwnHeight, Packet, Refusal, Store,
+    Block, Context, Datagram, Digest, Emitted, End, EndVerdict, Order, OwnHeight, OwnTime, Packet, Refusal, Store,
     Timeout, Verdict, Version,
 };
 
@@ -10,26 +10,32 @@ pub struct Ledger {
     pub name: &'static str,
     pub store: Store,
     port: u16,
-    pub height: OwnHeight,
-    time: u64,
+    height: OwnHeight,
+    time: OwnTime,
 }
 
 impl Ledger {
     /// With eight packet records and no channels.
     pub fn new(name: &'static str, port: u16, height: u64) -> Result<Ledger, Refusal> {
-        Ok(Ledger { name, store: Store::make(8, &[])?, port, height: OwnHeight(height), time: 1_000 + height })
+        let (height, time) = (OwnHeight(height), OwnTime(1_000 + height));
+        Ok(Ledger { name, store: Store::make(8, &[])?, port, height, time })
     }
 
-    /// What a call says of this moment. The light client knows the other ledger up to this height.
-    pub fn context(&self, client: OtherHeight) -> Context {
+    /// What a call says of this moment. The light client knows the other ledger up to this block.
+    pub fn context(&self, client: Block) -> Context {
         Context { height: self.height, time: self.time, client, port: self.port, connected: true }
+    }
+
+    /// The block that it works on, as the other ledger sees it.
+    pub fn block(&self) -> Block {
+        Block { height: self.height.seen_across(), time: self.time.seen_across() }
     }
 
     /// Closes the block: no call is added to it any more, so what is found there stays true of it.
     pub fn close_block(&mut self) -> Block {
-        let closed = Block { height: self.height.seen_across(), time: self.time };
+        let closed = self.block();
         self.height.0 += 1;
-        self.time += 1;
+        self.time.0 += 1;
         closed
     }
 
@@ -66,7 +72,7 @@ fn look_at_end(other: &mut Ledger, end: End) -> EndVerdict {
 }
 
 pub fn open_init(at: &mut Ledger, other: &Ledger, order: Order) -> Result<End, Refusal> {
-    let context = at.context(other.height.seen_across());
+    let context = at.context(other.block());
     let emitted = at.call(Datagram::open_init(&context, other.port, order, Version::new("receipts-1")?))?;
     Ok(new_end(emitted))
 }
@@ -74,7 +80,7 @@ pub fn open_init(at: &mut Ledger, other: &Ledger, order: Order) -> Result<End, R
 /// Answers an init, with the order and the version that it asks for.
 pub fn open_try(at: &mut Ledger, other: &mut Ledger, init: End) -> Result<End, Refusal> {
     let verdict = look_at_end(other, init);
-    let context = at.context(verdict.block.height);
+    let context = at.context(verdict.block);
     let EndVerdict { end, .. } = verdict;
     Ok(new_end(at.call(Datagram::open_try(&context, init, end.order, &verdict, end.version))?))
 }
@@ -86,14 +92,14 @@ fn new_end(emitted: Option<Emitted>) -> End {
 
 pub fn open_acknowledge(at: &mut Ledger, other: &mut Ledger, init: End, tried: End) -> Result<(), Refusal> {
     let verdict = look_at_end(other, tried);
-    let context = at.context(verdict.block.height);
+    let context = at.context(verdict.block);
     at.call(Datagram::open_acknowledge(&context, init.channel, tried.channel, &verdict))?;
     Ok(())
 }
 
 pub fn open_confirm(at: &mut Ledger, other: &mut Ledger, tried: End, init: End) -> Result<(), Refusal> {
     let verdict = look_at_end(other, init);
-    let context = at.context(verdict.block.height);
+    let context = at.context(verdict.block);
     at.call(Datagram::open_confirm(&context, tried.channel, &verdict))?;
     Ok(())
 }
@@ -106,19 +112,19 @@ pub fn digest_of(text: &str) -> Digest {
 }
 
 pub fn send(from: &mut Ledger, to: &Ledger, channel: u32, timeout: Timeout, text: &str) -> Result<Packet, Refusal> {
-    let context = from.context(to.height.seen_across());
+    let context = from.context(to.block());
     let emitted = from.call(Datagram::send(&context, channel, timeout, digest_of(text)))?;
     Ok(emitted.and_then(|emitted| emitted.packet()).expect("a send emits its packet"))
 }
 
 pub fn receive(at: &mut Ledger, from: &mut Ledger, packet: &Packet) -> Result<Option<Emitted>, Refusal> {
     let verdict = look_at(from, |block| Verdict::commitment_present(packet, block));
-    let context = at.context(verdict.block.height);
+    let context = at.context(verdict.block);
     at.call(Datagram::receive(&context, packet, &verdict))
 }
 
 pub fn write(at: &mut Ledger, other: &Ledger, packet: &Packet, text: &str) -> Result<Option<Emitted>, Refusal> {
-    let context = at.context(other.height.seen_across());
+    let context = at.context(other.block());
     at.call(Datagram::write(&context, packet.destination.channel, packet.sequence, digest_of(text)))
 }
 
@@ -130,7 +136,7 @@ pub fn acknowledge(
 ) -> Result<Option<Emitted>, Refusal> {
     let acknowledgement = digest_of(text);
     let verdict = look_at(other, |block| Verdict::acknowledgement_present(packet, acknowledgement, block));
-    let context = at.context(verdict.block.height);
+    let context = at.context(verdict.block);
     at.call(Datagram::acknowledge(&context, packet, acknowledgement, &verdict))
 }
 
@@ -150,19 +156,19 @@ fn not_received(other: &Ledger, packet: &Packet, block: Block) -> Verdict {
 pub fn time_out(at: &mut Ledger, other: &mut Ledger, packet: &Packet) -> Result<Option<Emitted>, Refusal> {
     let block = other.close_block();
     let verdict = not_received(other, packet, block);
-    let context = at.context(block.height);
+    let context = at.context(block);
     at.call(Datagram::time_out(&context, packet, &verdict))
 }
 
 pub fn close_init(at: &mut Ledger, other: &Ledger, end: End) -> Result<(), Refusal> {
-    let context = at.context(other.height.seen_across());
+    let context = at.context(other.block());
     at.call(Datagram::close_init(&context, end.channel))?;
     Ok(())
 }
 
 pub fn close_confirm(at: &mut Ledger, other: &mut Ledger, end: End, closed: End) -> Result<(), Refusal> {
     let verdict = look_at_end(other, closed);
-    let context = at.context(verdict.block.height);
+    let context = at.context(verdict.block);
     at.call(Datagram::close_confirm(&context, end.channel, &verdict))?;
     Ok(())
 }
@@ -171,6 +177,6 @@ pub fn close_confirm(at: &mut Ledger, other: &mut Ledger, end: End, closed: End)
 pub fn time_out_on_close(at: &mut Ledger, other: &mut Ledger, packet: &Packet) -> Result<Option<Emitted>, Refusal> {
     let end = look_at_end(other, packet.destination);
     let verdict = not_received(other, packet, end.block);
-    let context = at.context(end.block.height);
+    let context = at.context(end.block);
     at.call(Datagram::time_out_on_close(&context, packet, &end, &verdict))
 }

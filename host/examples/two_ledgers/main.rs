@@ -8,11 +8,16 @@
 mod ledger;
 
 use ledger::*;
-use route::{Datagram, Emitted, Order, OtherHeight, Refusal, Timeout, Verdict, VerdictPart};
+use route::{Datagram, Emitted, Order, OtherHeight, OtherTime, Refusal, Timeout, Verdict, VerdictPart};
 
 /// A timeout so many blocks of the other ledger ahead.
 fn blocks_ahead(other: &Ledger, blocks: u64) -> Timeout {
-    Timeout::at_height(OtherHeight(other.height.seen_across().0 + blocks))
+    Timeout::at_height(OtherHeight(other.block().height.0 + blocks))
+}
+
+/// A timeout so much later by the other ledger's clock, which moves on by 1 with each block.
+fn later(other: &Ledger, by: u64) -> Timeout {
+    Timeout::at_time(OtherTime(other.block().time.0 + by))
 }
 
 /// Opens a channel in four steps, two on each ledger, and gives its number on north.
@@ -51,8 +56,11 @@ fn delivered(north: &mut Ledger, south: &mut Ledger, channel: u32) -> Result<(),
 }
 
 fn late(north: &mut Ledger, south: &mut Ledger, channel: u32) -> Result<(), Refusal> {
-    println!("A receipt does not arrive in time and is given back.");
-    let packet = send(north, south, channel, blocks_ahead(south, 3), "receipt 2: 12 t of barley")?;
+    println!("A receipt is not sent with a time that has passed at south. With a later one it is.");
+    let passed = send(north, south, channel, later(south, 0), "receipt 2: 12 t of barley");
+    assert_eq!(passed, Err(Refusal::TimeoutPassed));
+    let packet = send(north, south, channel, later(south, 3), "receipt 2: 12 t of barley")?;
+    println!("It does not arrive in time and is given back.");
     let early = time_out(north, south, &packet);
     assert_eq!(early, Err(Refusal::TimeoutNotPassed));
     println!("  South goes on without it.");
@@ -62,7 +70,7 @@ fn late(north: &mut Ledger, south: &mut Ledger, channel: u32) -> Result<(), Refu
     south.close_block();
     time_out(north, south, &packet)?;
     println!("  Then it comes after all, with a proof from before.");
-    let context = south.context(verdict.block.height);
+    let context = south.context(verdict.block);
     let late = south.call(Datagram::receive(&context, &packet, &verdict));
     assert_eq!(late, Err(Refusal::TimeoutPassed));
     Ok(())

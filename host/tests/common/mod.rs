@@ -17,8 +17,14 @@ pub const ALLOW_TIMEOUT: Opening = Opening {
 };
 pub const ORDERS: [Order; 3] = [Order::Ordered, Order::Unordered, Order::OrderedAllowTimeout];
 
-pub const CONTEXT: Context =
-    Context { height: OwnHeight(100), time: 1000, client: OtherHeight(50), port: 5, connected: true };
+/// The two clocks are apart, as the heights are: an answer tells which of them was asked.
+pub const CONTEXT: Context = Context {
+    height: OwnHeight(100),
+    time: OwnTime(1000),
+    client: Block { height: OtherHeight(50), time: OtherTime(900) },
+    port: 5,
+    connected: true,
+};
 pub const DIGEST: Digest = [1; 32];
 /// The same moment at the other end.
 pub const SOUTH: Context = Context { port: 6, ..CONTEXT };
@@ -42,6 +48,10 @@ pub fn at(height: u64) -> Timeout {
     Timeout::at_height(OtherHeight(height))
 }
 
+pub fn at_time(time: u64) -> Timeout {
+    Timeout::at_time(OtherTime(time))
+}
+
 /// Kind and sequence of each packet record.
 pub fn kinds(store: &Store) -> Vec<(RecordKind, u64)> {
     store.records().map(|record| (record.kind, record.sequence)).collect()
@@ -62,7 +72,7 @@ pub fn receive(opening: Opening, sequence: u64, timeout: Timeout) -> Datagram {
 }
 
 pub fn block(height: u64) -> Block {
-    Block { height: OtherHeight(height), time: 0 }
+    Block { height: OtherHeight(height), time: OtherTime(0) }
 }
 
 /// The packet of the first send on channel 7 with timeout height 60.
