@@ -230,7 +230,8 @@ pub record ClosingCases : Type 0 where
   pub connectionOrVerdict : numbersFrom (sent 3 3) (confirms (aContext 100 1000 5 0) openEnd) ≡ replicate 2 8
   pub connectionOrState : numbersFrom (sent 4 4)
       (inits (aContext 100 1000 5 0) ++ confirms (aContext 100 1000 5 0) unchanged) ≡ replicate 4 8
-  pub packetOrCommitment : numbersFrom (sent 3 3) (packetsBy (λ d. byteAt (inPacket 30) 4 (byteAt (inPacket 0) 1 d))) ≡ replicate 2 9
+  pub packetOrCommitment : numbersFrom (sent 3 3)
+      (packetsBy (λ d. byteAt (inPacket 30) 4 (byteAt (inPacket 0) 1 d))) ≡ replicate 2 9
   pub commitmentOrVerdict : numbersFrom (sent 3 3)
       (map (byteAt (inPacket 0) 1)
       (timeouts usual openEnd unchanged ++ verdictsBy (byteAt 18 4) ++ verdictsBy (byteAt 2 4))) ≡
