@@ -44,8 +44,8 @@ extern "C" {
 
 /* The lengths of the datagrams, and of the emitted records. An open init and an open try have the version behind these
  * bytes. Every context ends with the client's latest time, at offset 38 of the datagram; the body begins at 46. A
- * datagram in the layout from before that is 8 bytes shorter and gets ROUTE_MALFORMED (docs/DATAGRAMS.md has an
- * exception). Stores from before are taken as they are. */
+ * datagram in the earlier layout, without it, is 8 bytes shorter and gets ROUTE_MALFORMED (docs/DATAGRAMS.md has an
+ * exception). Stores did not change. */
 #define ROUTE_SEND_LENGTH 98
 #define ROUTE_RECEIVE_LENGTH 194
 #define ROUTE_WRITE_LENGTH 90

@@ -7,6 +7,9 @@ use common::ledgers::*;
 use common::*;
 use route::*;
 
+/// The two clocks are apart, as the heights are: an answer tells which of them was asked.
+const APART: Context = Context { client: Block { height: OtherHeight(50), time: OtherTime(900) }, ..CONTEXT };
+
 fn block_at(height: u64, time: u64) -> Block {
     Block { height: OtherHeight(height), time: OtherTime(time) }
 }
@@ -17,7 +20,7 @@ fn timeout(height: u64, time: u64) -> Timeout {
 
 /// What a send with this timeout answers on a fresh store, where the light client knows this block.
 fn sent_with(timeout: Timeout, client: Block) -> Answer {
-    fresh().handle(Datagram::send(&Context { client, ..CONTEXT }, 7, timeout, DIGEST))
+    fresh().handle(Datagram::send(&Context { client, ..APART }, 7, timeout, DIGEST))
 }
 
 fn accepted(timeout: Timeout) -> Answer {
@@ -52,7 +55,7 @@ fn lengths_and_places() {
     let [height, own, client] = [100_u64, 1000, 50].map(u64::to_le_bytes);
     let context = [&height, &own, &client, [5, 0, 1, 0, 0, 0, 0, 0].as_slice(), &900_u64.to_le_bytes()].concat();
     let lengths = [98, 194, 90, 226, 194, 59, 145, 136, 132, 50, 132, 276];
-    for (datagram, length) in of_each_kind(&CONTEXT).iter().zip(lengths) {
+    for (datagram, length) in of_each_kind(&APART).iter().zip(lengths) {
         let bytes = datagram.as_bytes();
         assert_eq!((bytes.len(), &bytes[6..46]), (length, context.as_slice()));
     }
@@ -62,7 +65,7 @@ fn lengths_and_places() {
 #[test]
 fn with_and_without_the_client_time() {
     for time in [0, 1, 900, u64::MAX] {
-        for datagram in of_each_kind(&Context { client: block_at(50, time), ..CONTEXT }) {
+        for datagram in of_each_kind(&Context { client: block_at(50, time), ..APART }) {
             assert_ne!(fresh().handle(&datagram), Err(Refusal::Malformed));
             let bytes = datagram.into_bytes();
             let mut shorter = [&bytes[..38], &bytes[46..]].concat();
@@ -74,17 +77,17 @@ fn with_and_without_the_client_time() {
 
 #[test]
 fn send_by_the_clients_time() {
-    assert_eq!(sent_with(at_time(900), CONTEXT.client), Err(Refusal::TimeoutPassed));
-    assert_eq!(sent_with(at_time(899), CONTEXT.client), Err(Refusal::TimeoutPassed));
+    assert_eq!(sent_with(at_time(900), APART.client), Err(Refusal::TimeoutPassed));
+    assert_eq!(sent_with(at_time(899), APART.client), Err(Refusal::TimeoutPassed));
     // At the own time 1000 it is past here, and not there.
-    assert_eq!(sent_with(at_time(901), CONTEXT.client), accepted(at_time(901)));
+    assert_eq!(sent_with(at_time(901), APART.client), accepted(at_time(901)));
     // Without a timeout time the client's time is not asked for, nor its height without a timeout height.
     assert_eq!(sent_with(at(60), block_at(50, u64::MAX)), accepted(at(60)));
     assert_eq!(sent_with(at_time(901), block_at(u64::MAX, 900)), accepted(at_time(901)));
     // Either is enough.
-    assert_eq!(sent_with(timeout(51, 900), CONTEXT.client), Err(Refusal::TimeoutPassed));
-    assert_eq!(sent_with(timeout(50, 901), CONTEXT.client), Err(Refusal::TimeoutPassed));
-    assert_eq!(sent_with(timeout(51, 901), CONTEXT.client), accepted(timeout(51, 901)));
+    assert_eq!(sent_with(timeout(51, 900), APART.client), Err(Refusal::TimeoutPassed));
+    assert_eq!(sent_with(timeout(50, 901), APART.client), Err(Refusal::TimeoutPassed));
+    assert_eq!(sent_with(timeout(51, 901), APART.client), accepted(timeout(51, 901)));
     // The own time may be past the client's or before it: only that of the client is asked for.
     assert_eq!(sent_with(at_time(2000), block_at(50, 2000)), Err(Refusal::TimeoutPassed));
     assert_eq!(sent_with(at_time(u64::MAX), block_at(0, u64::MAX)), Err(Refusal::TimeoutPassed));
@@ -112,9 +115,9 @@ fn place_of_the_refusal() {
     let mut store = Store::make(1, &[ORDERED]).unwrap();
     store.handle(send(60)).unwrap();
     let mut call = |context: &Context, timeout| store.handle(Datagram::send(context, 7, timeout, DIGEST));
-    assert_eq!(call(&Context { port: 6, ..CONTEXT }, at_time(900)), Err(Refusal::NotOwner));
-    assert_eq!(call(&CONTEXT, at_time(900)), Err(Refusal::TimeoutPassed));
-    assert_eq!(call(&CONTEXT, at_time(901)), Err(Refusal::NoFreeRecord));
+    assert_eq!(call(&Context { port: 6, ..APART }, at_time(900)), Err(Refusal::NotOwner));
+    assert_eq!(call(&APART, at_time(900)), Err(Refusal::TimeoutPassed));
+    assert_eq!(call(&APART, at_time(901)), Err(Refusal::NoFreeRecord));
 }
 
 /// However far the light client knows the other ledger.
@@ -124,7 +127,7 @@ fn receive_by_the_own_time() {
         for (late, passed) in [(at_time(1000), true), (at_time(1001), false), (at(100), true), (at(101), false)] {
             let packet = incoming(ORDERED, 1, late);
             let verdict = Verdict::commitment_present(&packet, client);
-            let receive = Datagram::receive(&Context { client, ..CONTEXT }, &packet, &verdict);
+            let receive = Datagram::receive(&Context { client, ..APART }, &packet, &verdict);
             let answer = if passed { Err(Refusal::TimeoutPassed) } else { emits(Emitted::Delivered(packet)) };
             assert_eq!(fresh().handle(receive), answer, "{packet:?}");
         }
@@ -137,12 +140,12 @@ fn receive_by_the_own_time() {
 fn time_out_by_the_verdicts_time() {
     for opening in [ORDERED, UNORDERED] {
         let (mut north, mut south) = ledgers();
-        let send = Datagram::send(&CONTEXT, opening.own.channel, at_time(901), DIGEST);
+        let send = Datagram::send(&APART, opening.own.channel, at_time(901), DIGEST);
         let Ok(Some(Emitted::Sent(packet))) = north.handle(send) else { panic!("the client has not reached it") };
         assert_eq!(received(&mut south, &SOUTH, &packet), Err(Refusal::TimeoutPassed));
         let mut time_out = |client, block| {
             let verdict = Verdict { block, ..not_received(opening.order, &packet, 1) };
-            north.handle(Datagram::time_out(&Context { client, ..CONTEXT }, &packet, &verdict))
+            north.handle(Datagram::time_out(&Context { client, ..APART }, &packet, &verdict))
         };
         let latest = block_at(u64::MAX, u64::MAX);
         assert_eq!(time_out(latest, block_at(u64::MAX, 900)), Err(Refusal::TimeoutNotPassed));

@@ -46,6 +46,7 @@ fn wrong_handlers_are_found() {
     let makers = maker::WRONG.map(|(name, make)| (name, shim::with_maker(make)));
     let others = makers.into_iter().chain(converters);
     for (name, subject) in handlers.map(|(name, handle)| (name, shim::with(handle))).chain(others) {
+        // Some differ in one of ten thousand calls or fewer. The search ends at the first.
         let first = first_different(&subject, 100_000, SEED);
         println!("{name}: differs at call {first:?}");
         assert!(first.is_some(), "{name}");

@@ -1,5 +1,5 @@
-//! The client's time: a send asks it, and no other datagram does. The bytes are written field by field, and not by the
-//! code under test.
+//! The client's time: a send asks it, and no other datagram about a packet and no closing does. The bytes are written
+//! field by field, and not by the code under test.
 
 mod bytes;
 mod ends;
@@ -68,7 +68,7 @@ fn refusals_of_late_sends_come_by_place() {
 /// The answer and the store are the same at every time that the client may know: it is stored nowhere, and a receive
 /// asks the own time, a time-out that of the block.
 #[test]
-fn no_other_datagram_asks_it() {
+fn no_other_of_a_packet_and_no_closing_asks_it() {
     for end in ENDS {
         let written = start(90, 3, 5).n32(end.own).n64(1).digest(0xac).0;
         let (sent, mut received) = (end.sent(OPEN), fresh());

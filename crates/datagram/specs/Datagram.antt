@@ -166,15 +166,13 @@ pub data AnyVerdict : Type 0 where
   onPacket : Verdict → AnyVerdict
   onEnd : EndVerdict → AnyVerdict
 
-abbrev pub blockOf : AnyVerdict → Block
-blockOf (onPacket v) = v .block
-blockOf (onEnd v) = v .block
-
 abbrev pub blockHeight : AnyVerdict → OtherHeight
-blockHeight v = blockOf v .height
+blockHeight (onPacket v) = v .block .height
+blockHeight (onEnd v) = v .block .height
 
 abbrev pub blockTime : AnyVerdict → OtherTime
-blockTime v = blockOf v .time
+blockTime (onPacket v) = v .block .time
+blockTime (onEnd v) = v .block .time
 
 unfoldable pub verdictsIn : Datagram → List Part → List AnyVerdict
 verdictsIn d [] = []

@@ -16,7 +16,7 @@ unfoldable pub use Rattle.datagram.specs.Datagram.{endVerdictFrom, count
 unfoldable pub use Rattle.datagram.specs.Datagram.{channelFrom, datagramIn, isPartSound, arePartsSound}
 unfoldable pub use Rattle.datagram.specs.Datagram.{verdictsIn, isContextSound, isSound}
 pub use Rattle.datagram.specs.Datagram.{ownChannel, Datagram, datagramOf, AnyVerdict, onPacket, onEnd}
-pub use Rattle.datagram.specs.Datagram.{blockOf, blockHeight, blockTime, verdictsOf}
+pub use Rattle.datagram.specs.Datagram.{blockHeight, blockTime, verdictsOf}
 unfoldable pub use Rattle.datagram.specs.Emitted.{framed, packetBytes}
 pub use Rattle.datagram.specs.Emitted.{sentKind, deliveredKind, writtenKind, acknowledgedKind, timedOutKind}
 pub use Rattle.datagram.specs.Emitted.{lapsedKind, madeKind, emittedPacket}

@@ -1,15 +1,44 @@
 // Heights and times: timeouts that have passed, and a clock that goes back. A packet's timeouts are the other ledger's
-// at its sender and this ledger's at its receiver.
+// at its sender and this ledger's at its receiver; four conversions say which.
+use datagram::Block;
 use datagram::Context;
 use datagram::Verdict;
+use slots::OtherHeight;
+use slots::OtherTime;
 use slots::OwnHeight;
 use slots::OwnTime;
 use slots::Timeout;
 ghost use mathlib.Core.Path.{_≡_};
 ghost use Rattle.slots.specs.declared.Timeout.{Timeout};
 ghost use Rattle.slots.specs.Layout.{Store};
-ghost use Rattle.slots.specs.Height.{isPast, hasPassed, noTimeout, sameTimeout};
-ghost use Rattle.rules.specs.Refusals.{goesBack, isLateAtSender, isLateAtReceiver, isProvedLate};
+ghost use Rattle.slots.specs.Height.{heightAtSender, timeAtSender, heightAtReceiver, timeAtReceiver};
+ghost use Rattle.slots.specs.Height.{isPast, isPastOwn, isPastOwnTime, isPastOther, isPastOtherTime};
+ghost use Rattle.slots.specs.Height.{noTimeout, sameTimeout};
+ghost use Rattle.rules.specs.Refusals.{goesBack, hasPassedAt, isLateAtSender, isLateAtReceiver, isProvedLate};
+
+fn height_at_sender(t: Timeout) -> OtherHeight
+    ensures { λ r. ⌜ r ≡ heightAtSender t ⌝ }
+{
+    OtherHeight(t.height)
+}
+
+fn time_at_sender(t: Timeout) -> OtherTime
+    ensures { λ r. ⌜ r ≡ timeAtSender t ⌝ }
+{
+    OtherTime(t.time)
+}
+
+fn height_at_receiver(t: Timeout) -> OwnHeight
+    ensures { λ r. ⌜ r ≡ heightAtReceiver t ⌝ }
+{
+    OwnHeight(t.height)
+}
+
+fn time_at_receiver(t: Timeout) -> OwnTime
+    ensures { λ r. ⌜ r ≡ timeAtReceiver t ⌝ }
+{
+    OwnTime(t.time)
+}
 
 pub fn no_timeout() -> Timeout
     ensures { λ r. ⌜ r ≡ noTimeout ⌝ }
@@ -43,14 +72,37 @@ fn is_past(limit: u64, reached: u64) -> bool
     limit <= reached
 }
 
-// At a height and a time of the ledger that the packet is for.
-fn has_passed(t: Timeout, height: u64, time: u64) -> bool
-    ensures { λ r. ⌜ r ≡ hasPassed t height time ⌝ }
+fn is_past_own(limit: OwnHeight, reached: OwnHeight) -> bool
+    ensures { λ r. ⌜ r ≡ isPastOwn limit reached ⌝ }
 {
-    if is_past(t.height, height) {
-        return true;
-    }
-    is_past(t.time, time)
+    is_past(limit.0, reached.0)
+}
+
+fn is_past_own_time(limit: OwnTime, reached: OwnTime) -> bool
+    ensures { λ r. ⌜ r ≡ isPastOwnTime limit reached ⌝ }
+{
+    is_past(limit.0, reached.0)
+}
+
+fn is_past_other(limit: OtherHeight, reached: OtherHeight) -> bool
+    ensures { λ r. ⌜ r ≡ isPastOther limit reached ⌝ }
+{
+    is_past(limit.0, reached.0)
+}
+
+fn is_past_other_time(limit: OtherTime, reached: OtherTime) -> bool
+    ensures { λ r. ⌜ r ≡ isPastOtherTime limit reached ⌝ }
+{
+    is_past(limit.0, reached.0)
+}
+
+// A timeout has passed at a block of the other ledger.
+fn has_passed_at(block: Block, t: Timeout) -> bool
+    ensures { λ r. ⌜ r ≡ hasPassedAt block t ⌝ }
+{
+    let height = block.height;
+    let time = block.time;
+    is_past_other(height_at_sender(t), height) | is_past_other_time(time_at_sender(t), time)
 }
 
 // 4: the clock of a call, against the store's last height and time.
@@ -71,13 +123,12 @@ pub fn goes_back(last: OwnHeight, last_time: OwnTime, x: Context) -> bool
     time.0 != last_time.0
 }
 
-// 11, at the sender: by the client's height or time of the other ledger.
+// 11, at the sender: by the client's latest block of the other ledger.
 pub fn is_late_at_sender(x: Context, t: Timeout) -> bool
     ensures { λ r. ⌜ r ≡ isLateAtSender x t ⌝ }
 {
-    let height = x.client.height;
-    let time = x.client.time;
-    has_passed(t, height.0, time.0)
+    let client = x.client;
+    has_passed_at(client, t)
 }
 
 // 11, at the receiver: by its own height or time.
@@ -86,14 +137,13 @@ pub fn is_late_at_receiver(x: Context, u: Timeout) -> bool
 {
     let height = x.height;
     let time = x.time;
-    has_passed(u, height.0, time.0)
+    is_past_own(height_at_receiver(u), height) | is_past_own_time(time_at_receiver(u), time)
 }
 
-// 12: by the height and time of the verdict's block on the other ledger.
+// 12: by the verdict's block of the other ledger.
 pub fn is_proved_late(t: Timeout, v: Verdict) -> bool
     ensures { λ r. ⌜ r ≡ isProvedLate t v ⌝ }
 {
-    let height = v.block.height;
-    let time = v.block.time;
-    has_passed(t, height.0, time.0)
+    let block = v.block;
+    has_passed_at(block, t)
 }

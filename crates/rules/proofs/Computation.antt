@@ -1,7 +1,7 @@
 -- All that the worked cases and the worked history compute with, under one name: what unfolds it unfolds them all.
 -- Assumes nothing.
 use Rattle.wire.specs.Names.{same, _and_, _or_, withNumber, areZero, little, numberOf, part, field, pieces}
-use Rattle.slots.specs.Names.{mayHaveReceipt, mayHaveTimeoutReceipt, storeIn, isPast, hasPassed, sameTimeout, noneZero}
+use Rattle.slots.specs.Names.{mayHaveReceipt, mayHaveTimeoutReceipt, storeIn, isPast, sameTimeout, noneZero}
 use Rattle.slots.specs.Names.{versionFits, padded, isPadded, find, replace, push, place, takeOut, hasFree, count, all}
 use Rattle.slots.specs.Names.{distinct, mayLead, inOrder, isBefore, isLaidOut, isFit, isFitAnyOrder, isNumbered}
 use Rattle.slots.specs.Names.{samePortChannel, hasKey, isCommitmentOn, roomIn, channelBytes, recordBytes, slotBytes}
@@ -36,7 +36,7 @@ use Rattle.rules.specs.Names.{storeOf, handshakes, transfers, closings, 
 use Rattle.rules.specs.Names.{timeoutOnCloseBy, blockDifference, holding, shown}
 
 unfoldable pub computation : Unit {0}
-unfolding _and_ _or_ withNumber same areZero little numberOf part field pieces isPast hasPassed sameTimeout noneZero
+unfolding _and_ _or_ withNumber same areZero little numberOf part field pieces isPast sameTimeout noneZero
     versionFits padded isPadded find replace push place takeOut hasFree count all distinct mayLead inOrder isBefore
     isLaidOut isFitAnyOrder isNumbered samePortChannel hasKey isCommitmentOn roomIn channelBytes recordBytes slotBytes
     tableBytes headerBytes bytesOf channelIn recordIn slotIn storeIn isOrdered isUnordered allowsTimeouts isTaken

@@ -7,7 +7,7 @@ use Rattle.slots.specs.declared.PortChannel.{PortChannel}
 use Rattle.slots.specs.declared.OtherHeight.{OtherHeight}
 use Rattle.slots.specs.declared.Timeout.{Timeout}
 use Rattle.slots.specs.declared.Record.{Record}
-use Rattle.slots.specs.Names.{stateClosed, isPast, hasPassed, UpToOther, UpToOtherTime, BelowOther, channelAt}
+use Rattle.slots.specs.Names.{stateClosed, isPast, UpToOther, UpToOtherTime, BelowOther, channelAt}
 use Rattle.slots.specs.Names.{commitmentKey, lookup, Store}
 use Rattle.slots.specs.Names.{isReceived}
 use Rattle.slots.proofs.Laws.{channel-number}
@@ -50,7 +50,7 @@ in-block : (c : Call) (u : Timeout) (v : Verdict) → isProvedLate u v ≡ true 
     isLateAtReceiver (datagramGot c .context) u ≡ false →
     (BelowOther (v .block .height) (heightOf c) → UpToOtherTime (v .block .time) (timeOf c)) →
     UpToOther (heightOf c) (v .block .height)
-unfolding isProvedLate isLateAtReceiver hasPassed
+unfolding isProvedLate isLateAtReceiver
 in-block c u v late early above =
     let n = or-neither early in
     cases (leb (heightOf c .0) (v .block .height .0)) (λ q. leb-true _ _ q)

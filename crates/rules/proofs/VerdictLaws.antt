@@ -76,7 +76,7 @@ has-values t d (some r) h =
       digest = same-eq (r .digest) d (and-both h .1);
     }
 
--- two verdicts of one block have its height
+-- blocks that do not differ have one height
 pub one-block : (a b : Block) → blockDifference a b ≡ 0 → a .height ≡ b .height
 unfolding blockDifference
 one-block a b h =

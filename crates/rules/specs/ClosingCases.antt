@@ -22,7 +22,7 @@ use Rattle.rules.specs.Examples.{anOpening, aSlice, aContext, aDigest, a
 use Rattle.rules.specs.Examples.{aVersion, endWith, anEndVerdict, aSend, receiveOf, timeoutBy, aCloseInit}
 use Rattle.rules.specs.Examples.{closeConfirmBy, closeConfirmOf, timeoutOnCloseBy, timeoutOnCloseOf, anOutput}
 use Rattle.rules.specs.Cases.{usual, toNine, toTen, anAcknowledge, aTimeout, ofEachKind, fresh, ready, after}
-use Rattle.rules.specs.Cases.{notZero, numbersFrom}
+use Rattle.rules.specs.Cases.{wrongZeroByte, numbersFrom}
 use Rattle.rules.specs.HandshakeCases.{storeOf, version, inEachState, unchanged, otherVersion, blockPlaces}
 use Rattle.rules.specs.HandshakeCases.{recordPlaces, versionPlaces, shorter, longer, answered}
 
@@ -140,7 +140,7 @@ above v = byteAt 24 3 v
 abbrev pub malformedClosings : List (List ℕ)
 malformedClosings =
     map (λ d. d ++ (1 ∷ [])) (closings usual) ++ map shorter (closings usual) ++ map longer (closings usual) ++
-    closings notZero ++ closings (aContext 100 1000 5 2) ++ closings (aContext 0 1000 5 1) ++
+    closings wrongZeroByte ++ closings (aContext 100 1000 5 2) ++ closings (aContext 0 1000 5 1) ++
     map (byteAt (inPacket 0) 0) (timeouts usual unchanged unchanged)
 
 -- STRANDED: port 5 sent packet 1 on 7 and on 8 and then closed both. Across it was received on both, which closed since

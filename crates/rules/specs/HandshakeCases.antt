@@ -14,7 +14,7 @@ use Rattle.rules.specs.Calls.{fold}
 use Rattle.rules.specs.Examples.{anOpening, aSlice, openings, empty, aContext, aBlock, aVersion, endRecord}
 use Rattle.rules.specs.Examples.{anEndVerdict, anOpenInit, openTryBy, openAcknowledgeBy, openAcknowledgeOf}
 use Rattle.rules.specs.Examples.{openConfirmBy, openConfirmOf, anOutput}
-use Rattle.rules.specs.Cases.{usual, notZero, ofEachKind, numberFrom, numbersFrom, after}
+use Rattle.rules.specs.Cases.{usual, wrongZeroByte, ofEachKind, numberFrom, numbersFrom, after}
 
 -- THE STORES by their bytes: last height 100 and time 1000, the next channel number, and the channel records
 unfoldable pub storeOf : (next : ℕ) → (ends : List ℕ) → List ℕ
@@ -121,7 +121,7 @@ malformedSteps =
     map (λ d. d ++ (1 ∷ [])) (steps usual) ++ map shorter (makers ([] ∷ []) ++ movesOn 1 2 usual unchanged) ++
     map longer (movesOn 1 2 usual unchanged) ++ map (λ o. anOpenInit usual 6 o version) (0 ∷ 4 ∷ []) ++
     map (λ o. openTryBy usual 6 9 o (set (shownInit version) 21 o) version) (0 ∷ 4 ∷ []) ++
-    steps notZero ++ steps (aContext 100 1000 5 2) ++ steps (aContext 0 1000 5 1)
+    steps wrongZeroByte ++ steps (aContext 100 1000 5 2) ++ steps (aContext 0 1000 5 1)
 
 -- UNFIT by one byte: next channel number 0 where no channel is, or not above a channel; a zero byte behind it not zero;
 -- state 0 or 5; an INIT end with a counterparty; a byte behind a version not zero

@@ -2,7 +2,7 @@
 use mathlib.Core.Bool.{Bool}
 use Prim.Native.Nat.{ℕ, _≤_, _<_}
 use lib.Dec.{ltb, leb, eqb}
-use Rattle.wire.specs.Choice.{_and_, _or_}
+use Rattle.wire.specs.Choice.{_and_}
 use Rattle.slots.specs.declared.OwnHeight.{OwnHeight}
 use Rattle.slots.specs.declared.OwnTime.{OwnTime}
 use Rattle.slots.specs.declared.OtherHeight.{OtherHeight}
@@ -20,6 +20,19 @@ otherHeight n = record { 0 = n }
 
 abbrev pub otherTime : ℕ → OtherTime
 otherTime n = record { 0 = n }
+
+-- a packet's timeouts are the other ledger's at its sender, and this ledger's at its receiver
+abbrev pub heightAtSender : Timeout → OtherHeight
+heightAtSender t = otherHeight (t .height)
+
+abbrev pub timeAtSender : Timeout → OtherTime
+timeAtSender t = otherTime (t .time)
+
+abbrev pub heightAtReceiver : Timeout → OwnHeight
+heightAtReceiver t = ownHeight (t .height)
+
+abbrev pub timeAtReceiver : Timeout → OwnTime
+timeAtReceiver t = ownTime (t .time)
 
 -- a height and a time of a ledger's own, as the ledger across sees them
 abbrev pub seenAcross : OwnHeight → OtherHeight
@@ -63,16 +76,17 @@ BelowOther a b = a .0 < b .0
 unfoldable pub isPast : (limit reached : ℕ) → Bool
 isPast l n = ltb 0 l and leb l n
 
--- A TIMEOUT HAS PASSED, by its height or by its time
-unfoldable pub hasPassed : Timeout → (height time : ℕ) → Bool
-hasPassed t h n = isPast (t .height) h or isPast (t .time) n
+abbrev pub isPastOwn : (limit reached : OwnHeight) → Bool
+isPastOwn l n = isPast (l .0) (n .0)
 
--- both are the other ledger's at the packet's sender, and this ledger's at its receiver
-abbrev pub hasPassedAtSender : Timeout → OtherHeight → OtherTime → Bool
-hasPassedAtSender t h n = hasPassed t (h .0) (n .0)
+abbrev pub isPastOwnTime : (limit reached : OwnTime) → Bool
+isPastOwnTime l n = isPast (l .0) (n .0)
 
-abbrev pub hasPassedAtReceiver : Timeout → OwnHeight → OwnTime → Bool
-hasPassedAtReceiver t h n = hasPassed t (h .0) (n .0)
+abbrev pub isPastOther : (limit reached : OtherHeight) → Bool
+isPastOther l n = isPast (l .0) (n .0)
+
+abbrev pub isPastOtherTime : (limit reached : OtherTime) → Bool
+isPastOtherTime l n = isPast (l .0) (n .0)
 
 abbrev pub noTimeout : Timeout
 noTimeout = record { height = 0; time = 0 }

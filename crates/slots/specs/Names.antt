@@ -4,11 +4,12 @@ pub use Rattle.slots.specs.Codes.{stateInit, stateTryOpen, stateOpen, st
 pub use Rattle.slots.specs.Codes.{orderOrdered, orderUnordered, orderAllowTimeout, isOrder}
 pub use Rattle.slots.specs.Codes.{commitmentKind, receiptKind, acknowledgementKind, timeoutReceiptKind}
 pub use Rattle.slots.specs.Codes.{storeKind, channelKind}
-unfoldable pub use Rattle.slots.specs.Height.{isPast, hasPassed, sameTimeout}
+unfoldable pub use Rattle.slots.specs.Height.{isPast, sameTimeout}
 pub use Rattle.slots.specs.Height.{ownHeight, ownTime, otherHeight, otherTime, seenAcross, timeSeenAcross}
 pub use Rattle.slots.specs.Height.{isBelowOwn, isSameOwn, isSameOther, isUpToOther, UpToOther, BelowOther}
 pub use Rattle.slots.specs.Height.{isBelowOwnTime, isSameOwnTime, isSameOtherTime, UpToOtherTime}
-pub use Rattle.slots.specs.Height.{hasPassedAtSender, hasPassedAtReceiver, noTimeout}
+pub use Rattle.slots.specs.Height.{heightAtSender, timeAtSender, heightAtReceiver, timeAtReceiver, noTimeout}
+pub use Rattle.slots.specs.Height.{isPastOwn, isPastOwnTime, isPastOther, isPastOtherTime}
 unfoldable pub use Rattle.slots.specs.Version.{noneZero, versionFits, padded, isPadded}
 pub use Rattle.slots.specs.Version.{noVersion}
 unfoldable pub use Rattle.slots.specs.Table.{find, replace, push, place, takeOut, hasFree, freeSlots, count}

@@ -17,11 +17,11 @@ pub const ALLOW_TIMEOUT: Opening = Opening {
 };
 pub const ORDERS: [Order; 3] = [Order::Ordered, Order::Unordered, Order::OrderedAllowTimeout];
 
-/// The two clocks are apart, as the heights are: an answer tells which of them was asked.
+/// Client time 0, as in all worked cases.
 pub const CONTEXT: Context = Context {
     height: OwnHeight(100),
     time: OwnTime(1000),
-    client: Block { height: OtherHeight(50), time: OtherTime(900) },
+    client: Block { height: OtherHeight(50), time: OtherTime(0) },
     port: 5,
     connected: true,
 };

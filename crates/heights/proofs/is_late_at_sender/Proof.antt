@@ -1,4 +1,4 @@
--- By the client's height and time. Assumes nothing.
+-- By the client's block. Assumes nothing.
 use Rattle.rules.specs.Refusals.{isLateAtSender}
 use borrow.Author.Needs.{needs}
 use Rattle.heights.proofs.is_late_at_sender.Statement.{statement}
@@ -6,7 +6,7 @@ use Rattle.heights.proofs.is_late_at_sender.Tie as tie
 
 returns : tie.Need-returns
 unfolding isLateAtSender
-returns c = c .has-passed .ensures
+returns c = c .has-passed-at .ensures
 
 pub is-late-at-sender-spec : {M : Type 1} → statement M
 is-late-at-sender-spec =
