@@ -81,8 +81,6 @@ pub enum Change {
     Insert { index: usize, record: Record, used: usize },
     /// The one of this index goes.
     Remove { index: usize, used: usize },
-    /// Two go; the second stands behind the first.
-    RemoveTwo { first: usize, second: usize, used: usize },
 }
 
 impl Change {
@@ -91,10 +89,6 @@ impl Change {
         match self {
             Change::Insert { index, record, used } => insert_at(&mut store[..record_place(used + 1)], *index, record),
             Change::Remove { index, used } => remove(&mut store[..record_place(*used)], *index),
-            Change::RemoveTwo { first, second, used } => {
-                remove(&mut store[..record_place(*used)], *second);
-                remove(&mut store[..record_place(used - 1)], *first);
-            }
         }
     }
 }
@@ -110,7 +104,7 @@ pub struct Effect {
     pub next_channel: Option<u64>,
     /// A delivery touches no packet record but on an unordered channel.
     pub record: Option<Change>,
-    /// The steps that open or close an end emit nothing, nor does a prune.
+    /// The steps that open or close an end emit nothing.
     pub emitted: Option<Emitted>,
 }
 

@@ -25,7 +25,6 @@ fn same_but_version(a: Channel, b: Channel) -> bool
         & ((a.next.send == b.next.send)
             & (a.next.receive == b.next.receive)
             & (a.next.acknowledge == b.next.acknowledge))
-        & (a.mark == b.mark)
 }
 
 // For 7 to 9, 11 and 12: 140 the claim, 145 the record but for its version; 0 where none of them differs.
@@ -51,7 +50,7 @@ pub fn has_version(v: EndVerdict, needed: Channel) -> bool
     same_version(shown, version)
 }
 
-// A verdict shows an end with zero counters and mark.
+// A verdict shows an end with zero counters.
 fn needed_end(
     state: u8,
     order: u8,
@@ -72,7 +71,6 @@ fn needed_end(
             acknowledge: 0,
         },
         version: version,
-        mark: 0,
     }
 }
 
@@ -150,7 +148,6 @@ pub fn new_end(
             acknowledge: 1,
         },
         version: version,
-        mark: 1,
     }
 }
 
@@ -168,7 +165,6 @@ pub fn moved(state: u8, counterparty: PortChannel, c: Channel) -> Channel
         counterparty: counterparty,
         next: next,
         version: version,
-        mark: c.mark,
     }
 }
 
@@ -193,6 +189,5 @@ pub fn no_channel() -> Channel
             acknowledge: 0,
         },
         version: [0u8; VERSION],
-        mark: 0,
     }
 }

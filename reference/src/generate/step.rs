@@ -61,9 +61,7 @@ impl Step {
             _ => naming_it(CLOSED, end.counterparty_channel),
         };
         self.verdict.claim = END_SHOWN;
-        let version = self.verdict.version();
-        self.verdict.record = needed.shown();
-        self.show_version(version);
+        self.verdict.record[..channel::VERSION].copy_from_slice(&needed.shown()[..channel::VERSION]);
     }
 
     /// Puts a version into the verdict's record.

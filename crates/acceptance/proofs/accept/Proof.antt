@@ -2,10 +2,8 @@
 use mathlib.Core.Path.{ap, ◌∙◌}
 use mathlib.Core.List.{List}
 use Prim.Native.Nat.{ℕ}
-use native.Mathlib.Omega.{arith}
 use lib.ListN.{length}
 use borrow.Author.Rules.{rules}
-use Rattle.wire.proofs.PartLaws.{bytes-get_or}
 use Rattle.slots.specs.Layout.{bytes_of, store_in}
 use Rattle.datagram.specs.declared.Context.{Context}
 use Rattle.datagram.specs.Datagram.{datagram_in}
@@ -24,23 +22,17 @@ store o = o.args.store.now
 abbrev output : tie.Start → List ℕ
 output o = o.args.output.now
 
-abbrev first : tie.After-shared-slice-known → tie.Start
-first k = k.before.before.before
-
-accepted : (k : tie.After-shared-slice-known) → Ready (store (first k)) (first k).args.datagram.now
-accepted k =
-    let o = first k in
-    let d = o.args.datagram.now in
-    ready (store o) (output o) d o.pre.0 (bytes-get_or d (λ i. omega (arith, k.shared-slice-known.given i)))
+accepted : (o : tie.Start) → Ready (store o) o.args.datagram.now
+accepted o = ready (store o) (output o) o.args.datagram.now o.requires.0
 
 abbrev start : tie.After-plan-for → tie.Start
-start p = first p.before.before
+start p = p.before.before.before.before.before
 
 plan-for-requires : tie.Need-plan-for-requires
-plan-for-requires c κs = let k = c.before in (accepted k, (first k).requires.1)
+plan-for-requires c κs = let o = c.before.before.before.before in (accepted o, o.requires.1)
 
 carry-out-requires : tie.Need-carry-out-requires
-carry-out-requires c κs = let p = c.before in ((accepted p.before.before).fit, p.plan-for.ensures.1.1)
+carry-out-requires c κs = let p = c.before in ((accepted (start p)).fit, p.plan-for.ensures.1.1)
 
 emit-record-requires : tie.Need-emit-record-requires
 emit-record-requires c κs =

@@ -1,17 +1,17 @@
 -- The times, the next channel number, the end and the packet record, one after another: the bytes hold the store that
 -- each leaves. Assumes nothing.
-use mathlib.Core.Path.{sym, ap, subst, ◌∙◌}
+use mathlib.Core.Path.{◌≡◌, sym, ap, subst, ◌∙◌}
 use Prim.Native.Nat.{ℕ, ◌^◌, ◌<◌}
 use native.Mathlib.Omega.{arith}
 use borrow.Author.Rules.{rules}
 use Rattle.wire.proofs.PartLaws.{bytes-get_or, bytes-array}
 use Rattle.slots.specs.Layout.{Store, bytes_of, store_in}
+use Rattle.slots.specs.Scan.{used_slots}
 use Rattle.slots.specs.Effect.{with_times, with_next}
-use Rattle.slots.proofs.Laws.{ChannelFields, fit-store, fit-fields, fit-ordered}
+use Rattle.slots.proofs.Laws.{ChannelFields, Ordered, fit-store, fit-fields, fit-ordered}
 use Rattle.slots.proofs.HeldLaws.{Held, fit-exact, held-store, held-exact, held-times, held_next}
 use Rattle.rules.specs.Acceptance.{placed, applied}
-use Rattle.records.specs.Edited.{edit_by, with_edit}
-use Rattle.records.proofs.EditLaws.{held-editable}
+use Rattle.records.specs.Edited.{edit_by, slot_of, with_edit}
 use Rattle.effects.specs.Decided.{ends_by}
 use Rattle.acceptance.specs.Planned.{with_end}
 use Rattle.acceptance.proofs.AcceptLaws.{held-end, with_channels, placed_end, end_below}
@@ -28,7 +28,6 @@ end-fields o =
       own = record { port = omega (arith, g); channel = omega (arith, g) };
       counterparty = record { port = omega (arith, g); channel = omega (arith, g) };
       next = record { send = omega (arith, g); receive = omega (arith, g); acknowledge = omega (arith, g) };
-      mark = omega (arith, g);
       size = search (rules, g);
       bytes = bytes-array o.args.p.decision.end.version (λ i. search (rules, g));
     }
@@ -106,19 +105,23 @@ put-end-requires c κs =
 abbrev placed_store : tie.Start → (next : ℕ) → Store
 placed_store o n = with_channels (with_next (timed o) n) (placed (ends_by o.args.p.decision) (store o).channels)
 
-placed-held : (e : tie.After-put-end) → Held (placed_store (start e) (start e).args.p.next) e.put-end.new.0
-placed-held e =
+left : (e : tie.After-put-end) → store_in e.put-end.new.0 ≡ placed_store (start e) (start e).args.p.next
+left e =
     let o = start e in
     let d = o.args.p.decision in
-    subst (λ (s : Store). Held s e.put-end.new.0)
-    (placed_end (numbered o) d.ends d.end o.args.p.at o.pre.1.end) (ended_held e)
+    held-store (ended_held e) ∙ placed_end (numbered o) d.ends d.end o.args.p.at o.pre.1.end
 
 edit-records-requires : tie.Need-edit-records-requires
 edit-records-requires c κs =
     let e = c.before.before.before.before in
-    let o = start e in
-    held-editable (placed-held e) (fit-ordered (store o) (fit-store o.args.store.now o.pre.0))
-    o.pre.1.used
+    let o = start e in (
+      held-exact (ended_held e),
+      subst (λ (s : Store). Ordered s.records) (sym (left e))
+          (fit-ordered (store o) (fit-store o.args.store.now o.pre.0)),
+      o.pre.1.used ∙ ap (λ (s : Store). used_slots s.records) (sym (left e)),
+      o.pre.1.edit ∙
+          ap (λ (s : Store). slot_of (edit_by o.args.p.decision.edit) s.records) (sym (left e)),
+    )
 
 returns : tie.Need-returns
 unfolding applied
@@ -127,7 +130,7 @@ returns c =
     let e = w.before.before.before.before.before in
     let o = start e in
     let edit = edit_by o.args.p.decision.edit in
-    w.edit-records.ensures ∙ ap (λ (s : Store). bytes_of (with_edit s edit)) (held-store (placed-held e)) ∙
+    w.edit-records.ensures ∙ ap (λ (s : Store). bytes_of (with_edit s edit)) (left e) ∙
     ap (λ (n : ℕ). bytes_of (with_edit (placed_store o n) edit)) o.pre.1.next
 
 pub carry-out-spec : {M : Type 1} → statement M

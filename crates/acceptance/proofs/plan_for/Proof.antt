@@ -78,7 +78,7 @@ decide-requires c κs =
 
 number-after-requires : tie.Need-number-after-requires
 number-after-requires c κs =
-    let decision = c.before.before in
+    let decision = c.before.before.before in
     let u = decision.before in
     let i = u.before.before.before in
     let o = start i in
@@ -89,9 +89,10 @@ number-after-requires c κs =
 returns : tie.Need-returns
 unfolding datagram_in
 returns c =
-    let after = c.before in
+    let slot = c.before in
+    let after = slot.before in
     let context = after.before in
-    let decision = context.before.before in
+    let decision = context.before.before.before in
     let u = decision.before in
     let i = u.before.before.before in
     let o = start i in
@@ -102,10 +103,11 @@ returns c =
         planned-effect (store o) (datagram_got o) kind (next u) (end u.before) decision.decide.ensures,
         record {
           end =
-              c.end-slot.ensures ∙ planned-slot (store o) (datagram_got o) kind (next u) (end u.before)
+              slot.end-slot.ensures ∙ planned-slot (store o) (datagram_got o) kind (next u) (end u.before)
               decision.decide.result.ends decision.decide.result.end ends o.pre.0
               (found u.before.before);
           next = after.number-after.ensures ∙ ap (number_after (ends_by decision.decide.result)) (next u);
+          edit = c.slot_of.ensures;
           used = o.pre.1;
         },
       ),
@@ -118,5 +120,7 @@ plan-for-spec =
     (λ c κs. omega (arith, (sound c.before.before).size)) channel-in-requires (λ c κs. room (start c))
     (λ c κs. (room (start c.before), c.find-channel.ensures))
     (λ c κs. omega (arith, room (start c.before.before))) decide-requires
-    (λ c κs. omega (arith, (sound (start c.before.before.before.before.before)).size)) number-after-requires
-    (λ c κs. room (start c.before.before.before.before.before.before.before)) returns)
+    (λ c κs. omega (arith, (sound (start c.before.before.before.before.before.before)).size))
+    number-after-requires
+    (λ c κs. room (start c.before.before.before.before.before.before.before.before))
+    (λ c κs. (start c.before.before.before.before.before.before.before.before.before).requires.0.fit) returns)

@@ -12,10 +12,9 @@ use Rattle.wire.proofs.ChoiceLaws.{clash}
 use Rattle.slots.specs.Version.{version_fits}
 use Rattle.slots.specs.Layout.{Store, store_in}
 use Rattle.datagram.specs.Kind.{Kind, send, receive, write, acknowledge, time_out}
-use Rattle.datagram.specs.Kind.{open_init, open_acknowledge, open_confirm, close_init, close_confirm, time_out_on_close, prune}
+use Rattle.datagram.specs.Kind.{open_init, open_acknowledge, open_confirm, close_init, close_confirm, time_out_on_close}
 use Rattle.datagram.specs.Kind.{kind_of, body, has_part, parts_size, size_before, size_of}
-use Rattle.datagram.specs.Datagram.{packet_from, second_from, timeout_from, sequence_from, version_from, Datagram}
-use Rattle.datagram.specs.Datagram.{datagram_of}
+use Rattle.datagram.specs.Datagram.{packet_from, timeout_from, sequence_from, version_from, Datagram, datagram_of}
 use Rattle.datagram.proofs.MatchLaws.{by_kind}
 use Rattle.answer.proofs.answer_by_kind.Statement.{statement}
 use Rattle.answer.proofs.answer_by_kind.Tie as tie
@@ -115,19 +114,6 @@ verdict-in-requires-4 : tie.Need-verdict-in-requires-4
 unfolding with_number body has_part ◌or◌
 verdict-in-requires-4 c κs =
     (refl, long c.before.before.before.before.before 12 c.before.before.match.keys13)
-
-sequence-in-requires-2 : tie.Need-sequence-in-requires-2
-unfolding with_number body parts_size
-sequence-in-requires-2 c κs = omega (arith, long c.before.before.before 13 c.match.keys14)
-
-verdict-in-requires-5 : tie.Need-verdict-in-requires-5
-unfolding with_number body has_part ◌or◌
-verdict-in-requires-5 c κs = (refl, long c.before.before.before.before 13 c.before.match.keys14)
-
-second-in-requires : tie.Need-second-in-requires
-unfolding with_number body parts_size
-second-in-requires c κs =
-    omega (arith, long c.before.before.before.before.before 13 c.before.before.match.keys14)
 
 returns : tie.Need-returns
 unfolding with_number body size_before timeout_from
@@ -234,28 +220,19 @@ returns-12 c =
     (c.time-out-on-close-row.ensures (sent time_out_on_close o) (sym c.before.before.before.packet-in4.ensures)
     (sym c.before.before.end-verdict-in4.ensures) (sym c.before.verdict-in4.ensures))
 
-returns-13 : tie.Need-returns-13
-unfolding with_number body size_before sequence_from second_from
-returns-13 c =
-    let m = c.before.before.before.before in
-    let o = m.before.before.before in
-    rw m.match.keys14
-    (c.prune-row.ensures (store o) (sent prune o) (sym c.before.before.before.sequence-in2.ensures)
-    (sym c.before.before.verdict-in5.ensures) (sym c.before.second-in.ensures))
-
 -- a sound datagram is of no other kind
 no_other : {A : Type 0} {x : Option Kind} → is_some x ≡ true → x ≡ none → A
 no_other h e = clash {b = false} (sym (ap is_some e) ∙ h) refl
 
-returns-14 : tie.Need-returns-14
+returns-13 : tie.Need-returns-13
 unfolding with_number
-returns-14 c = no_other c.before.before.before.requires.known (ap (λ (n : ℕ). kind_of n) c.match.keys1)
+returns-13 c = no_other c.before.before.before.requires.known (ap (λ (n : ℕ). kind_of n) c.match.keys1)
 
 abbrev arms : List (List ℕ)
-arms = map (λ (n : ℕ). n ∷ []) (0 ∷ 1 ∷ 2 ∷ 3 ∷ 4 ∷ 5 ∷ 6 ∷ 7 ∷ 8 ∷ 9 ∷ 10 ∷ 11 ∷ 12 ∷ 13 ∷ [])
+arms = map (λ (n : ℕ). n ∷ []) (0 ∷ 1 ∷ 2 ∷ 3 ∷ 4 ∷ 5 ∷ 6 ∷ 7 ∷ 8 ∷ 9 ∷ 10 ∷ 11 ∷ 12 ∷ [])
 
-returns-15 : tie.Need-returns-15
-returns-15 c =
+returns-14 : tie.Need-returns-14
+returns-14 c =
     let o = c.before.before.before in
     no_other o.requires.known
     (by_kind (λ (n : ℕ). kind_of n ≡ none) arms 0 o.args.kind c.match.rest (omega arith, λ e. e))
@@ -271,6 +248,5 @@ answer-by-kind-spec =
     counterparty-channel-in-requires end-verdict-in-requires (λ c κs. search rules) end-verdict-in-requires-2
     (λ c κs. search rules) (λ c κs. search rules) end-verdict-in-requires-3 (λ c κs. search rules)
     packet-in-requires-4 end-verdict-in-requires-4 verdict-in-requires-4 (λ c κs. search rules)
-    sequence-in-requires-2 verdict-in-requires-5 second-in-requires (λ c κs. search rules)
     returns returns-2 returns-3 returns-4 returns-5 returns-6 returns-7 returns-8 returns-9 returns-10 returns-11
-    returns-12 returns-13 returns-14 returns-15)
+    returns-12 returns-13 returns-14)

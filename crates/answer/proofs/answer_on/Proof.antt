@@ -1,11 +1,11 @@
 -- The channel end that the scan finds, the two tests of it, then the lines of the kind. Assumes nothing.
 use mathlib.Core.Path.{◌≡◌, refl, sym, ap, ◌∙◌}
-use mathlib.Core.Bool.{Bool, true, false, ◌||◌}
+use mathlib.Core.Bool.{true, false}
 use mathlib.Core.List.{List, [], ◌∷◌}
-use mathlib.Core.Option.{Option, some}
+use mathlib.Core.Option.{some}
 use Prim.Native.Nat.{ℕ, ◌<◌}
 use native.Mathlib.Omega.{arith}
-use lib.Dec.{leb, eqb}
+use lib.Dec.{leb}
 use borrow.Author.Rules.{rules}
 use borrow.Author.Tests.{eq-eqb, ne_eqb}
 use Rattle.wire.specs.Choice.{◌and◌, ◌or◌, is_some, with_number}
@@ -18,7 +18,7 @@ use Rattle.slots.specs.Layout.{store_in}
 use Rattle.slots.specs.Scan.{holds, first_that}
 use Rattle.slots.proofs.ScanLaws.{find-nothing, channel-found}
 use Rattle.slots.proofs.SlotTestLaws.{channel-index}
-use Rattle.datagram.specs.Kind.{Kind, send, receive, write, acknowledge, prune, kind_of, only}
+use Rattle.datagram.specs.Kind.{send, receive, write, acknowledge, kind_of, only}
 use Rattle.datagram.specs.Datagram.{Datagram, datagram_of}
 use Rattle.datagram.proofs.MatchLaws.{by_kind}
 use Rattle.rules.specs.Refusals.{first_given, table, or_none, end_for}
@@ -95,15 +95,13 @@ past-5 k =
     ap (λ (c : Channel). some c) (sym k.channel-at.ensures) in
     rw (o.pre.1, there)
 
--- line 6 is for the kinds 1 to 4 and 13
-abbrev on_open : Option Kind → Bool
-on_open k = only (send ∷ receive ∷ write ∷ acknowledge ∷ prune ∷ []) k
-
-open-kinds : (n : ℕ) → is_some (kind_of n) ≡ true → on_open (kind_of n) ≡ (leb n 4 || eqb n 13)
+-- line 6 is for the kinds 1 to 4
+open-kinds : (n : ℕ) → is_some (kind_of n) ≡ true →
+    only (send ∷ receive ∷ write ∷ acknowledge ∷ []) (kind_of n) ≡ leb n 4
 unfolding only with_number ◌or◌
 open-kinds n h =
-    by_kind (λ (m : ℕ). on_open (kind_of m) ≡ (leb m 4 || eqb m 13)) [] 0
-    refl refl refl refl refl refl refl refl refl refl refl refl refl n tt
+    by_kind (λ (m : ℕ). only (send ∷ receive ∷ write ∷ acknowledge ∷ []) (kind_of m) ≡ leb m 4) [] 0
+    refl refl refl refl refl refl refl refl refl refl refl refl n tt
     (omega arith, λ e. clash {b = false} (sym (ap is_some e) ∙ h) refl)
 
 returns-2 : tie.Need-returns-2

@@ -5,14 +5,13 @@ use native.Mathlib.Omega.{arith}
 use lib.ListN.{length}
 use borrow.Author.Rules.{rules}
 use Rattle.wire.proofs.PartLaws.{bytes-array}
-use Rattle.slots.specs.Limits.{version_size}
 use Rattle.slots.specs.Layout.{slot_bytes}
 use Rattle.slots.proofs.LayoutLaws.{length-channel}
 use Rattle.slots.proofs.EffectLaws.{exact-channel, exact-room}
 use Rattle.changes.proofs.set_channel.Statement.{statement}
 use Rattle.changes.proofs.set_channel.Tie as tie
 
-full : (o : tie.Start) → length o.args.c.version ≡ version_size
+full : (o : tie.Start) → length o.args.c.version ≡ 24
 full o = search rules
 
 returns : tie.Need-returns

@@ -47,12 +47,11 @@ returns-5 c =
 -- of the known kinds those that close an end are left for no arm
 abbrev arms : List (List ℕ)
 arms =
-    (1 ∷ []) ∷ (2 ∷ []) ∷ (3 ∷ []) ∷ (4 ∷ []) ∷ (5 ∷ 12 ∷ []) ∷ (6 ∷ []) ∷ (7 ∷ []) ∷ (8 ∷ []) ∷ (9 ∷ []) ∷
-    (13 ∷ []) ∷ []
+    (1 ∷ []) ∷ (2 ∷ []) ∷ (3 ∷ []) ∷ (4 ∷ []) ∷ (5 ∷ 12 ∷ []) ∷ (6 ∷ []) ∷ (7 ∷ []) ∷ (8 ∷ []) ∷ (9 ∷ []) ∷ []
 
-returns-11 : tie.Need-returns-11
+returns-10 : tie.Need-returns-10
 unfolding with_number effect_for effect_of
-returns-11 c =
+returns-10 c =
     let m = c.before.before in
     let o = m.before.before in
     let h = c.decide-moved3.ensures ∙ ap moves c.before.closed-end.ensures in
@@ -73,9 +72,7 @@ decide-spec =
     (λ c κs. let r = rw c.match.keys7 at c.before.before.requires in (r.1, r.2.tries refl))
     (λ c κs. search rules)
     (λ c κs. let r = rw c.match.keys8 at c.before.before.requires in r.1)
-    (λ c κs. search rules) (λ c κs. search rules) (λ c κs. search rules)
-    (λ c κs. let r = rw c.match.keys10 at c.before.before.requires in (r.1, r.2.prunes refl))
-    (λ c κs. search rules) (λ c κs. search rules)
+    (λ c κs. search rules) (λ c κs. search rules) (λ c κs. search rules) (λ c κs. search rules) (λ c κs. search rules)
     (λ c. rw c.before.match.keys1 c.decide-send.ensures)
     (λ c. rw c.before.match.keys2 c.decide-receive.ensures)
     (λ c. rw c.before.match.keys3 c.decide-write.ensures)
@@ -85,5 +82,4 @@ decide-spec =
     (λ c. rw c.before.before.match.keys7 (c.decide-made2.ensures ∙ ap makes c.before.tried-end.ensures))
     (λ c. rw c.before.before.match.keys8 (c.decide-moved.ensures ∙ ap moves c.before.answered-end.ensures))
     (λ c. rw c.before.before.match.keys9 (c.decide-moved2.ensures ∙ ap moves c.before.opened-end.ensures))
-    (λ c. rw c.before.match.keys10 c.decide-prune.ensures)
-    returns-11)
+    returns-10)

@@ -17,14 +17,8 @@ returns c = rw c.before.before.match.keys1
 returns-2 : tie.Need-returns-2
 unfolding fits_end ◌and◌
 returns-2 c =
-    let zero = c.before in
-    let may = zero.before in
-    rw (
-      ← may.may-have-receipt.ensures,
-      ← zero.has-zero-timeouts-and-digest.ensures,
-      ← c.is-pruned.ensures,
-      may.before.match.keys2,
-    )
+    let may = c.before in
+    rw (← may.may-have-receipt.ensures, ← c.has-zero-timeouts-and-digest.ensures, may.before.match.keys2)
 
 returns-3 : tie.Need-returns-3
 unfolding fits_end ◌and◌
@@ -56,4 +50,4 @@ fits-end-spec =
     tie.close
     (tie.spec
     (λ c κs. search rules) (λ c κs. search rules) (λ c κs. search rules) (λ c κs. search rules)
-    (λ c κs. search rules) (λ c κs. search rules) returns returns-2 returns-3 returns-4)
+    (λ c κs. search rules) returns returns-2 returns-3 returns-4)

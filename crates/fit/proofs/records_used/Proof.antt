@@ -20,8 +20,7 @@ use Rattle.slots.proofs.SlotTestLaws.{channel-index}
 use Rattle.runs.specs.Each.{each}
 use Rattle.runs.specs.Run.{record_at, key_at, has_companion, fits_beside}
 use Rattle.fit.specs.Pass.{starts_run}
-use Rattle.fit.proofs.PassLaws.{Checked, checked-none, checked-all, checked-rest, unfit-rest, unfit-start}
-use Rattle.fit.proofs.PassLaws.{unfit-end}
+use Rattle.fit.proofs.PassLaws.{Checked, checked-none, checked-all, checked-rest, unfit-rest, unfit-start, unfit-end}
 use Rattle.fit.proofs.PassLaws.{passed, unfit-first, unfit-run, checked-run}
 use Rattle.fit.proofs.records_used.Statement.{statement}
 use Rattle.fit.proofs.records_used.Tie as tie

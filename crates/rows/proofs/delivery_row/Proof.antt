@@ -33,11 +33,11 @@ returns-2 : tie.Need-returns-2
 unfolding number_behind behind table first_given only ◌or◌
 returns-2 c =
     λ d p l. sym (past-15 c.before.before d p l ∙
-    rw (p, came c.before.had-receipt.ensures c.if2.true))
+    rw (p, came c.before.is-receipt-there.ensures c.if2.true))
 
 past-16 : (e : tie.Else2) → Left 16 e.before.before.before.before.before
 unfolding number_behind behind table first_given only ◌or◌
-past-16 e d p l = past-15 e.before.before d p l ∙ rw (p, came e.before.had-receipt.ensures e.if2.false)
+past-16 e d p l = past-15 e.before.before d p l ∙ rw (p, came e.before.is-receipt-there.ensures e.if2.false)
 
 returns-3 : tie.Need-returns-3
 unfolding number_behind behind table first_given only ◌or◌

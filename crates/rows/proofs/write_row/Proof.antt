@@ -23,11 +23,11 @@ Left n o =
 
 returns : tie.Need-returns
 unfolding number_behind behind table first_given only ◌or◌
-returns c = λ d n a. rw (n, came c.before.had-acknowledgement.ensures c.if1.true)
+returns c = λ d n a. rw (n, came c.before.has-record.ensures c.if1.true)
 
 past-16 : (e : tie.Else1) → Left 16 e.before.before.before
 unfolding number_behind behind table first_given only ◌or◌
-past-16 e d n a = rw (n, came e.before.had-acknowledgement.ensures e.if1.false)
+past-16 e d n a = rw (n, came e.before.has-record.ensures e.if1.false)
 
 returns-2 : tie.Need-returns-2
 unfolding number_behind behind table first_given only ◌or◌

@@ -5,7 +5,6 @@ use Prim.Native.Nat.{ℕ, ◌-◌, ◌<◌}
 use native.Mathlib.Omega.{arith}
 use lib.Dec.{ltb}
 use borrow.Author.Rules.{rules}
-use Rattle.wire.specs.Choice.{◌and◌}
 use Rattle.wire.specs.Bytes.{Bytes}
 use Rattle.wire.proofs.PartLaws.{bytes-array}
 use Rattle.runs.specs.Run.{key_at}
@@ -52,17 +51,12 @@ returns c =
     (kind k ∙ c.before.before.match.keys1))
 
 returns-2 : tie.Need-returns-2
-unfolding ◌and◌
 returns-2 c =
-    let may = c.before in
-    let k = may.before.before in
+    let k = c.before.before in
     let o = k.before.before in
     let a = o.args in
-    rw (
-      receipts (bytes k) (known k) a.i a.e o.requires.2 o.requires.1 a.c (kind k ∙ may.before.match.keys2),
-      ← may.may-have-receipt.ensures,
-      ← c.none-pruned.ensures,
-    )
+    c.may-have-receipt.ensures ∙
+    sym (receipts (bytes k) (known k) a.i a.e o.requires.2 o.requires.1 a.c (kind k ∙ c.before.match.keys2))
 
 returns-5 : tie.Need-returns-5
 returns-5 c =
@@ -81,5 +75,5 @@ run-fits-spec =
     (λ c. omega (arith, first c)) (λ c. omega (arith, first c)) (λ c κs. omega (arith, first c))
     (λ c. omega (arith, low c.before)) (λ c. omega (arith, low c.before)) (λ c. omega (arith, low c.before))
     (λ c. omega (arith, low c.before)) (λ c κs. omega (arith, low c.before)) (λ c κs. search rules)
-    (λ c κs. omega (arith, low c.before.before)) acknowledgements-fit-requires timeout-receipts-fit-requires
-    returns returns-2 (λ c. search rules) (λ c. search rules) returns-5)
+    acknowledgements-fit-requires timeout-receipts-fit-requires returns returns-2
+    (λ c. search rules) (λ c. search rules) returns-5)

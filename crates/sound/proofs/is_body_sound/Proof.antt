@@ -20,7 +20,7 @@ use Rattle.sound.proofs.is_body_sound.Tie as tie
 
 -- the keys of the arms, before those that ranges tell
 abbrev arms : List (List ℕ)
-arms = (1 ∷ 10 ∷ []) ∷ (2 ∷ []) ∷ (3 ∷ []) ∷ (6 ∷ []) ∷ (7 ∷ []) ∷ (11 ∷ []) ∷ (12 ∷ []) ∷ (13 ∷ []) ∷ []
+arms = (1 ∷ 10 ∷ []) ∷ (2 ∷ []) ∷ (3 ∷ []) ∷ (6 ∷ []) ∷ (7 ∷ []) ∷ (11 ∷ []) ∷ (12 ∷ []) ∷ []
 
 -- THE KINDS of an arm: those that carry a packet and a verdict, and no other part that is tested
 abbrev OnPacket : List ℕ → (kind : ℕ) → Type 0
@@ -91,10 +91,6 @@ is-verdict-sound-requires c κs =
     let m = c.before.before in
     (refl, rw m.match.keys7 at m.before.before.requires)
 
-is-prune-sound-requires : tie.Need-is-prune-sound-requires
-unfolding with_number
-is-prune-sound-requires c κs = rw c.match.keys8 at c.before.before.requires
-
 returns : tie.Need-returns
 unfolding with_number body is_body_sound are_parts_sound is_part_sound ◌and◌
 returns c =
@@ -129,25 +125,21 @@ returns-5 c =
       and-true,
     )
 
-returns-6 : tie.Need-returns-6
-unfolding with_number
-returns-6 c = rw c.before.match.keys8 c.is-prune-sound.ensures
-
-returns-10 : tie.Need-returns-10
+returns-9 : tie.Need-returns-9
 unfolding ◌and◌
-returns-10 c =
+returns-9 c =
     rw (c.before.is-packet-sound2.ensures, c.is-verdict-sound2.ensures) (packet c.before.before).2
 
 -- those of no arm
-returns-7 : tie.Need-returns-7
+returns-6 : tie.Need-returns-6
 unfolding with_number is_body_sound ◌and◌
-returns-7 c =
+returns-6 c =
     let zero : c.before.before.before.args.kind ≡ 0 = omega arith in
     rw zero
 
-returns-8 : tie.Need-returns-8
+returns-7 : tie.Need-returns-7
 unfolding is_body_sound ◌and◌
-returns-8 c =
+returns-7 c =
     let m = c.before.before.before in
     let a = m.before.before.args in
     by_kind (λ (n : ℕ). false ≡ is_body_sound (kind_of n) a.d.now) arms 10 a.kind m.match.rest
@@ -159,6 +151,6 @@ is-body-sound-spec =
     (tie.spec
     sequence-in-requires is-order-sound-requires is-order-sound-requires-2 is-end-verdict-sound-requires
     is-packet-sound-requires is-end-verdict-sound-requires-2 is-verdict-sound-requires
-    is-prune-sound-requires (λ c κs. ((end c).0, c.before.before.requires)) (λ c κs. omega (arith, (packet c).0))
+    (λ c κs. ((end c).0, c.before.before.requires)) (λ c κs. omega (arith, (packet c).0))
     (λ c κs. ((packet c.before).1, c.before.before.before.requires)) returns returns-2 returns-3 returns-4 returns-5
-    returns-6 returns-7 returns-8 (λ c. c.is-end-verdict-sound3.ensures ∙ (end c.before).1) returns-10)
+    returns-6 returns-7 (λ c. c.is-end-verdict-sound3.ensures ∙ (end c.before).1) returns-9)

@@ -12,13 +12,13 @@ use Rattle.sound.proofs.is_sized.Statement.{statement}
 use Rattle.sound.proofs.is_sized.Tie as tie
 
 -- a number of no arm is no kind
-unknown-size : tie.Need-returns-12
+unknown-size : tie.Need-returns-11
 unfolding has_part parts_size is_sized
 unknown-size c =
     let a = c.before.args in
     by_kind (λ (n : ℕ). eqb a.size body_from ≡ is_sized (kind_of n) a.size)
     ((1 ∷ []) ∷ (2 ∷ 5 ∷ []) ∷ (3 ∷ []) ∷ (4 ∷ []) ∷ (6 ∷ []) ∷ (7 ∷ []) ∷ (8 ∷ []) ∷ (9 ∷ 11 ∷ []) ∷ (10 ∷ []) ∷
-    (12 ∷ []) ∷ (13 ∷ []) ∷ [])
+    (12 ∷ []) ∷ [])
     0 a.kind c.match.rest (omega arith, λ e. rw e)
 
 pub is-sized-spec : {M : Type 1} → statement M
@@ -29,5 +29,4 @@ is-sized-spec =
     (λ c. rw c.match.keys1) (λ c. ⊎_elim (λ e. rw e) (λ e. rw e) c.match.keys2) (λ c. rw c.match.keys3)
     (λ c. rw c.match.keys4) (λ c. rw c.match.keys5) (λ c. rw c.match.keys6) (λ c. rw c.match.keys7)
     (λ c. ⊎_elim (λ e. rw e) (λ e. rw e) c.match.keys8) (λ c. rw c.match.keys9) (λ c. rw c.match.keys10)
-    (λ c. rw c.match.keys11)
     unknown-size)

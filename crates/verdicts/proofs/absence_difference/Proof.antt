@@ -1,32 +1,22 @@
--- The case of a timeout: next receive fits as it is claimed. Assumes nothing.
-use mathlib.Core.Path.{◌≡◌, refl}
-use mathlib.Core.Bool.{Bool, true, false, ◌||◌}
-use Prim.Native.Nat.{ℕ}
-use lib.Dec.{eqb}
+-- The case of a timeout. Assumes nothing.
 use borrow.Author.Rules.{rules}
-use borrow.Author.Tests.{eq-eqb}
-use Rattle.wire.specs.Choice.{pick}
-use Rattle.rules.specs.Refusals.{claims_next, absence_difference}
+use Rattle.rules.specs.Refusals.{absence_difference}
 use Rattle.verdicts.proofs.absence_difference.Statement.{statement}
 use Rattle.verdicts.proofs.absence_difference.Tie as tie
-
-either-fits : (b : Bool) (m n : ℕ) → eqb m (pick b m n) ≡ (b || eqb m n)
-either-fits true m n = eq-eqb m m refl
-either-fits false m n = refl
 
 returns : tie.Need-returns
 unfolding absence_difference
 returns c =
-    let d = c.before.before.before.before.before.before in
-    let a = d.before.args in
+    let d = c.before.before in
     rw (
-      c.first-difference.ensures _ (either-fits (claims_next a.v) a.v.sequence a.p.sequence),
+      c.first-difference.ensures,
       c.before.no-timeout.ensures,
-      d.absence-claim.ensures,
+      d.absence-sequence.ensures,
+      d.before.before.absence-claim.ensures,
     )
 
 pub absence-difference-spec : {M : Type 1} → statement M
 absence-difference-spec =
     tie.close
     (tie.spec
-    (λ c κs. search rules) (λ c κs. search rules) (λ c κs. search rules) returns)
+    (λ c κs. search rules) (λ c κs. search rules) (λ c κs. search rules) (λ c κs. search rules) returns)

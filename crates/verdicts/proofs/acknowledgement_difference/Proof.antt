@@ -1,5 +1,4 @@
 -- The case of an acknowledgement. Assumes nothing.
-use mathlib.Core.Path.{refl}
 use borrow.Author.Rules.{rules}
 use Rattle.rules.specs.Refusals.{acknowledgement_difference}
 use Rattle.verdicts.proofs.acknowledgement_difference.Statement.{statement}
@@ -7,7 +6,7 @@ use Rattle.verdicts.proofs.acknowledgement_difference.Tie as tie
 
 returns : tie.Need-returns
 unfolding acknowledgement_difference
-returns c = rw (c.first-difference.ensures _ refl, c.before.no-timeout.ensures)
+returns c = rw (c.first-difference.ensures, c.before.no-timeout.ensures)
 
 pub acknowledgement-difference-spec : {M : Type 1} → statement M
 acknowledgement-difference-spec =

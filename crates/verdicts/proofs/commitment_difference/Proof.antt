@@ -1,5 +1,4 @@
 -- The case of a commitment. Assumes nothing.
-use mathlib.Core.Path.{refl}
 use borrow.Author.Rules.{rules}
 use Rattle.rules.specs.Refusals.{commitment_difference}
 use Rattle.verdicts.proofs.commitment_difference.Statement.{statement}
@@ -7,7 +6,7 @@ use Rattle.verdicts.proofs.commitment_difference.Tie as tie
 
 returns : tie.Need-returns
 unfolding commitment_difference
-returns c = c.first-difference.ensures _ refl
+returns c = c.first-difference.ensures
 
 pub commitment-difference-spec : {M : Type 1} → statement M
 commitment-difference-spec =

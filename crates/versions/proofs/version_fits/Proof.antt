@@ -15,7 +15,7 @@ unfolding version_fits ◌and◌
 returns c =
     let a = c.before.before.args in
     let v = drop a.at a.d.now in
-    rw (lt-leb (length v) 16 (omega (arith, length-drop a.at a.d.now)))
+    rw (lt-leb (length v) 24 (omega (arith, length-drop a.at a.d.now)))
 
 returns-2 : tie.Need-returns-2
 unfolding version_fits ◌and◌
@@ -25,7 +25,7 @@ returns-2 c =
     let at = o.args.at in
     let v = drop at d in
     let size = length-drop at d in
-    rw (le-leb (length v) 16 (omega arith), none_before v, size, ← part-drop at d, ← c.before-zero.ensures)
+    rw (le-leb (length v) 24 (omega arith), none_before v, size, ← part-drop at d, ← c.before-zero.ensures)
 
 pub version-fits-spec : {M : Type 1} → statement M
 version-fits-spec =

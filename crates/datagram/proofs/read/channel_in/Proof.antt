@@ -19,7 +19,7 @@ Lies i d n = (i + 4 ≤ size_of (kind_of n)) × (field i 4 d ≡ channel_from (k
 
 -- the keys of the arms, before those that ranges tell
 abbrev arms : List (List ℕ)
-arms = (1 ∷ 3 ∷ 13 ∷ []) ∷ (2 ∷ []) ∷ (12 ∷ []) ∷ []
+arms = (1 ∷ 3 ∷ []) ∷ (2 ∷ []) ∷ (12 ∷ []) ∷ []
 
 own : (c : tie.At-match-branch-2) → let a = c.before.before.args in Lies body_from a.d.now a.kind
 unfolding with_number body parts_size size_before channel_from
@@ -27,8 +27,7 @@ own c =
     let a = c.before.before.args in
     let P = Lies body_from a.d.now in
     elim c.match.branch [
-      | inl w ↦
-          by_key P (1 ∷ 3 ∷ 13 ∷ []) (omega arith, refl) (omega arith, refl) (omega arith, refl) a.kind w.keys1
+      | inl w ↦ by_key P (1 ∷ 3 ∷ []) (omega arith, refl) (omega arith, refl) a.kind w.keys1
       | inr w ↦
           by-range P arms 8 4 (omega arith, refl) (omega arith, refl) (omega arith, refl) (omega arith, refl) a.kind
           w.0.rest (w.3.left, w.4.taken)

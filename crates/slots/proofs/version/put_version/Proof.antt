@@ -1,4 +1,4 @@
--- All 16 bytes of the array are the array. Assumes nothing.
+-- All 24 bytes of the array are the array. Assumes nothing.
 use mathlib.Core.Path.{◌≡◌}
 use lib.ListN.{length}
 use borrow.Author.Rules.{rules}
@@ -10,8 +10,8 @@ returns : tie.Need-returns
 returns c =
     let call = c.before.before in
     let v = call.before.before.before.before.args.t3 in
-    let full : length v ≡ 16 = search rules in
-    rw (call.put-part.ensures, part-all 16 v full)
+    let full : length v ≡ 24 = search rules in
+    rw (call.put-part.ensures, part-all 24 v full)
 
 pub put-version-spec : {M : Type 1} → statement M
 put-version-spec =

@@ -1,4 +1,4 @@
--- All 16 bytes are stored over zeros. Assumes nothing.
+-- All 24 bytes are stored over zeros. Assumes nothing.
 use native.Mathlib.Omega.{arith}
 use borrow.Author.Rules.{rules}
 use Rattle.wire.proofs.PatchLaws.{patch-array}
@@ -9,7 +9,7 @@ returns : tie.Need-returns
 returns c =
     let call = c.before in
     let a = call.before.before.before.args in
-    rw call.put-part.ensures (patch-array 16 a.at a.s.now (omega arith))
+    rw call.put-part.ensures (patch-array 24 a.at a.s.now (omega arith))
 
 pub version-at-spec : {M : Type 1} → statement M
 version-at-spec =

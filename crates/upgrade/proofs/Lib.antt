@@ -1,5 +1,0 @@
-pub mod MarkLaws
-pub mod StoredLaws
-pub mod RewrittenLaws
-pub mod OlderLaws
-pub mod UpgradeLaws

@@ -1,2 +1,0 @@
-pub mod Upgrade
-pub mod Marks
