@@ -2,6 +2,7 @@
 // of bytes, `patch` for what a store of bytes leaves. Numbers are read and stored by halves, down to
 // bytes: each width is proved by the same law, and the compiler makes one load or one store of it.
 #![tactic(auto)]
+
 ghost use Rattle.std.specs.Prelude.{◌≡◌, ◌++◌, ◌+◌, ◌≤◌, length, replicate};
 ghost use Rattle.wire.specs.Bytes.{part, field, little, patch, same, are_zero, digest_size};
 ghost use Rattle.wire.specs.Frame.{frame_size, frame_in};

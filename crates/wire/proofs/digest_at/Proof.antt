@@ -9,8 +9,8 @@ returns : tie.Need-returns
 returns c =
     let call = c.before in
     let a = call.before.before.before.args in
-    rw call.put-part.ensures (patch-array 32 a.at a.s.now (omega arith))
+    rw call.put_part.ensures (patch-array 32 a.at a.s.now (omega arith))
 
-pub digest-at-spec : {M : Type 1} → statement M
-digest-at-spec =
+pub digest_at_spec : {M : Type 1} → statement M
+digest_at_spec =
     tie.close (tie.spec (λ c. search rules) (λ c κs. search rules) returns)

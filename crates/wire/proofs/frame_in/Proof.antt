@@ -9,27 +9,27 @@ use Rattle.wire.specs.Frame.{frame_in}
 use Rattle.wire.proofs.frame_in.Statement.{statement}
 use Rattle.wire.proofs.frame_in.Tie as tie
 
-returns : tie.Need-returns
+returns : tie.Need-returns-then-s-lt-FRAME
 unfolding frame_in ◌and◌
-returns c = rw (lt-leb 6 (length c.before.before.args.s.now) c.if1.true)
+returns c = rw (lt-leb 6 (length c.before.before.args.s.now) c.if-s-lt-FRAME.true)
 
-returns-2 : tie.Need-returns-2
+returns-2 : tie.Need-returns-then-length-s
 unfolding frame_in ◌and◌
 returns-2 c =
     let s = c.before.before.before.before.before.args.s.now in
-    let read = c.before.before.u32-at.ensures in
-    let enough = le-leb 6 (length s) c.before.before.before.if1.false in
-    let length-field = eq-eqb (field 0 4 s) (length s) (sym read ∙ c.before.if2.true) in
-    rw (enough, length-field, c.u16-at.ensures, read)
+    let read = c.before.before.u32_at-length.ensures in
+    let enough = le-leb 6 (length s) c.before.before.before.if-s-lt-FRAME.false in
+    let length-field = eq-eqb (field 0 4 s) (length s) (sym read ∙ c.before.if-length-s.true) in
+    rw (enough, length-field, c.u16_at.ensures, read)
 
-returns-3 : tie.Need-returns-3
+returns-3 : tie.Need-returns-else-length-s
 unfolding frame_in ◌and◌
 returns-3 c =
     let s = c.before.before.before.before.args.s.now in
-    let enough = le-leb 6 (length s) c.before.before.if1.false in
-    let length-field = ne_eqb (field 0 4 s) (length s) (λ e. c.if2.false (c.before.u32-at.ensures ∙ e)) in
+    let enough = le-leb 6 (length s) c.before.before.if-s-lt-FRAME.false in
+    let length-field = ne_eqb (field 0 4 s) (length s) (λ e. c.if-length-s.false (c.before.u32_at-length.ensures ∙ e)) in
     rw (enough, length-field)
 
-pub frame-in-spec : {M : Type 1} → statement M
-frame-in-spec =
+pub frame_in_spec : {M : Type 1} → statement M
+frame_in_spec =
     tie.close (tie.spec returns (λ c κs. search rules) (λ c. search rules) (λ c κs. search rules) returns-2 returns-3)

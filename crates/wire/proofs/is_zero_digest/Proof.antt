@@ -9,10 +9,10 @@ use Rattle.wire.proofs.is_zero_digest.Tie as tie
 
 returns : tie.Need-returns
 returns c =
-    let d = c.before.before.args.t1 in
+    let d = c.before.before.args.d in
     let full : length d ≡ 32 = search rules in
-    c.are-zero.ensures ∙ ap are_zero (part-all 32 d full)
+    c.are_zero.ensures ∙ ap are_zero (part-all 32 d full)
 
-pub is-zero-digest-spec : {M : Type 1} → statement M
-is-zero-digest-spec =
+pub is_zero_digest_spec : {M : Type 1} → statement M
+is_zero_digest_spec =
     tie.close (tie.spec (λ c. search rules) (λ c κs. search rules) returns)

@@ -8,8 +8,8 @@ returns : tie.Need-returns
 returns c =
     let first = c.before.before.before.before.before.before in
     let a = first.before.before.before.args in
-    patch-two 0 4 2 a.size a.kind a.s.now first.put-u32.ensures c.before.before.put-u16.ensures
+    patch-two 0 4 2 a.size a.kind a.s.now first.put_u32.ensures c.before.before.put_u16.ensures
 
-pub put-frame-spec : {M : Type 1} → statement M
-put-frame-spec =
+pub put_frame_spec : {M : Type 1} → statement M
+put_frame_spec =
     tie.close (tie.spec (λ c κs. search rules) (λ c κs. search rules) (λ c. search rules) returns)

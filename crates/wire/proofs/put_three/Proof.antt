@@ -11,11 +11,11 @@ returns c =
     let third = c.before.before in
     let second = third.before.before.before.before in
     let first = second.before.before.before.before in
-    rw (third.put-u643.ensures, second.put-u642.ensures, first.put-u64.ensures)
+    rw (third.put_u64-3.ensures, second.put_u64-2.ensures, first.put_u64.ensures)
     (simp (patch-append, length-append, length-little))
 
-pub put-three-spec : {M : Type 1} → statement M
-put-three-spec =
+pub put_three_spec : {M : Type 1} → statement M
+put_three_spec =
     tie.close
     (tie.spec
     (λ c κs. search rules) (λ c. search rules) (λ c κs. search rules) (λ c. search rules) (λ c κs. search rules)

@@ -8,10 +8,10 @@ returns : tie.Need-returns
 returns c =
     let first = c.before.before.before.before.before.before in
     let a = first.before.before.before.args in
-    patch-halves 2 a.at a.v a.s.now first.put-u16.ensures c.before.before.put-u162.ensures
+    patch-halves 2 a.at a.v a.s.now first.put_u16.ensures c.before.before.put_u16-2.ensures
 
-pub put-u32-spec : {M : Type 1} → statement M
-put-u32-spec =
+pub put_u32_spec : {M : Type 1} → statement M
+put_u32_spec =
     tie.close
     (tie.spec
     (λ c. search rules) (λ c κs. search rules) (λ c. search rules) (λ c. search rules) (λ c κs. search rules)

@@ -13,6 +13,6 @@ returns c =
     let e : c.args.v % 256 ≡ c.args.v = omega arith in
     rw e
 
-pub put-u8-spec : {M : Type 1} → statement M
-put-u8-spec =
+pub put_u8_spec : {M : Type 1} → statement M
+put_u8_spec =
     tie.close (tie.spec (λ c. search rules) (λ c. search rules) returns)

@@ -8,36 +8,36 @@ use Rattle.wire.proofs.PatchLaws.{length-patch, patch-more}
 use Rattle.wire.proofs.put_zeros.Statement.{statement}
 use Rattle.wire.proofs.put_zeros.Tie as tie
 
-abbrev invariant-loop : tie.invariant-loop
+abbrev invariant-loop : tie.invariant-loop-i
 invariant-loop s₀ from size i₀ s i = (i ≤ size) × (s ≡ patch from (replicate i 0) s₀)
 
-abbrev decreases-loop : tie.decreases-loop
+abbrev decreases-loop : tie.decreases-loop-i
 decreases-loop s₀ from size i₀ s i = size - i
 
-loop-holds : tie.Need-loop-init invariant-loop decreases-loop
+loop-holds : tie.Need-loop-i-init invariant-loop decreases-loop
 unfolding patch
 loop-holds c = (omega arith, refl)
 
-slice-write-s : tie.Need-slice-write-s invariant-loop decreases-loop
-slice-write-s c = rw c.before.loop.invariant.1 (simp length-patch (omega arith))
+slice-write-s : tie.Need-bounds-s-from invariant-loop decreases-loop
+slice-write-s c = rw c.before.loop-i.invariant.1 (simp length-patch (omega arith))
 
-loop-again : tie.Need-loop-preserved invariant-loop decreases-loop
+loop-again : tie.Need-loop-i-preserved invariant-loop decreases-loop
 loop-again c =
     let a = c.before.before.args in
-    let v = c.before.loop in
+    let v = c.before.loop-i in
     let more = patch-more a.from v.i 0 (replicate v.i 0) a.s.now (length-replicate v.i 0) in
     (omega arith, rw v.invariant.1 (more ∙ rw (replicate-append-replicate {A = ℕ} v.i 1 0)))
 
-same_length : tie.Need-same-length invariant-loop decreases-loop
-same_length c = rw c.before.loop.invariant.1 (length-patch _ _ _)
+same_length : tie.Need-shape_of-s invariant-loop decreases-loop
+same_length c = rw c.before.loop-i.invariant.1 (length-patch _ _ _)
 
 returns : tie.Need-returns invariant-loop decreases-loop
 returns c =
-    let end : c.before.loop.i ≡ c.before.before.args.size = omega arith in
-    c.before.loop.invariant.1 ∙ rw end
+    let end : c.before.loop-i.i ≡ c.before.before.args.size = omega arith in
+    c.before.loop-i.invariant.1 ∙ rw end
 
-pub put-zeros-spec : {M : Type 1} → statement M
-put-zeros-spec =
+pub put_zeros_spec : {M : Type 1} → statement M
+put_zeros_spec =
     tie.close
     (tie.spec
     invariant-loop decreases-loop loop-holds (λ c. omega arith) slice-write-s (λ c. omega arith) (λ c. omega arith) loop-again

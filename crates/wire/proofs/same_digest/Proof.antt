@@ -12,14 +12,14 @@ unfolding ◌and◌
 returns c =
     let first = c.before.before.before in
     let o = first.before.before.before in
-    let xs = o.args.t1 in
-    let ys = o.args.t2 in
+    let xs = o.args.a in
+    let ys = o.args.b in
     let l : length xs ≡ 32 = search rules in
     let m : length ys ≡ 32 = search rules in
-    rw (c.same-two2.ensures, first.same-two.ensures) (same-arrays 16 16 xs ys l m)
+    rw (c.same_two-2.ensures, first.same_two.ensures) (same-arrays 16 16 xs ys l m)
 
-pub same-digest-spec : {M : Type 1} → statement M
-same-digest-spec =
+pub same_digest_spec : {M : Type 1} → statement M
+same_digest_spec =
     tie.close
     (tie.spec
     (λ c. search rules) (λ c. search rules) (λ c κs. search rules) (λ c. search rules) (λ c. search rules)

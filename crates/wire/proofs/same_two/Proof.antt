@@ -13,9 +13,9 @@ returns c =
     rw (
       same-split 8 8 a.at a.a.now a.b.now (omega arith) (omega arith),
       ← c.before.same_word.ensures,
-      ← c.same-word2.ensures,
+      ← c.same_word-2.ensures,
     )
 
-pub same-two-spec : {M : Type 1} → statement M
-same-two-spec =
+pub same_two_spec : {M : Type 1} → statement M
+same_two_spec =
     tie.close (tie.spec (λ c κs. search rules) (λ c. search rules) (λ c κs. search rules) returns)

@@ -11,14 +11,14 @@ returns c =
     let o = known.before.before in
     let xs = o.args.a.now in
     let ys = o.args.b.now in
-    let p = bytes-array xs known.before.shared-slice-known.given in
-    let q = bytes-array ys known.shared-slice-known2.given in
+    let p = bytes-array xs known.before.shared_slice_known-1.given in
+    let q = bytes-array ys known.shared_slice_known-2-1.given in
     rw (
       same_numbers 8 o.args.at xs ys p q (omega arith) (omega arith),
-      ← c.before.u64-at.ensures,
-      ← c.u64-at2.ensures,
+      ← c.before.u64_at.ensures,
+      ← c.u64_at-2.ensures,
     )
 
-pub same-word-spec : {M : Type 1} → statement M
-same-word-spec =
+pub same_word_spec : {M : Type 1} → statement M
+same_word_spec =
     tie.close (tie.spec (λ c κs. search rules) (λ c κs. search rules) returns)

@@ -8,10 +8,10 @@ use Rattle.wire.proofs.u32_at.Tie as tie
 returns : tie.Need-returns
 returns c =
     let a = c.before.before.before.args in
-    field-halves 2 a.at a.s.now (omega arith) c.before.u16-at.ensures c.u16-at2.ensures
+    field-halves 2 a.at a.s.now (omega arith) c.before.u16_at.ensures c.u16_at-2.ensures
 
-pub u32-at-spec : {M : Type 1} → statement M
-u32-at-spec =
+pub u32_at_spec : {M : Type 1} → statement M
+u32_at_spec =
     tie.close
     (tie.spec
     (λ c κs. search rules) (λ c. search rules) (λ c. search rules) (λ c κs. search rules) (λ c. search rules)

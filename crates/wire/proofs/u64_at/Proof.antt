@@ -8,10 +8,10 @@ use Rattle.wire.proofs.u64_at.Tie as tie
 returns : tie.Need-returns
 returns c =
     let a = c.before.before.before.args in
-    field-halves 4 a.at a.s.now (omega arith) c.before.u32-at.ensures c.u32-at2.ensures
+    field-halves 4 a.at a.s.now (omega arith) c.before.u32_at.ensures c.u32_at-2.ensures
 
-pub u64-at-spec : {M : Type 1} → statement M
-u64-at-spec =
+pub u64_at_spec : {M : Type 1} → statement M
+u64_at_spec =
     tie.close
     (tie.spec
     (λ c κs. search rules) (λ c. search rules) (λ c. search rules) (λ c κs. search rules) (λ c. search rules)

@@ -9,6 +9,6 @@ use Rattle.wire.proofs.u8_at.Tie as tie
 returns : tie.Need-returns
 returns c = sym (field-one c.before.args.at c.before.args.s.now (omega arith))
 
-pub u8-at-spec : {M : Type 1} → statement M
-u8-at-spec =
+pub u8_at_spec : {M : Type 1} → statement M
+u8_at_spec =
     tie.close (tie.spec (λ c. search rules) returns)
