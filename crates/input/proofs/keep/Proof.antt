@@ -33,9 +33,6 @@ inside c =
     let z = c.before.before.size_between-size in
     omega (arith, z.ensures, length-part-most a.from (a.to - a.from) a.piece.now)
 
-slice-read-piece : tie.Need-bounds-piece-from invariant-loop decreases-loop
-slice-read-piece c = rw c.before.before.loop-i.invariant.1 (simp length-patch (inside c.before))
-
 slice-write-piece : tie.Need-bounds-piece-i invariant-loop decreases-loop
 slice-write-piece c = rw c.before.before.loop-i.invariant.1 (simp length-patch (omega (arith, inside c.before)))
 
@@ -76,6 +73,6 @@ pub keep_spec : {M : Type 1} → statement M
 keep_spec =
     tie.close
     (tie.spec
-    invariant-loop decreases-loop (λ c κs. search rules) loop-holds (λ c. omega (arith, inside c)) slice-read-piece
-    slice-write-piece (λ c. omega (arith, inside c.before)) (λ c. omega arith)
+    invariant-loop decreases-loop (λ c κs. search rules) loop-holds (λ c. omega (arith, inside c))
+    (λ c. rw c.loop-i.invariant.1 (simp length-patch (omega (arith, inside c.before)))) slice-write-piece (λ c. omega (arith, inside c.before)) (λ c. omega arith)
     loop-again same_length returns)

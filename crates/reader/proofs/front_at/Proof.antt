@@ -67,19 +67,17 @@ returns-4 c =
     let n = size c.before.before in
     rw (read c.before.before, le-leb least_record n c.if-size-lt-LEAST.false, lt-leb n greatest_record c.if-size-gt-GREATEST.true)
 
-returns-5 : tie.Need-returns-then-left-size
-returns-5 c =
-    let u = c.before.before.before in
-    rw (read u, is-in c.if-size-lt-LEAST.false c.if-size-gt-GREATEST.false, lt-ltb (left u) (size u) c.if-left-size.true)
-
 returns-6 : tie.Need-returns
 returns-6 c =
     let u = c.before.before.before in
-    rw (read u, is-in c.if-size-lt-LEAST.false c.if-size-gt-GREATEST.false, le-ltb (left u) (size u) c.if-left-size.false)
+    rw (read u, is-in c.if-size-lt-LEAST.false c.if-size-gt-GREATEST.false, le-ltb (left u) (size u) (omega arith))
 
 pub front_at_spec : {M : Type 1} → statement M
 front_at_spec =
     tie.close
     (tie.spec
-    returns (λ c. search rules) returns-2 (λ c κs. search rules) (λ c. search rules) returns-3 returns-4 returns-5
+    returns (λ c. search rules) returns-2 (λ c κs. search rules) (λ c. search rules) returns-3 returns-4
+    (λ c.
+      let u = c.before.before.before in
+      rw (read u, is-in c.if-size-lt-LEAST.false c.if-size-gt-GREATEST.false, lt-ltb (left u) (size u) (omega arith)))
     returns-6)
