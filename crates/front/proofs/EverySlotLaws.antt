@@ -36,13 +36,13 @@ module _ (t : List ℕ → List (List ℕ) → Bool) (start n : ℕ) (bs : List 
 
   module _ (i : ℕ) {all : Bool} (left : all ≡ every_from i) where
     module _ {r : Bool} (more : i < n) (tested : r ≡ t (slot_at start bs i) (slots_from start n bs (i + 1))) where
-      pub fails : not r ≡ true → false ≡ all
+      pub fails : r ≡ false → false ≡ all
       unfolding every_slot ◌and◌
-      fails h = let f = sym tested ∙ not-true r h in rw (left, pieces-turn slot_size start n bs i more, f)
+      fails h = let f = sym tested ∙ h in rw (left, pieces-turn slot_size start n bs i more, f)
 
-      pub passes : not r ≡ false → all ≡ every_from (i + 1)
+      pub passes : r ≡ true → all ≡ every_from (i + 1)
       unfolding every_slot ◌and◌
-      passes h = let f = sym tested ∙ not-false r h in rw (left, pieces-turn slot_size start n bs i more, f)
+      passes h = let f = sym tested ∙ h in rw (left, pieces-turn slot_size start n bs i more, f)
 
     pub passed : n ≤ i → true ≡ all
     unfolding every_slot

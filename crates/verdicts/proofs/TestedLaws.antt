@@ -1,20 +1,20 @@
 -- What the outcome of a test in code says of the test in the definitions. Assumes nothing.
 use mathlib.Core.Path.{◌≡◌, sym, ◌∙◌}
-use mathlib.Core.Bool.{Bool, true, false, not}
+use mathlib.Core.Bool.{Bool, true, false}
 use Prim.Native.Nat.{ℕ}
 use lib.Dec.{eqb}
-use borrow.Author.Tests.{eq-eqb, ne_eqb, not-true, not-false}
+use borrow.Author.Tests.{eq-eqb, ne_eqb}
 
 -- of a test that came to r
 module _ {r t : Bool} (tested : r ≡ t) where
   pub came : {b : Bool} → r ≡ b → t ≡ b
   came h = sym tested ∙ h
 
-  pub holds : not r ≡ false → t ≡ true
-  holds h = sym tested ∙ not-false r h
+  pub holds : r ≡ true → t ≡ true
+  holds h = sym tested ∙ h
 
-  pub fails : not r ≡ true → t ≡ false
-  fails h = sym tested ∙ not-true r h
+  pub fails : r ≡ false → t ≡ false
+  fails h = sym tested ∙ h
 
 -- of a number that came to m
 module _ {m n : ℕ} (number : m ≡ n) where

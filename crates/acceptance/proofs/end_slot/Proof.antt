@@ -12,16 +12,16 @@ use Rattle.acceptance.proofs.end_slot.Tie as tie
 abbrev slot_of : tie.Start → EndAction → Found
 slot_of o x = slot_by x o.args.at (store_in o.args.store.now).channels
 
-returns-2 : tie.Need-returns-2
-returns-2 c = ap (slot_of c.before.before.before) (sym c.enum-told2.given.1)
+returns-2 : tie.Need-returns-in-Puts
+returns-2 c = ap (slot_of c.before.before) (sym c.in-Puts.is)
 
-returns-3 : tie.Need-returns-3
+returns-3 : tie.Need-returns-in-Adds
 returns-3 c =
     let told = c.before in
-    c.find-free-channel.ensures ∙ ap (slot_of told.before.before.before) (sym told.enum-told3.given.1)
+    c.find_free_channel.ensures ∙ ap (slot_of told.before.before) (sym told.in-Adds.is)
 
-pub end-slot-spec : {M : Type 1} → statement M
-end-slot-spec =
+pub end_slot_spec : {M : Type 1} → statement M
+end_slot_spec =
     tie.close
     (tie.spec
     (λ c. search rules) (λ c. search rules) (λ c. search rules) (λ c κs. search rules) (λ c. search rules) returns-2

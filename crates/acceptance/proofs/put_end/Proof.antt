@@ -13,25 +13,25 @@ use Rattle.acceptance.proofs.put_end.Tie as tie
 abbrev left_by : tie.Start → Found → List ℕ
 left_by o x = bytes_of (with_end (store_in o.args.store.now) x o.args.c)
 
-returns : tie.Need-returns
+returns : tie.Need-returns-in_default
 returns c =
-    let o = c.before.before.before in
-    sym (ap (left_by o) c.enum_told.given.1 ∙ o.requires.0.laid)
+    let o = c.before.before in
+    sym (ap (left_by o) c.in_default.is ∙ o.requires.0.laid)
 
-set-channel-requires : tie.Need-set-channel-requires
+set-channel-requires : tie.Need-set_channel-requires
 set-channel-requires c κs =
-    let k = c.before.before in
-    let o = k.before.before.before in
-    (o.requires.0, o.requires.1 k.at.given.0.0 k.at.given.1)
+    let k = c in
+    let o = c in
+    (o.requires.0, o.requires.1 k.in-At.j k.in-At.is)
 
-returns-2 : tie.Need-returns-2
+returns-2 : tie.Need-returns
 returns-2 c =
     let set = c.before.before in
-    let k = set.before.before.before in
-    set.set-channel.ensures ∙ ap (left_by k.before.before.before) (sym k.at.given.1)
+    let k = set.before.before in
+    set.set_channel.ensures ∙ ap (left_by k.before.before) (sym k.in-At.is)
 
-pub put-end-spec : {M : Type 1} → statement M
-put-end-spec =
+pub put_end_spec : {M : Type 1} → statement M
+put_end_spec =
     tie.close
     (tie.spec
     (λ c. search rules) (λ c. search rules) returns set-channel-requires (λ c. search rules) returns-2)

@@ -11,60 +11,60 @@ use Rattle.verdicts.proofs.TestedLaws.{holds, fails}
 use Rattle.answer.proofs.answer.Statement.{statement}
 use Rattle.answer.proofs.answer.Tie as tie
 
-returns : tie.Need-returns
+returns : tie.Need-returns-then-room-lt-OUTPUT
 unfolding table first_given
-returns c = rw (c.before.before.before.requires, lt-ltb _ _ c.if1.true)
+returns c = rw (c.requires, lt-ltb _ _ c.if-room-lt-OUTPUT.true)
 
-returns-2 : tie.Need-returns-2
+returns-2 : tie.Need-returns-in_default
 unfolding table first_given
 returns-2 c =
-    let e1 = c.before.before.before in
-    let o = e1.before.before.before in
+    let e1 = c in
+    let o = c in
     rw (
       o.requires,
-      le-ltb _ _ e1.if1.false,
-      malformed o.args.datagram.now (sym c.before.before.frame-in.ensures ∙ c.enum_told.given.1),
+      le-ltb _ _ e1.if-room-lt-OUTPUT.false,
+      malformed o.args.datagram.now (sym c.frame_in.ensures ∙ c.in_default.is),
     )
 
-is-sound-requires : tie.Need-is-sound-requires
-is-sound-requires c κs = sym c.before.before.before.frame-in.ensures ∙ c.before.kind.given.1
+is-sound-requires : tie.Need-is_sound-requires
+is-sound-requires c κs = sym c.frame_in.ensures ∙ c.in-Whole.is
 
-returns-3 : tie.Need-returns-3
+returns-3 : tie.Need-returns-then-not-is_sound
 unfolding table first_given
 returns-3 c =
-    let e1 = c.before.before.before.before.before.before in
+    let e1 = c in
     rw (
-      e1.before.before.before.requires,
-      le-ltb _ _ e1.if1.false,
-      fails c.before.is-sound.ensures c.if2.true,
+      e1.requires,
+      le-ltb _ _ e1.if-room-lt-OUTPUT.false,
+      fails c.is_sound.ensures c.if-not-is_sound.true,
     )
 
-answer-sound-requires : tie.Need-answer-sound-requires
+answer-sound-requires : tie.Need-answer_sound-requires
 answer-sound-requires c κs =
-    let e1 = c.before.before.before.before.before.before in
-    (e1.before.before.before.requires, holds c.before.is-sound.ensures c.if2.false)
+    let e1 = c in
+    (e1.requires, holds c.is_sound.ensures c.if-not-is_sound.false)
 
 -- the answer is that of the lines behind the third
-past : (e : tie.Else2) →
-    let a = e.before.before.before.before.before.before.before.before.before.args in
+past : (e : tie.Else-not-is_sound) →
+    let a = e.args in
     let s = store_in a.store.now in
     let d = datagram_in a.datagram.now in
     first_given d.kind (refusals a.store.now a.room a.datagram.now) ≡
     number_behind 3 d.kind s d (or_none (end_for s d))
 unfolding number_behind behind table first_given
 past e =
-    let e1 = e.before.before.before.before.before.before in
+    let e1 = e in
     rw (
-      e1.before.before.before.requires,
-      le-ltb _ _ e1.if1.false,
-      holds e.before.is-sound.ensures e.if2.false,
+      e1.requires,
+      le-ltb _ _ e1.if-room-lt-OUTPUT.false,
+      holds e.is_sound.ensures e.if-not-is_sound.false,
     )
 
-returns-4 : tie.Need-returns-4
-returns-4 c = c.answer-sound.ensures ∙ sym (past c.before)
+returns-4 : tie.Need-returns
+returns-4 c = c.answer_sound.ensures ∙ sym (past c.before)
 
-pub answer-spec : {M : Type 1} → statement M
-answer-spec =
+pub answer_spec : {M : Type 1} → statement M
+answer_spec =
     tie.close
     (tie.spec
     returns (λ c κs. search rules) (λ c. search rules) (λ c. search rules) returns-2

@@ -36,75 +36,75 @@ module _ (o : tie.Start) where
 
   -- the sizes of a fit store and of a sound datagram
   sized : Sized (length bytes)
-  sized = fits-size (length bytes) (fit-exact bytes o.pre.0).size
+  sized = fits-size (length bytes) (fit-exact bytes o.requires.0).size
 
   sound : Sound sent
-  sound = sound-is sent o.pre.1
+  sound = sound-is sent o.requires.1
 
   body : body_from ≤ length sent
   body = omega (arith, sound.size)
 
 -- THE CLOCK
-abbrev start : tie.After-goes-back → tie.Start
+abbrev start : tie.After-goes_back → tie.Start
 start k = k.before.before.before.before.before.before
 
-clock : (k : tie.After-goes-back) →
-    k.goes_Back.result ≡ goes_back (store_in (bytes (start k))) (context_in (sent (start k)))
+clock : (k : tie.After-goes_back) →
+    k.goes_back.result ≡ goes_back (store_in (bytes (start k))) (context_in (sent (start k)))
 unfolding store_in
 clock k =
-    let height = k.before.before in
-    rw (← height.before.context-in.ensures)
-    (k.goes_Back.ensures (store_in (bytes (start k))) (ap own_height (sym height.u64-at.ensures))
-    (ap own_time (sym k.before.u64-at2.ensures)))
+    let height = k in
+    rw (← height.context_in-x.ensures)
+    (k.goes_back.ensures (store_in (bytes (start k))) (ap own_height (sym height.u64_at.ensures))
+    (ap own_time (sym k.u64_at-2.ensures)))
 
-context-in-requires : tie.Need-context-in-requires
+context-in-requires : tie.Need-context_in-x-requires
 context-in-requires c κs = body c.before.before
 
-u64-at-requires : tie.Need-u64-at-requires
+u64-at-requires : tie.Need-u64_at-requires
 u64-at-requires c κs = omega (arith, (sized c.before.before.before).whole)
 
-u64-at-requires-2 : tie.Need-u64-at-requires-2
+u64-at-requires-2 : tie.Need-u64_at-requires-2
 u64-at-requires-2 c κs = omega (arith, (sized c.before.before.before.before).whole)
 
-returns : tie.Need-returns
+returns : tie.Need-returns-then-goes_back
 unfolding number_behind behind table first_given datagram_in
-returns c = rw (came (clock c.before) c.if1.true)
+returns c = rw (came (clock c.before) c.if-goes_back.true)
 
-kind-in-requires : tie.Need-kind-in-requires
+kind-in-requires : tie.Need-kind_in-kind-requires
 kind-in-requires c κs = omega (arith, body (start c.before))
 
-sub-count : tie.Need-overflow-sub-count
+sub-count : tie.Need-overflow_sub-count
 sub-count c = omega (arith, (sized (start c.before.before)).whole)
 
 -- THE KIND
-abbrev origin : tie.After-kind-in → tie.Start
+abbrev origin : tie.After-kind_in-kind → tie.Start
 origin k = start k.before.before
 
-known : (k : tie.After-kind-in) →
+known : (k : tie.After-kind_in-kind) →
     let o = origin k in
-    Known (bytes o) ((length (bytes o) - records_from) / slot_size) (sent o) k.kind-in.result
-    k.before.before.before.before.before.context-in.result
+    Known (bytes o) ((length (bytes o) - records_from) / slot_size) (sent o) k.kind_in-kind.result
+    k.context_in-x.result
 unfolding room_in
 known k =
     let o = origin k in
     record {
-      records = fit-in-order (bytes o) o.pre.0;
-      known = rw k.kind-in.ensures (sound o).known;
-      long = rw k.kind-in.ensures (sound o).size;
-      context = sym k.before.before.before.before.before.context-in.ensures;
+      records = fit-in-order (bytes o) o.requires.0;
+      known = rw k.kind_in-kind.ensures (sound o).known;
+      long = rw k.kind_in-kind.ensures (sound o).size;
+      context = sym k.context_in-x.ensures;
     }
 
 -- the answer is that of the lines behind the fourth, by the kind that is read
-past-4 : (k : tie.After-kind-in) (c : Channel) →
+past-4 : (k : tie.After-kind_in-kind) (c : Channel) →
     let s = store_in (bytes (origin k)) in
     let b = sent (origin k) in
-    let n = k.kind-in.result in
+    let n = k.kind_in-kind.result in
     number_behind 3 (datagram_in b).kind s (datagram_in b) c ≡ number_behind 4 (kind_of n) s (datagram_of (kind_of n) b) c
 unfolding number_behind behind table first_given datagram_in
-past-4 k c = rw (k.kind-in.ensures, came (clock k.before.before) k.before.if1.false)
+past-4 k c = rw (k.kind_in-kind.ensures, came (clock k.before.before) k.if-goes_back.false)
 
 -- the end that it is about
-abbrev named : tie.After-kind-in → Channel
+abbrev named : tie.After-kind_in-kind → Channel
 named k = or_none (end_for (store_in (bytes (origin k))) (datagram_in (sent (origin k))))
 
 -- an end is made by the kinds 6 and 7
@@ -121,31 +121,31 @@ unfolding number_behind behind table first_given only ◌or◌ with_number
 making-number n s d c e h =
     cases (eqb n 6) (λ i. rw (eqb-true n 6 i)) (λ i. let j : eqb n 7 ≡ true = rw i at h in rw (eqb-true n 7 j))
 
-answer-by-kind-requires : tie.Need-answer-by-kind-requires
+answer-by-kind-requires : tie.Need-answer_by_kind-requires
 answer-by-kind-requires c κs = known c.before.before
 
-returns-2 : tie.Need-returns-2
+returns-2 : tie.Need-returns-then-kind
 unfolding ◌or◌
 returns-2 c =
     let k = c.before.before.before in
-    let n = k.kind-in.result in
-    c.answer-by-kind.ensures ∙
+    let n = k.kind_in-kind.result in
+    c.answer_by_kind.ensures ∙
     sym (past-4 k (named k) ∙
     making-number n (store_in (bytes (origin k))) (datagram_of (kind_of n) (sent (origin k))) (named k)
-    c.before.no-channel.result c.before.before.if2.true)
+    c.no_channel.result c.if-kind.true)
 
-answer-on-requires : tie.Need-answer-on-requires
+answer-on-requires : tie.Need-answer_on-requires
 unfolding ◌or◌
-answer-on-requires c κs = (known c.before, making-numbers c.before.kind-in.result ∙ c.if2.false)
+answer-on-requires c κs = (known c.before, making-numbers c.kind_in-kind.result ∙ c.if-kind.false)
 
-returns-3 : tie.Need-returns-3
+returns-3 : tie.Need-returns
 unfolding datagram_in
 returns-3 c =
     let k = c.before.before in
-    c.answer-on.ensures ∙ sym (past-4 k (named k) ∙ rw k.kind-in.ensures)
+    c.answer_on.ensures ∙ sym (past-4 k (named k) ∙ rw k.kind_in-kind.ensures)
 
-pub answer-sound-spec : {M : Type 1} → statement M
-answer-sound-spec =
+pub answer_sound_spec : {M : Type 1} → statement M
+answer_sound_spec =
     tie.close
     (tie.spec
     context-in-requires

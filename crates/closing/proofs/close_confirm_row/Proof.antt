@@ -11,7 +11,7 @@ use Rattle.closing.proofs.close_confirm_row.Tie as tie
 returns : tie.Need-returns
 unfolding number_behind behind table first_given only ◌or◌ moving_lines
 returns c =
-    λ s d x v. rw (x, v) (rw c.before.needed-peer.ensures at c.moving-row.ensures)
+    λ s d x v. rw (x, v) (rw c.needed_peer.ensures at c.moving_row.ensures)
 
-pub close-confirm-row-spec : {M : Type 1} → statement M
-close-confirm-row-spec = tie.close (tie.spec (λ c κs. search rules) (λ c κs. search rules) returns)
+pub close_confirm_row_spec : {M : Type 1} → statement M
+close_confirm_row_spec = tie.close (tie.spec (λ c κs. search rules) (λ c κs. search rules) returns)

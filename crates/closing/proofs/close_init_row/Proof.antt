@@ -9,21 +9,21 @@ use Rattle.verdicts.proofs.TestedLaws.{came}
 use Rattle.closing.proofs.close_init_row.Statement.{statement}
 use Rattle.closing.proofs.close_init_row.Tie as tie
 
-returns : tie.Need-returns
+returns : tie.Need-returns-then-lacks_connection
 unfolding number_behind behind table first_given only ◌or◌
-returns c = λ s d x. rw (x, came c.before.lacks-connection.ensures c.if1.true)
+returns c = λ s d x. rw (x, came c.lacks_connection.ensures c.if-lacks_connection.true)
 
-returns-2 : tie.Need-returns-2
+returns-2 : tie.Need-returns-then-c-ne-OPEN
 unfolding number_behind behind table first_given only ◌or◌
 returns-2 c =
-    let e1 = c.before.before in
-    λ s d x. rw (x, came e1.before.lacks-connection.ensures e1.if1.false, ne_eqb _ _ c.if2.true)
+    let e1 = c in
+    λ s d x. rw (x, came e1.lacks_connection.ensures e1.if-lacks_connection.false, ne_eqb _ _ c.if-c-ne-OPEN.true)
 
-returns-3 : tie.Need-returns-3
+returns-3 : tie.Need-returns
 unfolding number_behind behind table first_given only ◌or◌
 returns-3 c =
-    let e1 = c.before.before in
-    λ s d x. rw (x, came e1.before.lacks-connection.ensures e1.if1.false, eq-eqb _ _ c.if2.false)
+    let e1 = c in
+    λ s d x. rw (x, came e1.lacks_connection.ensures e1.if-lacks_connection.false, eq-eqb _ _ c.if-c-ne-OPEN.false)
 
-pub close-init-row-spec : {M : Type 1} → statement M
-close-init-row-spec = tie.close (tie.spec (λ c κs. search rules) returns returns-2 returns-3)
+pub close_init_row_spec : {M : Type 1} → statement M
+close_init_row_spec = tie.close (tie.spec (λ c κs. search rules) returns returns-2 returns-3)

@@ -31,54 +31,54 @@ Left n o =
     number_behind 13 (some time_out_on_close) s d o.args.c ≡ number_behind n (some time_out_on_close) s d o.args.c
 
 -- WHAT LINE 14 GIVES of the end verdict
-end-number : (k : tie.After-end-difference) →
-    let a = k.before.before.args in
-    k.end-difference.result ≡ first_end_difference a.v (needed_peer state_closed a.c)
+end-number : (k : tie.After-end_difference-end) →
+    let a = k.args in
+    k.end_difference-end.result ≡ first_end_difference a.v (needed_peer state_closed a.c)
 end-number k =
-    k.end-difference.ensures ∙
-    ap (first_end_difference k.before.before.args.v) k.before.needed-peer.ensures
+    k.end_difference-end.ensures ∙
+    ap (first_end_difference k.args.v) k.needed_peer-needed.ensures
 
-returns : tie.Need-returns
+returns : tie.Need-returns-then-end-ne0
 unfolding number_behind behind table first_given only ◌or◌
 returns c =
     let n = end-number c.before in
-    λ s d p v w. rw (v, is-not-zero n c.if1.true) n
+    λ s d p v w. rw (v, is-not-zero n c.if-end-ne0.true) n
 
-returns-2 : tie.Need-returns-2
+returns-2 : tie.Need-returns-then-absence-ne0
 unfolding number_behind behind table first_given only ◌or◌
 returns-2 c =
     let e1 = c.before.before in
-    let n = c.before.absence-difference.ensures in
-    λ s d p v w. rw (p, v, w, is_zero (end-number e1.before) e1.if1.false, is-not-zero n c.if2.true) n
+    let n = c.absence_difference-absence.ensures in
+    λ s d p v w. rw (p, v, w, is_zero (end-number e1.before) e1.if-end-ne0.false, is-not-zero n c.if-absence-ne0.true) n
 
-returns-3 : tie.Need-returns-3
+returns-3 : tie.Need-returns-then-block-ne0
 unfolding number_behind behind table first_given only ◌or◌
 returns-3 c =
-    let e2 = c.before.before in
+    let e2 = c.before.before.before.before in
     let e1 = e2.before.before in
-    let n = c.before.block-difference.ensures in
+    let n = c.block_difference-block.ensures in
     λ s d p v w. rw (
       p,
       v,
       w,
-      is_zero (end-number e1.before) e1.if1.false,
-      is_zero e2.before.absence-difference.ensures e2.if2.false,
-      is-not-zero n c.if3.true,
+      is_zero (end-number e1.before) e1.if-end-ne0.false,
+      is_zero e2.absence_difference-absence.ensures e2.if-absence-ne0.false,
+      is-not-zero n c.if-block-ne0.true,
     ) n
 
-past-14 : (e : tie.Else3) →
-    Left 14 e.before.before.before.before.before.before.before
+past-14 : (e : tie.Else-block-ne0) →
+    Left 14 e.before.before.before.before.before.before.before.before.before
 unfolding number_behind behind table first_given only ◌or◌
 past-14 e s d h =
-    let e2 = e.before.before in
+    let e2 = e.before.before.before.before in
     let e1 = e2.before.before in
     rw (
       h.0,
       h.1,
       h.2,
-      is_zero (end-number e1.before) e1.if1.false,
-      is_zero e2.before.absence-difference.ensures e2.if2.false,
-      is_zero e.before.block-difference.ensures e.if3.false,
+      is_zero (end-number e1.before) e1.if-end-ne0.false,
+      is_zero e2.absence_difference-absence.ensures e2.if-absence-ne0.false,
+      is_zero e.block_difference-block.ensures e.if-block-ne0.false,
     )
 
 -- THE LINES BEHIND: those of a time-out, and then the last
@@ -102,41 +102,40 @@ as-timed-out s d c =
     by_last (claims_taken d.verdict d.packet.sequence) (not (times_out_in_order c d.packet.sequence))
     (is_timeout_at_top c) (number_behind 19 (some time_out_on_close) s d c)
 
-returns-4 : tie.Need-returns-4
+returns-4 : tie.Need-returns-then-number-ne0
 returns-4 c =
     let e = c.before.before in
     λ s d p v w.
-    let n = c.before.timed-out-row.ensures s d p w in
-    sym (past-14 e s d (p, v, w) ∙ as-timed-out s d _ ∙ rw (is-not-zero n c.if4.true) (sym n))
+    let n = c.timed_out_row-number.ensures s d p w in
+    sym (past-14 e s d (p, v, w) ∙ as-timed-out s d _ ∙ rw (is-not-zero n c.if-number-ne0.true) (sym n))
 
-past-19 : (e : tie.Else4) →
-    Left 19 e.before.before.before.before.before.before.before.before.before
+past-19 : (e : tie.Else-number-ne0) →
+    Left 19 e.before.before.before.before.before.before.before.before.before.before.before
 past-19 e s d h =
-    let n = e.before.timed-out-row.ensures s d h.0 h.2 in
-    past-14 e.before.before s d h ∙ as-timed-out s d _ ∙ rw (is_zero n e.if4.false)
+    let n = e.timed_out_row-number.ensures s d h.0 h.2 in
+    past-14 e.before.before s d h ∙ as-timed-out s d _ ∙ rw (is_zero n e.if-number-ne0.false)
 
-version : (k : tie.After-has-version) →
-    let needed = k.before.before.before.before.before.before.before.before.before in
-    let a = needed.before.args in
-    k.has-version.result ≡ has_version a.v (needed_peer state_closed a.c)
+version : (k : tie.After-has_version) →
+    let a = k.args in
+    k.has_version.result ≡ has_version a.v (needed_peer state_closed a.c)
 version k =
-    let needed = k.before.before.before.before.before.before.before.before.before in
-    k.has-version.ensures ∙ ap (has_version needed.before.args.v) needed.needed-peer.ensures
+    let needed = k in
+    k.has_version.ensures ∙ ap (has_version needed.args.v) needed.needed_peer-needed.ensures
 
-returns-5 : tie.Need-returns-5
+returns-5 : tie.Need-returns-then-not-has_version
 unfolding number_behind behind table first_given only ◌or◌
 returns-5 c =
     λ s d p v w. sym (past-19 c.before.before s d (p, v, w) ∙
-    rw (v, fails (version c.before) c.if5.true))
+    rw (v, fails (version c.before) c.if-not-has_version.true))
 
-returns-6 : tie.Need-returns-6
+returns-6 : tie.Need-returns
 unfolding number_behind behind table first_given only ◌or◌
 returns-6 c =
     λ s d p v w. sym (past-19 c.before.before s d (p, v, w) ∙
-    rw (v, holds (version c.before) c.if5.false))
+    rw (v, holds (version c.before) c.if-not-has_version.false))
 
-pub closed-row-spec : {M : Type 1} → statement M
-closed-row-spec =
+pub closed_row_spec : {M : Type 1} → statement M
+closed_row_spec =
     tie.close
     (tie.spec
     (λ c κs. search rules) (λ c κs. search rules) returns (λ c κs. search rules) returns-2 (λ c κs. search rules)

@@ -12,42 +12,42 @@ use Rattle.verdicts.proofs.TestedLaws.{holds, fails}
 use Rattle.closing.proofs.time_out_on_close_row.Statement.{statement}
 use Rattle.closing.proofs.time_out_on_close_row.Tie as tie
 
-returns : tie.Need-returns
+returns : tie.Need-returns-then-not-fits_source
 unfolding number_behind behind table first_given only ◌or◌
-returns c = λ d p v w. rw (p, fails c.before.fits-source.ensures c.if1.true)
+returns c = λ d p v w. rw (p, fails c.fits_source.ensures c.if-not-fits_source.true)
 
-returns-2 : tie.Need-returns-2
+returns-2 : tie.Need-returns-then-not-is_committed
 unfolding number_behind behind table first_given only ◌or◌
 returns-2 c =
-    let e1 = c.before.before in
+    let e1 = c in
     λ d p v w. rw (
       p,
-      holds e1.before.fits-source.ensures e1.if1.false,
-      fails c.before.is-committed.ensures c.if2.true,
+      holds e1.fits_source.ensures e1.if-not-fits_source.false,
+      fails c.is_committed.ensures c.if-not-is_committed.true,
     )
 
 -- the answer is that of the lines behind them
-past-13 : (e : tie.Else2) (d : Datagram) →
-    let a = e.before.before.before.before.before.args in
+past-13 : (e : tie.Else-not-is_committed) (d : Datagram) →
+    let a = e.args in
     let s = store_in a.store.now in
     d.packet ≡ a.p →
     number_behind 7 (some time_out_on_close) s d a.c ≡ number_behind 13 (some time_out_on_close) s d a.c
 unfolding number_behind behind table first_given only ◌or◌
 past-13 e d p =
-    let e1 = e.before.before in
+    let e1 = e in
     rw (
       p,
-      holds e1.before.fits-source.ensures e1.if1.false,
-      holds e.before.is-committed.ensures e.if2.false,
+      holds e1.fits_source.ensures e1.if-not-fits_source.false,
+      holds e.is_committed.ensures e.if-not-is_committed.false,
     )
 
-returns-3 : tie.Need-returns-3
+returns-3 : tie.Need-returns
 returns-3 c =
-    let o = c.before.before.before.before.before.before in
-    λ d p v w. c.closed-row.ensures (store_in o.args.store.now) d p v w ∙ sym (past-13 c.before d p)
+    let o = c in
+    λ d p v w. c.closed_row.ensures (store_in o.args.store.now) d p v w ∙ sym (past-13 c.before d p)
 
-pub time-out-on-close-row-spec : {M : Type 1} → statement M
-time-out-on-close-row-spec =
+pub time_out_on_close_row_spec : {M : Type 1} → statement M
+time_out_on_close_row_spec =
     tie.close
     (tie.spec
     (λ c κs. search rules) returns (λ c κs. search rules) returns-2 (λ c κs. search rules) returns-3)

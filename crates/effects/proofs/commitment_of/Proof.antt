@@ -8,5 +8,5 @@ returns : tie.Need-returns
 unfolding commitment
 returns c = search rules
 
-pub commitment-of-spec : {M : Type 1} → statement M
-commitment-of-spec = tie.close (tie.spec returns)
+pub commitment_of_spec : {M : Type 1} → statement M
+commitment_of_spec = tie.close (tie.spec returns)

@@ -6,7 +6,7 @@ use Rattle.effects.proofs.decide_made.Tie as tie
 
 returns : tie.Need-returns
 unfolding makes
-returns c = rw (c.made.ensures, c.before.no-edit.ensures)
+returns c = rw (c.made-emission.ensures, c.no_edit-edit.ensures)
 
-pub decide-made-spec : {M : Type 1} → statement M
-decide-made-spec = tie.close (tie.spec (λ c κs. search rules) (λ c κs. search rules) returns)
+pub decide_made_spec : {M : Type 1} → statement M
+decide_made_spec = tie.close (tie.spec (λ c κs. search rules) (λ c κs. search rules) returns)

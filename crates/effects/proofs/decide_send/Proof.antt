@@ -7,8 +7,8 @@ use Rattle.effects.proofs.decide_send.Tie as tie
 returns : tie.Need-returns
 unfolding sends
 returns c =
-    let made = c.before in
-    rw (c.sent-end.ensures, made.commitment-of.ensures, made.before.sent-packet.ensures)
+    let made = c in
+    rw (c.sent_end-end.ensures, made.commitment_of-committed.ensures, made.sent_packet-packet.ensures)
 
-pub decide-send-spec : {M : Type 1} → statement M
-decide-send-spec = tie.close (tie.spec (λ c κs. search rules) (λ c κs. search rules) (λ c κs. search rules) returns)
+pub decide_send_spec : {M : Type 1} → statement M
+decide_send_spec = tie.close (tie.spec (λ c κs. search rules) (λ c κs. search rules) (λ c κs. search rules) returns)

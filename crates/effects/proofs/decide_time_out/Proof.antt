@@ -7,8 +7,8 @@ use Rattle.effects.proofs.decide_time_out.Tie as tie
 returns : tie.Need-returns
 unfolding times_out
 returns c =
-    rw (c.timed-out-end.ensures, c.before.freed-commitment.ensures, c.before.before.packet-in.ensures)
+    rw (c.timed_out_end-end.ensures, c.freed_commitment-edit.ensures, c.packet_in-packet.ensures)
 
-pub decide-time-out-spec : {M : Type 1} → statement M
-decide-time-out-spec =
+pub decide_time_out_spec : {M : Type 1} → statement M
+decide_time_out_spec =
     tie.close (tie.spec (λ c κs. search rules) (λ c κs. search rules) (λ c κs. search rules) returns)

@@ -9,20 +9,20 @@ use Rattle.rules.specs.Acceptance.{writes_acknowledgement}
 use Rattle.effects.proofs.decide_write.Statement.{statement}
 use Rattle.effects.proofs.decide_write.Tie as tie
 
-sequence-in-requires : tie.Need-sequence-in-requires
+sequence-in-requires : tie.Need-sequence_in-sequence-requires
 unfolding body parts_size
-sequence-in-requires c κs = omega (arith, c.before.requires)
+sequence-in-requires c κs = omega (arith, c.requires)
 
-digest-in-requires : tie.Need-digest-in-requires
+digest-in-requires : tie.Need-digest_in-digest-requires
 unfolding with_number body has_part ◌or◌
-digest-in-requires c κs = (refl, c.before.before.requires)
+digest-in-requires c κs = (refl, c.requires)
 
 returns : tie.Need-returns
 unfolding writes_acknowledgement with_number sequence_from body size_before
 returns c =
-    let made = c.before.before in
-    let digest = made.before in
-    rw (made.plain-record.ensures, digest.digest-in.ensures, digest.before.sequence-in.ensures)
+    let made = c in
+    let digest = c in
+    rw (made.plain_record-written.ensures, digest.digest_in-digest.ensures, digest.sequence_in-sequence.ensures)
 
-pub decide-write-spec : {M : Type 1} → statement M
-decide-write-spec = tie.close (tie.spec sequence-in-requires digest-in-requires (λ c κs. search rules) returns)
+pub decide_write_spec : {M : Type 1} → statement M
+decide_write_spec = tie.close (tie.spec sequence-in-requires digest-in-requires (λ c κs. search rules) returns)

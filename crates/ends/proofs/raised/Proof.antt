@@ -7,16 +7,16 @@ use Rattle.slots.specs.Limits.{top}
 use Rattle.ends.proofs.raised.Statement.{statement}
 use Rattle.ends.proofs.raised.Tie as tie
 
-add-result : tie.Need-overflow-add-result
+add-result : tie.Need-overflow_add-result
 unfolding ◌and◌
 add-result c =
-    let o = c.before in
-    let below = rw c.if1.true at o.requires in
+    let o = c in
+    let below = rw c.if-rises.true at o.requires in
     let z = eqb-false o.args.counter top below in
     omega arith
 
-returns : tie.Need-returns
-returns c = rw c.if1.true
+returns : tie.Need-returns-then-rises
+returns c = rw c.if-rises.true
 
-pub raised-spec : {M : Type 1} → statement M
-raised-spec = tie.close (tie.spec add-result returns (λ c. search rules))
+pub raised_spec : {M : Type 1} → statement M
+raised_spec = tie.close (tie.spec add-result returns (λ c. search rules))

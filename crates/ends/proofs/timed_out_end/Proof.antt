@@ -4,23 +4,23 @@ use Rattle.rules.specs.Ordering.{timed_out_end, is_timeout_at_top}
 use Rattle.ends.proofs.timed_out_end.Statement.{statement}
 use Rattle.ends.proofs.timed_out_end.Tie as tie
 
-with-acknowledge-requires : tie.Need-with-acknowledge-requires
+with-acknowledge-requires : tie.Need-with_acknowledge-requires
 unfolding is_timeout_at_top
-with-acknowledge-requires c κs = rw c.counts-timeouts.ensures c.before.before.before.requires
+with-acknowledge-requires c κs = rw c.counts_timeouts.ensures c.requires
 
-returns : tie.Need-returns
+returns : tie.Need-returns-then-is_ordered
 unfolding timed_out_end
-returns c = rw (c.closed-end.ensures, ← c.before.before.is-ordered.ensures, c.before.if1.true)
+returns c = rw (c.closed_end.ensures, ← c.is_ordered.ensures, c.if-is_ordered.true)
 
-returns-2 : tie.Need-returns-2
+returns-2 : tie.Need-returns
 unfolding timed_out_end
 returns-2 c =
-    let e = c.before.before in
-    rw (← e.before.is-ordered.ensures, e.if1.false, ← c.before.counts-timeouts.ensures)
-    c.with-acknowledge.ensures
+    let e = c in
+    rw (← e.is_ordered.ensures, e.if-is_ordered.false, ← c.counts_timeouts.ensures)
+    c.with_acknowledge.ensures
 
-pub timed-out-end-spec : {M : Type 1} → statement M
-timed-out-end-spec =
+pub timed_out_end_spec : {M : Type 1} → statement M
+timed_out_end_spec =
     tie.close
     (tie.spec
     (λ c κs. search rules) (λ c κs. search rules) returns (λ c κs. search rules) with-acknowledge-requires returns-2)

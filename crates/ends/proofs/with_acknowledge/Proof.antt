@@ -8,9 +8,9 @@ use Rattle.ends.proofs.with_acknowledge.Tie as tie
 returns : tie.Need-returns
 unfolding counted
 returns c =
-    let n = c.before.raised.ensures in
-    let e = c.with-counters.ensures in
-    cases c.before.before.args.rises (λ q. rw (e, n, q)) (λ q. rw (e, n, q))
+    let n = c.raised-acknowledge.ensures in
+    let e = c.with_counters.ensures in
+    cases c.args.rises (λ q. rw (e, n, q)) (λ q. rw (e, n, q))
 
-pub with-acknowledge-spec : {M : Type 1} → statement M
-with-acknowledge-spec = tie.close (tie.spec (λ c κs. search rules) (λ c κs. search rules) returns)
+pub with_acknowledge_spec : {M : Type 1} → statement M
+with_acknowledge_spec = tie.close (tie.spec (λ c κs. search rules) (λ c κs. search rules) returns)

@@ -8,5 +8,5 @@ returns : tie.Need-returns
 unfolding counted
 returns c = search rules
 
-pub with-counters-spec : {M : Type 1} → statement M
-with-counters-spec = tie.close (tie.spec returns)
+pub with_counters_spec : {M : Type 1} → statement M
+with_counters_spec = tie.close (tie.spec returns)

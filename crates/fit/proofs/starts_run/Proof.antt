@@ -7,10 +7,10 @@ use Rattle.fit.proofs.starts_run.Tie as tie
 returns : tie.Need-returns
 unfolding ◌and◌ ◌or◌
 returns c =
-    rw (← c.before.u16-at.ensures, ← c.is-ahead.ensures)
+    rw (← c.u16_at.ensures, ← c.is_ahead.ensures)
 
-pub starts-run-spec : {M : Type 1} → statement M
-starts-run-spec =
+pub starts_run_spec : {M : Type 1} → statement M
+starts_run_spec =
     tie.close
     (tie.spec
     (λ c. omega arith) (λ c. omega arith) (λ c. omega arith) (λ c κs. omega arith) (λ c κs. (omega arith, omega arith))

@@ -28,52 +28,52 @@ fit_parts bs h =
     and_assoc (front_fits bs (room_in (length bs))) _ _
 
 -- behind the first test the number of bytes fits
-abbrev bytes : tie.Else1 → List ℕ
-bytes k = k.before.before.before.args.s.now
+abbrev bytes : tie.Else-not-size_fits → List ℕ
+bytes k = k.args.s.now
 
-fits : (k : tie.Else1) → size_fits (length (bytes k)) ≡ true
-fits k = sym k.before.size_fits.ensures ∙ not-false k.before.size_fits.result k.if1.false
+fits : (k : tie.Else-not-size_fits) → size_fits (length (bytes k)) ≡ true
+fits k = sym k.size_fits.ensures ∙ k.if-not-size_fits.false
 
-sized : (k : tie.Else1) → Sized (length (bytes k))
+sized : (k : tie.Else-not-size_fits) → Sized (length (bytes k))
 sized k = fits-size (length (bytes k)) (fits k)
 
-returns : tie.Need-returns
+returns : tie.Need-returns-then-not-size_fits
 unfolding is_fit is_laid_out ◌and◌
 returns c =
-    let call = c.before.size_fits in
-    let unfit = sym call.ensures ∙ not-true call.result c.if1.true in
+    let call = c.size_fits in
+    let unfit = sym call.ensures ∙ c.if-not-size_fits.true in
     rw unfit
 
-sub-count : tie.Need-overflow-sub-count
+sub-count : tie.Need-overflow_sub-count
 sub-count c = omega (arith, (sized c).whole)
 
-front-fits-requires : tie.Need-front-fits-requires
+front-fits-requires : tie.Need-front_fits-requires
 unfolding room_in
 front-fits-requires c κs =
     let size = sized c in
     (omega (arith, size.high), omega (arith, size.whole))
 
-returns-2 : tie.Need-returns-2
+returns-2 : tie.Need-returns-then-not-front_fits
 unfolding room_in ◌and◌
 returns-2 c =
     let call = c.before in
     let k = call.before in
-    let unfit = sym call.front-fits.ensures ∙ not-true call.front-fits.result c.if2.true in
+    let unfit = sym call.front_fits.ensures ∙ c.if-not-front_fits.true in
     rw (fit_parts (bytes k) (fits k), unfit)
 
-records-used-requires : tie.Need-records-used-requires
+records-used-requires : tie.Need-records_used-requires
 unfolding room_in
 records-used-requires c κs = (sized c.before.before).whole
 
-returns-3 : tie.Need-returns-3
+returns-3 : tie.Need-returns
 unfolding room_in ◌and◌
 returns-3 c =
     let call = c.before.before in
     let k = call.before in
-    let front = sym call.front-fits.ensures ∙ not-false call.front-fits.result c.before.if2.false in
-    rw (fit_parts (bytes k) (fits k), front) c.records-used.ensures
+    let front = sym call.front_fits.ensures ∙ c.if-not-front_fits.false in
+    rw (fit_parts (bytes k) (fits k), front) c.records_used.ensures
 
-pub used-if-fit-spec : {M : Type 1} → statement M
-used-if-fit-spec =
+pub used_if_fit_spec : {M : Type 1} → statement M
+used_if_fit_spec =
     tie.close
     (tie.spec (λ c κs. tt) returns sub-count front-fits-requires returns-2 records-used-requires returns-3)

@@ -6,16 +6,16 @@ use borrow.Author.Rules.{rules}
 use Rattle.packets.proofs.fits_destination.Statement.{statement}
 use Rattle.packets.proofs.fits_destination.Tie as tie
 
-returns : tie.Need-returns
+returns : tie.Need-returns-then-p-c
 unfolding fits_destination ◌and◌
-returns c = rw (ne_eqb _ _ c.if1.true)
+returns c = rw (ne_eqb _ _ c.if-p-c.true)
 
-returns-2 : tie.Need-returns-2
+returns-2 : tie.Need-returns
 unfolding fits_destination ◌and◌
-returns-2 c = rw (eq-eqb _ _ c.before.before.before.if1.false) c.same-port-channel.ensures
+returns-2 c = rw (eq-eqb _ _ c.if-p-c.false) c.same_port_channel.ensures
 
-pub fits-destination-spec : {M : Type 1} → statement M
-fits-destination-spec =
+pub fits_destination_spec : {M : Type 1} → statement M
+fits_destination_spec =
     tie.close
     (tie.spec
     returns (λ c κs. search rules) returns-2)

@@ -14,20 +14,20 @@ use Rattle.packets.proofs.has_free.Tie as tie
 
 returns : tie.Need-returns
 returns c =
-    let o = c.before.before in
+    let o = c in
     let n = o.args.count in
     let s = o.args.store.now in
     let last : ℕ = n - 1 in
-    c.are-zero.ensures ∙ sym (free-slot record_in (slot_at records_from s last)) ∙
+    c.are_zero.ensures ∙ sym (free-slot record_in (slot_at records_from s last)) ∙
     ap is_free (sym (slot-at record_in records_from n last s (omega (arith, o.requires.low)))) ∙
     sym (free-last (table_from record_in records_from n s 0) (order-from n s o.requires) last
     (omega (arith, o.requires.low, length-slots record_in records_from n s))) ∙
     ap has_free (sym (records-from n s o.requires.size))
 
-pub has-free-spec : {M : Type 1} → statement M
-has-free-spec =
+pub has_free_spec : {M : Type 1} → statement M
+has_free_spec =
     tie.close
     (tie.spec
-    (λ c. omega (arith, c.before.requires.low)) (λ c. omega (arith, c.before.requires.size))
-    (λ c. omega (arith, c.before.requires.size)) (λ c κs. omega (arith, c.before.requires.size, c.before.requires.low))
+    (λ c. omega (arith, c.requires.low)) (λ c. omega (arith, c.requires.size))
+    (λ c. omega (arith, c.requires.size)) (λ c κs. omega (arith, c.requires.size, c.requires.low))
     returns)

@@ -9,7 +9,7 @@ use Rattle.records.proofs.freed_commitment.Tie as tie
 
 returns : tie.Need-returns
 unfolding plain_record
-returns c = ap (λ (r : Record). frees (key_of r)) c.plain-record.ensures
+returns c = ap (λ (r : Record). frees (key_of r)) c.plain_record-commitment.ensures
 
-pub freed-commitment-spec : {M : Type 1} → statement M
-freed-commitment-spec = tie.close (tie.spec (λ c κs. search rules) returns)
+pub freed_commitment_spec : {M : Type 1} → statement M
+freed_commitment_spec = tie.close (tie.spec (λ c κs. search rules) returns)

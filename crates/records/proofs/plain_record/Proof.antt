@@ -8,5 +8,5 @@ returns : tie.Need-returns
 unfolding plain_record
 returns c = search rules
 
-pub plain-record-spec : {M : Type 1} → statement M
-plain-record-spec = tie.close (tie.spec returns)
+pub plain_record_spec : {M : Type 1} → statement M
+plain_record_spec = tie.close (tie.spec returns)

@@ -4,28 +4,28 @@ use Rattle.rules.specs.Ordering.{received_edit}
 use Rattle.records.proofs.received_edit.Statement.{statement}
 use Rattle.records.proofs.received_edit.Tie as tie
 
-returns : tie.Need-returns
+returns : tie.Need-returns-then-lapses
 unfolding received_edit
-returns c = rw (← c.before.before.lapses.ensures, c.before.if1.true) c.written.ensures
+returns c = rw (← c.lapses.ensures, c.if-lapses.true) c.written.ensures
 
-returns-2 : tie.Need-returns-2
+returns-2 : tie.Need-returns-then-raises_counter
 unfolding received_edit
 returns-2 c =
-    let t = c.before in
-    let e = t.before.before in
-    rw (← e.before.lapses.ensures, e.if1.false, ← t.before.raises-counter.ensures.0, t.if2.true)
-    c.no-edit.ensures
+    let t = c in
+    let e = c in
+    rw (← e.lapses.ensures, e.if-lapses.false, ← t.raises_counter.ensures.0, t.if-raises_counter.true)
+    c.no_edit.ensures
 
-returns-3 : tie.Need-returns-3
+returns-3 : tie.Need-returns
 unfolding received_edit
 returns-3 c =
-    let t = c.before in
-    let e = t.before.before in
-    rw (← e.before.lapses.ensures, e.if1.false, ← t.before.raises-counter.ensures.0, t.if2.false)
-    c.written2.ensures
+    let t = c in
+    let e = c in
+    rw (← e.lapses.ensures, e.if-lapses.false, ← t.raises_counter.ensures.0, t.if-raises_counter.false)
+    c.written-2.ensures
 
-pub received-edit-spec : {M : Type 1} → statement M
-received-edit-spec =
+pub received_edit_spec : {M : Type 1} → statement M
+received_edit_spec =
     tie.close
     (tie.spec
     (λ c κs. search rules) (λ c κs. search rules) returns (λ c κs. search rules) (λ c κs. search rules) returns-2

@@ -24,24 +24,24 @@ answer : (n : ℕ) (bs : List ℕ) → RecordsInOrder bs n → (k : Key) {i : �
 unfolding slot_for
 answer n bs h k e p = rw (records-from n bs h.size, length-slots record_in records_from n bs, ← e, p)
 
-place-of-requires : tie.Need-place-of-requires
+place-of-requires : tie.Need-place_of-i-requires
 place-of-requires c κs =
-    let o = c.before in
+    let o = c in
     (omega (arith, o.requires.size), order-from o.args.count o.args.store.now o.requires)
 
-returns : tie.Need-returns
+returns : tie.Need-returns-then-i-count
 returns c =
-    let call = c.before in
-    let o = call.before.before in
-    sym (answer o.args.count o.args.store.now o.requires o.args.k call.place_of.ensures
-    (lt-ltb call.place_of.result o.args.count (omega arith)))
+    let call = c in
+    let o = c in
+    sym (answer o.args.count o.args.store.now o.requires o.args.k call.place_of-i.ensures
+    (lt-ltb call.place_of-i.result o.args.count (omega arith)))
 
-returns-2 : tie.Need-returns-2
+returns-2 : tie.Need-returns
 returns-2 c =
-    let call = c.before in
-    let o = call.before.before in
-    sym (answer o.args.count o.args.store.now o.requires o.args.k call.place_of.ensures
-    (le-ltb call.place_of.result o.args.count (omega arith)))
+    let call = c in
+    let o = c in
+    sym (answer o.args.count o.args.store.now o.requires o.args.k call.place_of-i.ensures
+    (le-ltb call.place_of-i.result o.args.count (omega arith)))
 
-pub slot-for-spec : {M : Type 1} → statement M
-slot-for-spec = tie.close (tie.spec place-of-requires returns returns-2)
+pub slot_for_spec : {M : Type 1} → statement M
+slot_for_spec = tie.close (tie.spec place-of-requires returns returns-2)

@@ -17,38 +17,38 @@ use Rattle.records.proofs.slot_of.Tie as tie
 order : (o : tie.Start) → let s = o.args.store.now in RecordsInOrder s (room_in (length s))
 order o = fit-in-order o.args.store.now o.requires
 
-slot-for-requires : tie.Need-slot-for-requires
+slot-for-requires : tie.Need-slot_for-requires
 unfolding room_in
-slot-for-requires c κs = order c.before.before.before.before.before
+slot-for-requires c κs = order c.before.before.before.before
 
-find-record-requires : tie.Need-find-record-requires
+find-record-requires : tie.Need-find_record-requires
 unfolding room_in
-find-record-requires c κs = order c.before.before.before.before.before
+find-record-requires c κs = order c.before.before.before.before
 
 -- the slot of an edit of another action
 abbrev slot_by : tie.Start → Action → Found
 slot_by o x = slot_of (edit_of x o.args.e.about) (store_in o.args.store.now).records
 
-returns-2 : tie.Need-returns-2
+returns-2 : tie.Need-returns-in-Writes
 returns-2 c =
     let key = c.before in
     let told = key.before in
-    let o = told.before.before.before.before in
-    c.slot-for.ensures ∙
-    ap (λ (k : Key). slot_for k (store_in o.args.store.now).records) key.key-of.ensures ∙
-    ap (slot_by o) (sym told.enum-told2.given.1)
+    let o = told.before.before.before in
+    c.slot_for.ensures ∙
+    ap (λ (k : Key). slot_for k (store_in o.args.store.now).records) key.key_of.ensures ∙
+    ap (slot_by o) (sym told.in-Writes.is)
 
-returns-3 : tie.Need-returns-3
+returns-3 : tie.Need-returns-in-Frees
 returns-3 c =
     let key = c.before in
     let told = key.before in
-    let o = told.before.before.before.before in
-    c.find-record.ensures ∙
-    ap (λ (k : Key). first_that (has_key k) (store_in o.args.store.now).records) key.key-of2.ensures ∙
-    ap (slot_by o) (sym told.enum-told3.given.1)
+    let o = told.before.before.before in
+    c.find_record.ensures ∙
+    ap (λ (k : Key). first_that (has_key k) (store_in o.args.store.now).records) key.key_of-in-Frees.ensures ∙
+    ap (slot_by o) (sym told.in-Frees.is)
 
-pub slot-of-spec : {M : Type 1} → statement M
-slot-of-spec =
+pub slot_of_spec : {M : Type 1} → statement M
+slot_of_spec =
     tie.close
     (tie.spec
     (λ c. omega (arith, (order c.before).size)) (λ c. search rules) (λ c. search rules) (λ c κs. search rules)

@@ -20,31 +20,31 @@ Left n o =
     (s : Store) (d : Datagram) → d.packet ≡ a.p →
     number_behind 14 (some acknowledge) s d a.c ≡ number_behind n (some acknowledge) s d a.c
 
-returns : tie.Need-returns
+returns : tie.Need-returns-then-not-acknowledges_in_order
 unfolding number_behind behind table first_given only ◌or◌
-returns c = λ s d p. rw (p, fails c.before.acknowledges-in-order.ensures c.if1.true)
+returns c = λ s d p. rw (p, fails c.acknowledges_in_order.ensures c.if-not-acknowledges_in_order.true)
 
-past-15 : (e : tie.Else1) → Left 15 e.before.before
+past-15 : (e : tie.Else-not-acknowledges_in_order) → Left 15 e.before.before
 unfolding number_behind behind table first_given only ◌or◌
-past-15 e s d p = rw (p, holds e.before.acknowledges-in-order.ensures e.if1.false)
+past-15 e s d p = rw (p, holds e.acknowledges_in_order.ensures e.if-not-acknowledges_in_order.false)
 
-returns-2 : tie.Need-returns-2
+returns-2 : tie.Need-returns-then-is_acknowledge_at_top
 unfolding number_behind behind table first_given only ◌or◌
 returns-2 c =
     λ s d p. sym (past-15 c.before.before s d p ∙
-    rw (came c.before.is-acknowledge-at-top.ensures c.if2.true))
+    rw (came c.is_acknowledge_at_top.ensures c.if-is_acknowledge_at_top.true))
 
-past-19 : (e : tie.Else2) → Left 19 e.before.before.before.before
+past-19 : (e : tie.Else-is_acknowledge_at_top) → Left 19 e.before.before.before.before
 unfolding number_behind behind table first_given only ◌or◌
 past-19 e s d p =
-    past-15 e.before.before s d p ∙ rw (came e.before.is-acknowledge-at-top.ensures e.if2.false)
+    past-15 e.before.before s d p ∙ rw (came e.is_acknowledge_at_top.ensures e.if-is_acknowledge_at_top.false)
 
-returns-3 : tie.Need-returns-3
+returns-3 : tie.Need-returns
 unfolding number_behind behind table first_given only ◌or◌
 returns-3 c = λ s d p. sym (past-19 c s d p)
 
-pub acknowledgement-row-spec : {M : Type 1} → statement M
-acknowledgement-row-spec =
+pub acknowledgement_row_spec : {M : Type 1} → statement M
+acknowledgement_row_spec =
     tie.close
     (tie.spec
     (λ c κs. search rules) returns (λ c κs. search rules) returns-2 returns-3)

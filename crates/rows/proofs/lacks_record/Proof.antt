@@ -5,16 +5,16 @@ use borrow.Author.Rules.{rules}
 use Rattle.rows.proofs.lacks_record.Statement.{statement}
 use Rattle.rows.proofs.lacks_record.Tie as tie
 
-returns : tie.Need-returns
+returns : tie.Need-returns-then-not-needs_record
 unfolding ◌and◌
-returns c = rw (fails c.before.needs-record.ensures c.if1.true)
+returns c = rw (fails c.needs_record.ensures c.if-not-needs_record.true)
 
-returns-2 : tie.Need-returns-2
+returns-2 : tie.Need-returns
 unfolding ◌and◌
-returns-2 c = rw (holds c.before.before.needs-record.ensures c.before.if1.false, c.has-free.ensures)
+returns-2 c = rw (holds c.needs_record.ensures c.if-not-needs_record.false, c.has_free.ensures)
 
-pub lacks-record-spec : {M : Type 1} → statement M
-lacks-record-spec =
+pub lacks_record_spec : {M : Type 1} → statement M
+lacks_record_spec =
     tie.close
     (tie.spec
     (λ c κs. search rules) returns (λ c κs. search rules) returns-2)

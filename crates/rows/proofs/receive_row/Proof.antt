@@ -22,63 +22,63 @@ Left n o =
     number_behind 7 (some receive) (store_in a.store.now) d a.c ≡
     number_behind n (some receive) (store_in a.store.now) d a.c
 
-returns : tie.Need-returns
+returns : tie.Need-returns-then-lacks_connection
 unfolding number_behind behind table first_given only ◌or◌
-returns c = λ d x p v. rw (x, came c.before.lacks-connection.ensures c.if1.true)
+returns c = λ d x p v. rw (x, came c.lacks_connection.ensures c.if-lacks_connection.true)
 
-past-8 : (e : tie.Else1) → Left 8 e.before.before.before
+past-8 : (e : tie.Else-lacks_connection) → Left 8 e.before.before.before
 unfolding number_behind behind table first_given only ◌or◌
-past-8 e d x p v = rw (x, came e.before.lacks-connection.ensures e.if1.false)
+past-8 e d x p v = rw (x, came e.lacks_connection.ensures e.if-lacks_connection.false)
 
-returns-2 : tie.Need-returns-2
+returns-2 : tie.Need-returns-then-not-fits_destination
 unfolding number_behind behind table first_given only ◌or◌
 returns-2 c =
     λ d x p v. sym (past-8 c.before.before d x p v ∙
-    rw (p, fails c.before.fits-destination.ensures c.if2.true))
+    rw (p, fails c.fits_destination.ensures c.if-not-fits_destination.true))
 
-past-9 : (e : tie.Else2) → Left 9 e.before.before.before.before.before
+past-9 : (e : tie.Else-not-fits_destination) → Left 9 e.before.before.before.before.before
 unfolding number_behind behind table first_given only ◌or◌
 past-9 e d x p v =
-    past-8 e.before.before d x p v ∙ rw (p, holds e.before.fits-destination.ensures e.if2.false)
+    past-8 e.before.before d x p v ∙ rw (p, holds e.fits_destination.ensures e.if-not-fits_destination.false)
 
 -- what line 11 tests
-late : (k : tie.After-refuses-late) →
-    let a = k.before.before.before.before.before.before.before.before.args in
-    k.refuses-late.result ≡ refuses_late a.c (is_late_at_receiver a.x a.p.timeout)
+late : (k : tie.After-refuses_late) →
+    let a = k.args in
+    k.refuses_late.result ≡ refuses_late a.c (is_late_at_receiver a.x a.p.timeout)
 late k =
-    let a = k.before.before.before.before.before.before.before.before.args in
-    k.refuses-late.ensures ∙ ap (refuses_late a.c) k.before.is-late-at-receiver.ensures
+    let a = k.args in
+    k.refuses_late.ensures ∙ ap (refuses_late a.c) k.is_late_at_receiver-late.ensures
 
-returns-3 : tie.Need-returns-3
+returns-3 : tie.Need-returns-then-refuses_late
 unfolding number_behind behind table first_given only ◌or◌
 returns-3 c =
     λ d x p v. sym (past-9 c.before.before.before.before d x p v ∙
-    rw (x, p, came (late c.before) c.if3.true))
+    rw (x, p, came (late c.before) c.if-refuses_late.true))
 
-past-11 : (e : tie.Else3) → Left 11 e.before.before.before.before.before.before.before.before.before
+past-11 : (e : tie.Else-refuses_late) → Left 11 e.before.before.before.before.before.before.before.before.before
 unfolding number_behind behind table first_given only ◌or◌
 past-11 e d x p v =
-    past-9 e.before.before.before.before d x p v ∙ rw (x, p, came (late e.before) e.if3.false)
+    past-9 e.before.before.before.before d x p v ∙ rw (x, p, came (late e.before) e.if-refuses_late.false)
 
-returns-4 : tie.Need-returns-4
+returns-4 : tie.Need-returns-then-number-ne0
 unfolding number_behind behind table first_given only ◌or◌
 returns-4 c =
-    let n = c.before.commitment-difference.ensures in
-    λ d x p v. sym (past-11 c.before.before d x p v ∙ rw (p, v, is-not-zero n c.if4.true) (sym n))
+    let n = c.commitment_difference-number.ensures in
+    λ d x p v. sym (past-11 c.before.before d x p v ∙ rw (p, v, is-not-zero n c.if-number-ne0.true) (sym n))
 
-past-14 : (e : tie.Else4) →
+past-14 : (e : tie.Else-number-ne0) →
     Left 14 e.before.before.before.before.before.before.before.before.before.before.before
 unfolding number_behind behind table first_given only ◌or◌
 past-14 e d x p v =
-    past-11 e.before.before d x p v ∙ rw (p, v, is_zero e.before.commitment-difference.ensures e.if4.false)
+    past-11 e.before.before d x p v ∙ rw (p, v, is_zero e.commitment_difference-number.ensures e.if-number-ne0.false)
 
-returns-5 : tie.Need-returns-5
+returns-5 : tie.Need-returns
 returns-5 c =
-    let l = c.before.before.before.before.before.is-late-at-receiver.ensures in
-    λ d x p v. c.delivery-row.ensures d p (rw (x, p) (sym l)) ∙ sym (past-14 c.before d x p v)
+    let l = c.is_late_at_receiver-late.ensures in
+    λ d x p v. c.delivery_row.ensures d p (rw (x, p) (sym l)) ∙ sym (past-14 c.before d x p v)
 
-pub receive-row-spec : {M : Type 1} → statement M
-receive-row-spec =
+pub receive_row_spec : {M : Type 1} → statement M
+receive_row_spec =
     tie.close
     (tie.spec
     (λ c κs. search rules) returns (λ c κs. search rules) returns-2 (λ c κs. search rules)

@@ -21,55 +21,55 @@ Left n o =
     number_behind 7 (some time_out) (store_in a.store.now) d a.c ≡
     number_behind n (some time_out) (store_in a.store.now) d a.c
 
-returns : tie.Need-returns
+returns : tie.Need-returns-then-not-fits_source
 unfolding number_behind behind table first_given only ◌or◌
-returns c = λ d p v. rw (p, fails c.before.fits-source.ensures c.if1.true)
+returns c = λ d p v. rw (p, fails c.fits_source.ensures c.if-not-fits_source.true)
 
-past-9 : (e : tie.Else1) → Left 9 e.before.before.before
+past-9 : (e : tie.Else-not-fits_source) → Left 9 e.before.before.before
 unfolding number_behind behind table first_given only ◌or◌
-past-9 e d p v = rw (p, holds e.before.fits-source.ensures e.if1.false)
+past-9 e d p v = rw (p, holds e.fits_source.ensures e.if-not-fits_source.false)
 
-returns-2 : tie.Need-returns-2
+returns-2 : tie.Need-returns-then-not-is_proved_late
 unfolding number_behind behind table first_given only ◌or◌
 returns-2 c =
     λ d p v. sym (past-9 c.before.before.before d p v ∙
-    rw (p, v, fails c.before.is-proved-late.ensures c.if2.true))
+    rw (p, v, fails c.is_proved_late.ensures c.if-not-is_proved_late.true))
 
-past-12 : (e : tie.Else2) → Left 12 e.before.before.before.before.before.before
+past-12 : (e : tie.Else-not-is_proved_late) → Left 12 e.before.before.before.before.before.before
 unfolding number_behind behind table first_given only ◌or◌
 past-12 e d p v =
-    past-9 e.before.before.before d p v ∙ rw (p, v, holds e.before.is-proved-late.ensures e.if2.false)
+    past-9 e.before.before.before d p v ∙ rw (p, v, holds e.is_proved_late.ensures e.if-not-is_proved_late.false)
 
-returns-3 : tie.Need-returns-3
+returns-3 : tie.Need-returns-then-not-is_committed
 unfolding number_behind behind table first_given only ◌or◌
 returns-3 c =
     λ d p v. sym (past-12 c.before.before d p v ∙
-    rw (p, fails c.before.is-committed.ensures c.if3.true))
+    rw (p, fails c.is_committed.ensures c.if-not-is_committed.true))
 
-past-13 : (e : tie.Else3) → Left 13 e.before.before.before.before.before.before.before.before
+past-13 : (e : tie.Else-not-is_committed) → Left 13 e.before.before.before.before.before.before.before.before
 unfolding number_behind behind table first_given only ◌or◌
 past-13 e d p v =
-    past-12 e.before.before d p v ∙ rw (p, holds e.before.is-committed.ensures e.if3.false)
+    past-12 e.before.before d p v ∙ rw (p, holds e.is_committed.ensures e.if-not-is_committed.false)
 
-returns-4 : tie.Need-returns-4
+returns-4 : tie.Need-returns-then-number-ne0
 unfolding number_behind behind table first_given only ◌or◌
 returns-4 c =
-    let n = c.before.absence-difference.ensures in
-    λ d p v. sym (past-13 c.before.before d p v ∙ rw (p, v, is-not-zero n c.if4.true) (sym n))
+    let n = c.absence_difference-number.ensures in
+    λ d p v. sym (past-13 c.before.before d p v ∙ rw (p, v, is-not-zero n c.if-number-ne0.true) (sym n))
 
-past-14 : (e : tie.Else4) →
+past-14 : (e : tie.Else-number-ne0) →
     Left 14 e.before.before.before.before.before.before.before.before.before.before
 unfolding number_behind behind table first_given only ◌or◌
 past-14 e d p v =
-    past-13 e.before.before d p v ∙ rw (p, v, is_zero e.before.absence-difference.ensures e.if4.false)
+    past-13 e.before.before d p v ∙ rw (p, v, is_zero e.absence_difference-number.ensures e.if-number-ne0.false)
 
-returns-5 : tie.Need-returns-5
+returns-5 : tie.Need-returns
 returns-5 c =
-    let o = c.before.before.before.before.before.before.before.before.before.before.before in
-    λ d p v. c.timed-out-row.ensures (store_in o.args.store.now) d p v ∙ sym (past-14 c.before d p v)
+    let o = c in
+    λ d p v. c.timed_out_row.ensures (store_in o.args.store.now) d p v ∙ sym (past-14 c.before d p v)
 
-pub time-out-row-spec : {M : Type 1} → statement M
-time-out-row-spec =
+pub time_out_row_spec : {M : Type 1} → statement M
+time_out_row_spec =
     tie.close
     (tie.spec
     (λ c κs. search rules) returns (λ c κs. search rules) returns-2 (λ c κs. search rules) returns-3

@@ -20,22 +20,22 @@ free-at n [] = refl
 free-at n (none ∷ xs) = refl
 free-at n (some x ∷ xs) = free-at (suc n) xs
 
-free : (k : tie.After-is-found) →
-    k.is_found.result ≡ has_free (store_in k.before.before.before.args.store.now).channels
+free : (k : tie.After-is_found) →
+    k.is_found.result ≡ has_free (store_in k.args.store.now).channels
 free k =
-    let s = k.before.before.before.args.store.now in
-    k.is_found.ensures ∙ ap is_at k.before.find-free-channel.ensures ∙ sym (free-at 0 (store_in s).channels)
+    let s = k.args.store.now in
+    k.is_found.ensures ∙ ap is_at k.find_free_channel.ensures ∙ sym (free-at 0 (store_in s).channels)
 
-returns : tie.Need-returns
+returns : tie.Need-returns-then-not-is_found
 unfolding is_full ◌or◌
-returns c = rw (fails (free c.before) c.if1.true)
+returns c = rw (fails (free c.before) c.if-not-is_found.true)
 
-returns-2 : tie.Need-returns-2
+returns-2 : tie.Need-returns
 unfolding is_full store_in ◌or◌
-returns-2 c = rw (holds (free c.before.before) c.before.if1.false, c.u64-at.ensures)
+returns-2 c = rw (holds (free c.before.before) c.if-not-is_found.false, c.u64_at.ensures)
 
-pub is-full-spec : {M : Type 1} → statement M
-is-full-spec =
+pub is_full_spec : {M : Type 1} → statement M
+is_full_spec =
     tie.close
     (tie.spec
     (λ c κs. search rules) (λ c κs. search rules) returns (λ c κs. search rules) returns-2)

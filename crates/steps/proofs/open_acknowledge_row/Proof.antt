@@ -12,7 +12,7 @@ use Rattle.steps.proofs.open_acknowledge_row.Tie as tie
 returns : tie.Need-returns
 unfolding number_behind behind table first_given only ◌or◌ moving_lines answering needed_try_open
 returns c =
-    λ s d x n v. rw (x, n, v) (rw c.before.needed-try-open.ensures at c.moving-row.ensures)
+    λ s d x n v. rw (x, n, v) (rw c.needed_try_open.ensures at c.moving_row.ensures)
 
-pub open-acknowledge-row-spec : {M : Type 1} → statement M
-open-acknowledge-row-spec = tie.close (tie.spec (λ c κs. search rules) (λ c κs. search rules) returns)
+pub open_acknowledge_row_spec : {M : Type 1} → statement M
+open_acknowledge_row_spec = tie.close (tie.spec (λ c κs. search rules) (λ c κs. search rules) returns)

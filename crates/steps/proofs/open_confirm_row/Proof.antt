@@ -11,7 +11,7 @@ use Rattle.steps.proofs.open_confirm_row.Tie as tie
 returns : tie.Need-returns
 unfolding number_behind behind table first_given only ◌or◌ moving_lines
 returns c =
-    λ s d x v. rw (x, v) (rw c.before.needed-peer.ensures at c.moving-row.ensures)
+    λ s d x v. rw (x, v) (rw c.needed_peer.ensures at c.moving_row.ensures)
 
-pub open-confirm-row-spec : {M : Type 1} → statement M
-open-confirm-row-spec = tie.close (tie.spec (λ c κs. search rules) (λ c κs. search rules) returns)
+pub open_confirm_row_spec : {M : Type 1} → statement M
+open_confirm_row_spec = tie.close (tie.spec (λ c κs. search rules) (λ c κs. search rules) returns)

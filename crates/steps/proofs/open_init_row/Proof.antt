@@ -9,21 +9,21 @@ use Rattle.verdicts.proofs.TestedLaws.{came, holds, fails}
 use Rattle.steps.proofs.open_init_row.Statement.{statement}
 use Rattle.steps.proofs.open_init_row.Tie as tie
 
-returns : tie.Need-returns
+returns : tie.Need-returns-then-is_full
 unfolding number_behind behind table first_given only ◌or◌
-returns c = λ d e f. rw (came c.before.is-full.ensures c.if1.true)
+returns c = λ d e f. rw (came c.is_full.ensures c.if-is_full.true)
 
-returns-2 : tie.Need-returns-2
+returns-2 : tie.Need-returns-then-not-fits
 unfolding number_behind behind table first_given only ◌or◌
 returns-2 c =
-    let e1 = c.before in
-    λ d e f. rw (came e1.before.is-full.ensures e1.if1.false, fails (sym f) c.if2.true)
+    let e1 = c in
+    λ d e f. rw (came e1.is_full.ensures e1.if-is_full.false, fails (sym f) c.if-not-fits.true)
 
-returns-3 : tie.Need-returns-3
+returns-3 : tie.Need-returns
 unfolding number_behind behind table first_given only ◌or◌
 returns-3 c =
-    let e1 = c.before in
-    λ d e f. rw (came e1.before.is-full.ensures e1.if1.false, holds (sym f) c.if2.false)
+    let e1 = c in
+    λ d e f. rw (came e1.is_full.ensures e1.if-is_full.false, holds (sym f) c.if-not-fits.false)
 
-pub open-init-row-spec : {M : Type 1} → statement M
-open-init-row-spec = tie.close (tie.spec (λ c κs. search rules) returns returns-2 returns-3)
+pub open_init_row_spec : {M : Type 1} → statement M
+open_init_row_spec = tie.close (tie.spec (λ c κs. search rules) returns returns-2 returns-3)

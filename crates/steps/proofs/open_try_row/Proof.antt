@@ -31,80 +31,80 @@ Left n o =
     number_behind 7 (some open_try) (store_in o.args.store.now) d c ≡
     number_behind n (some open_try) (store_in o.args.store.now) d c
 
-returns : tie.Need-returns
+returns : tie.Need-returns-then-lacks_connection
 unfolding number_behind behind table first_given only ◌or◌
-returns c = λ d e x o p v f w. rw (x, came c.before.lacks-connection.ensures c.if1.true)
+returns c = λ d e x o p v f w. rw (x, came c.lacks_connection.ensures c.if-lacks_connection.true)
 
 -- what line 14 gives, which does not look at the version
-number : (k : tie.After-end-difference) (d : Datagram) →
+number : (k : tie.After-end_difference-number) (d : Datagram) →
     Has k.before.before.before.before.before d →
-    k.end-difference.result ≡ first_end_difference d.end_verdict (needed_init d)
+    k.end_difference-number.result ≡ first_end_difference d.end_verdict (needed_init d)
 unfolding needed_init needed_end first_end_difference same_but_version
 number k d h =
-    let a = k.before.before.before.before.before.args in
+    let a = k.args in
     rw (h.0, h.1, h.2, h.3)
-    (k.end-difference.ensures ∙ ap (first_end_difference a.v) k.before.needed-init.ensures)
+    (k.end_difference-number.ensures ∙ ap (first_end_difference a.v) k.needed_init-needed.ensures)
 
-past-8 : (e : tie.Else1) → Left 8 e.before.before.before
+past-8 : (e : tie.Else-lacks_connection) → Left 8 e.before.before.before
 unfolding number_behind behind table first_given only ◌or◌
-past-8 e d c h = rw (h.0, came e.before.lacks-connection.ensures e.if1.false)
+past-8 e d c h = rw (h.0, came e.lacks_connection.ensures e.if-lacks_connection.false)
 
-returns-2 : tie.Need-returns-2
+returns-2 : tie.Need-returns-then-number-ne0
 unfolding number_behind behind table first_given only ◌or◌
 returns-2 c =
     λ d e x o p v f w.
     let n = number c.before d (x, o, p, v) in
-    sym (past-8 c.before.before.before d e (x, o, p, v) ∙ rw (is-not-zero n c.if2.true) (sym n))
+    sym (past-8 c.before.before.before d e (x, o, p, v) ∙ rw (is-not-zero n c.if-number-ne0.true) (sym n))
 
-past-14 : (e : tie.Else2) → Left 14 e.before.before.before.before.before.before
+past-14 : (e : tie.Else-number-ne0) → Left 14 e.before.before.before.before.before.before
 unfolding number_behind behind table first_given only ◌or◌
 past-14 e d c h =
-    past-8 e.before.before.before d c h ∙ rw (is_zero (number e.before d h) e.if2.false)
+    past-8 e.before.before.before d c h ∙ rw (is_zero (number e.before d h) e.if-number-ne0.false)
 
-returns-3 : tie.Need-returns-3
+returns-3 : tie.Need-returns-then-is_full
 unfolding number_behind behind table first_given only ◌or◌
 returns-3 c =
     λ d e x o p v f w. sym (past-14 c.before.before d e (x, o, p, v) ∙
-    rw (came c.before.is-full.ensures c.if3.true))
+    rw (came c.is_full.ensures c.if-is_full.true))
 
-past-25 : (e : tie.Else3) → Left 25 e.before.before.before.before.before.before.before.before
+past-25 : (e : tie.Else-is_full) → Left 25 e.before.before.before.before.before.before.before.before
 unfolding number_behind behind table first_given only ◌or◌
-past-25 e d c h = past-14 e.before.before d c h ∙ rw (came e.before.is-full.ensures e.if3.false)
+past-25 e d c h = past-14 e.before.before d c h ∙ rw (came e.is_full.ensures e.if-is_full.false)
 
-returns-4 : tie.Need-returns-4
+returns-4 : tie.Need-returns-then-not-fits
 unfolding number_behind behind table first_given only ◌or◌
 returns-4 c =
-    λ d e x o p v f w. sym (past-25 c.before d e (x, o, p, v) ∙ rw (fails (sym f) c.if4.true))
+    λ d e x o p v f w. sym (past-25 c.before d e (x, o, p, v) ∙ rw (fails (sym f) c.if-not-fits.true))
 
-version : (k : tie.After-has-version) (d : Datagram) →
+version : (k : tie.After-has_version) (d : Datagram) →
     let o = k.before.before.before.before.before.before.before.before.before.before in
     Has o d → padded d.version ≡ o.args.version →
-    k.has-version.result ≡ has_version d.end_verdict (needed_init d)
+    k.has_version.result ≡ has_version d.end_verdict (needed_init d)
 unfolding needed_init
 version k d h w =
-    let a = k.before.before.before.before.before.before.before.before.before.before.args in
-    let needed = k.before.before.before.before.before.before in
+    let a = k.args in
+    let needed = k in
     rw (h.0, h.1, h.2, h.3, w)
-    (k.has-version.ensures ∙ ap (has_version a.v) needed.needed-init.ensures)
+    (k.has_version.ensures ∙ ap (has_version a.v) needed.needed_init-needed.ensures)
 
-returns-5 : tie.Need-returns-5
+returns-5 : tie.Need-returns-then-not-has_version
 unfolding number_behind behind table first_given only ◌or◌
 returns-5 c =
     let e4 = c.before.before in
     λ d e x o p v f w.
-    let same = version c.before d (x, o, p, v) (w (not-false _ e4.if4.false)) in
-    sym (past-25 e4.before d e (x, o, p, v) ∙ rw (holds (sym f) e4.if4.false, fails same c.if5.true))
+    let same = version c.before d (x, o, p, v) (w (e4.if-not-fits.false)) in
+    sym (past-25 e4.before d e (x, o, p, v) ∙ rw (holds (sym f) e4.if-not-fits.false, fails same c.if-not-has_version.true))
 
-returns-6 : tie.Need-returns-6
+returns-6 : tie.Need-returns
 unfolding number_behind behind table first_given only ◌or◌
 returns-6 c =
     let e4 = c.before.before in
     λ d e x o p v f w.
-    let same = version c.before d (x, o, p, v) (w (not-false _ e4.if4.false)) in
-    sym (past-25 e4.before d e (x, o, p, v) ∙ rw (holds (sym f) e4.if4.false, holds same c.if5.false))
+    let same = version c.before d (x, o, p, v) (w (e4.if-not-fits.false)) in
+    sym (past-25 e4.before d e (x, o, p, v) ∙ rw (holds (sym f) e4.if-not-fits.false, holds same c.if-not-has_version.false))
 
-pub open-try-row-spec : {M : Type 1} → statement M
-open-try-row-spec =
+pub open_try_row_spec : {M : Type 1} → statement M
+open_try_row_spec =
     tie.close
     (tie.spec
     (λ c κs. search rules) returns (λ c κs. search rules) (λ c κs. search rules) returns-2

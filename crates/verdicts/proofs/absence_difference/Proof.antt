@@ -7,16 +7,16 @@ use Rattle.verdicts.proofs.absence_difference.Tie as tie
 returns : tie.Need-returns
 unfolding absence_difference
 returns c =
-    let d = c.before.before in
+    let d = c in
     rw (
-      c.first-difference.ensures,
-      c.before.no-timeout.ensures,
-      d.absence-sequence.ensures,
-      d.before.before.absence-claim.ensures,
+      c.first_difference.ensures,
+      c.no_timeout.ensures,
+      d.absence_sequence-sequence.ensures,
+      d.absence_claim-claim.ensures,
     )
 
-pub absence-difference-spec : {M : Type 1} → statement M
-absence-difference-spec =
+pub absence_difference_spec : {M : Type 1} → statement M
+absence_difference_spec =
     tie.close
     (tie.spec
     (λ c κs. search rules) (λ c κs. search rules) (λ c κs. search rules) (λ c κs. search rules) returns)

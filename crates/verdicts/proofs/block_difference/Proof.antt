@@ -4,13 +4,13 @@ use Rattle.rules.specs.Verdict.{block_difference}
 use Rattle.verdicts.proofs.block_difference.Statement.{statement}
 use Rattle.verdicts.proofs.block_difference.Tie as tie
 
-returns : tie.Need-returns
+returns : tie.Need-returns-then-height-other
 unfolding block_difference ◌and◌
-returns c = rw c.if1.true
+returns c = rw c.if-height-other.true
 
-returns-2 : tie.Need-returns-2
+returns-2 : tie.Need-returns
 unfolding block_difference ◌and◌
-returns-2 c = rw c.if1.false
+returns-2 c = rw c.if-height-other.false
 
-pub block-difference-spec : {M : Type 1} → statement M
-block-difference-spec = tie.close (tie.spec returns returns-2)
+pub block_difference_spec : {M : Type 1} → statement M
+block_difference_spec = tie.close (tie.spec returns returns-2)

@@ -9,5 +9,5 @@ returns : tie.Need-returns
 unfolding claims_taken ◌and◌
 returns c = refl
 
-pub claims-taken-spec : {M : Type 1} → statement M
-claims-taken-spec = tie.close (tie.spec returns)
+pub claims_taken_spec : {M : Type 1} → statement M
+claims_taken_spec = tie.close (tie.spec returns)

@@ -15,42 +15,42 @@ use Rattle.sorting.proofs.any_order.entries_fit.Statement.{statement}
 use Rattle.sorting.proofs.any_order.entries_fit.Tie as tie
 
 -- behind the first test the number of bytes fits
-abbrev bytes : tie.Else1 → List ℕ
-bytes k = k.before.before.before.args.s.now
+abbrev bytes : tie.Else-not-size_fits → List ℕ
+bytes k = k.args.s.now
 
-fits : (k : tie.Else1) → size_fits (length (bytes k)) ≡ true
-fits k = sym k.before.size_fits.ensures ∙ not-false k.before.size_fits.result k.if1.false
+fits : (k : tie.Else-not-size_fits) → size_fits (length (bytes k)) ≡ true
+fits k = sym k.size_fits.ensures ∙ k.if-not-size_fits.false
 
-sized : (k : tie.Else1) → Sized (length (bytes k))
+sized : (k : tie.Else-not-size_fits) → Sized (length (bytes k))
 sized k = fits-size (length (bytes k)) (fits k)
 
-returns : tie.Need-returns
+returns : tie.Need-returns-then-not-size_fits
 unfolding is_laid_out ◌and◌
 returns c =
-    let call = c.before.size_fits in
-    let unfit = sym call.ensures ∙ not-true call.result c.if1.true in
+    let call = c.size_fits in
+    let unfit = sym call.ensures ∙ c.if-not-size_fits.true in
     rw unfit
 
-sub-count : tie.Need-overflow-sub-count
+sub-count : tie.Need-overflow_sub-count
 sub-count c = omega (arith, (sized c).whole)
 
-front-fits-requires : tie.Need-front-fits-requires
+front-fits-requires : tie.Need-front_fits-requires
 unfolding room_in
 front-fits-requires c κs =
     let size = sized c in
     (omega (arith, size.high), omega (arith, size.whole))
 
-records-fit-requires : tie.Need-records-fit-requires
+records-fit-requires : tie.Need-records_fit-requires
 unfolding room_in
 records-fit-requires c κs = (sized c.before).whole
 
-returns-2 : tie.Need-returns-2
+returns-2 : tie.Need-returns
 unfolding room_in ◌and◌
 returns-2 c =
     let k = c.before.before in
-    rw (entries-parts (bytes k) (fits k), ← c.before.front-fits.ensures, ← c.records-fit.ensures)
+    rw (entries-parts (bytes k) (fits k), ← c.front_fits.ensures, ← c.records_fit.ensures)
 
-pub entries-fit-spec : {M : Type 1} → statement M
-entries-fit-spec =
+pub entries_fit_spec : {M : Type 1} → statement M
+entries_fit_spec =
     tie.close
     (tie.spec (λ c κs. tt) returns sub-count front-fits-requires records-fit-requires returns-2)

@@ -20,25 +20,25 @@ slot o = slot_at records_from o.args.s.now o.args.i
 abbrev behind : tie.Start → List (List ℕ)
 behind o = slots_from records_from o.args.count o.args.s.now (o.args.i + 1)
 
-returns : tie.Need-returns
+returns : tie.Need-returns-then-are_zero
 returns c =
     let o = c.before.before.before in
     slot-free record_bytes record_in (record_fits (store_in o.args.s.now)) anywhere (slot o) (behind o)
-    c.before.are-zero.ensures c.if1.true
+    c.are_zero.ensures c.if-are_zero.true
 
-returns-2 : tie.Need-returns-2
+returns-2 : tie.Need-returns
 unfolding ◌and◌
 returns-2 c =
     let e = c.before.before in
     let d = e.before in
     let o = d.before.before.before in
-    sym (and-true (e.is-record-exact.result and c.record-fits.result)) ∙
+    sym (and-true (e.is_record_exact.result and c.record_fits.result)) ∙
     slot-taken record_bytes record_in (record_fits (store_in o.args.s.now)) anywhere (slot o) (behind o)
-    d.before.are-zero.ensures d.if1.false {q = e.is-record-exact.result and c.record-fits.result}
-    (rw (e.is-record-exact.ensures, c.record-fits.ensures, c.before.record-at.ensures)) refl
+    d.are_zero.ensures d.if-are_zero.false {q = e.is_record_exact.result and c.record_fits.result}
+    (rw (e.is_record_exact.ensures, c.record_fits.ensures, c.record_at.ensures)) refl
 
-pub record-slot-fits-spec : {M : Type 1} → statement M
-record-slot-fits-spec =
+pub record_slot_fits_spec : {M : Type 1} → statement M
+record_slot_fits_spec =
     tie.close
     (tie.spec
     (λ c. search rules) (λ c. search rules) (λ c κs. search rules) returns (λ c κs. search rules) (λ c κs. search rules)

@@ -14,37 +14,37 @@ use Rattle.sorting.proofs.any_order.records_fit.Tie as tie
 abbrev test : List ℕ → List ℕ → List (List ℕ) → Bool
 test s = slot_fits record_bytes record_in (record_fits (store_in s)) anywhere
 
-abbrev invariant-loop : tie.invariant-loop
+abbrev invariant-loop : tie.invariant-loop-i
 invariant-loop s count i₀ i = every_from (test s) records_from count s 0 ≡ every_from (test s) records_from count s i
 
-abbrev decreases-loop : tie.decreases-loop
+abbrev decreases-loop : tie.decreases-loop-i
 decreases-loop s count i₀ i = count - i
 
-loop-holds : tie.Need-loop-init invariant-loop decreases-loop
+loop-holds : tie.Need-loop-i-init invariant-loop decreases-loop
 loop-holds c = refl
 
-returns : tie.Need-returns invariant-loop decreases-loop
+returns : tie.Need-returns-then-not-record_slot_fits invariant-loop decreases-loop
 returns c =
-    let l = c.before.before.before in
-    let a = l.before.before.args in
-    fails (test a.s.now) records_from a.count a.s.now l.loop.i l.loop.invariant (omega arith)
-    c.before.record-slot-fits.ensures c.if1.true
+    let l = c in
+    let a = l.args in
+    fails (test a.s.now) records_from a.count a.s.now l.loop-i.i l.loop-i.invariant (omega arith)
+    c.record_slot_fits.ensures c.if-not-record_slot_fits.true
 
-loop-again : tie.Need-loop-preserved invariant-loop decreases-loop
+loop-again : tie.Need-loop-i-preserved invariant-loop decreases-loop
 loop-again c =
-    let l = c.before.before.before in
-    let a = l.before.before.args in
-    passes (test a.s.now) records_from a.count a.s.now l.loop.i l.loop.invariant (omega arith)
-    c.before.record-slot-fits.ensures c.if1.false
+    let l = c in
+    let a = l.args in
+    passes (test a.s.now) records_from a.count a.s.now l.loop-i.i l.loop-i.invariant (omega arith)
+    c.record_slot_fits.ensures c.if-not-record_slot_fits.false
 
-returns-2 : tie.Need-returns-2 invariant-loop decreases-loop
+returns-2 : tie.Need-returns invariant-loop decreases-loop
 returns-2 c =
-    let l = c.before in
-    let a = l.before.before.args in
-    passed (test a.s.now) records_from a.count a.s.now l.loop.i l.loop.invariant (omega arith)
+    let l = c in
+    let a = l.args in
+    passed (test a.s.now) records_from a.count a.s.now l.loop-i.i l.loop-i.invariant (omega arith)
 
-pub records-fit-spec : {M : Type 1} → statement M
-records-fit-spec =
+pub records_fit_spec : {M : Type 1} → statement M
+records_fit_spec =
     tie.close
     (tie.spec
     invariant-loop decreases-loop loop-holds (λ c κs. omega arith) returns (λ c. omega arith) (λ c. omega arith) loop-again returns-2)
