@@ -55,59 +55,59 @@ unfit-answer : (bs o b : List ℕ) → is_fit bs ≡ false → answer_to bs o b 
 unfolding answer_to table first_given
 unfit-answer bs o b h = rw h
 
-returns : tie.Need-returns
+returns : tie.Need-returns-in_default
 returns c =
-    let check = c.before.before in
-    let a = check.before.before.before.before.before.args in
+    let check = c in
+    let a = check.args in
     let s = a.store.now in
-    let unfit = used-unfit (is_fit s) s (sym check.used-if-fit.ensures ∙ c.enum_told.given.1) in
+    let unfit = used-unfit (is_fit s) s (sym check.used_if_fit.ensures ∙ c.in_default.is) in
     refuses s a.output.now a.datagram.now 1 (sym (unfit-answer s a.output.now a.datagram.now unfit))
     (λ e. omega arith)
 
 -- BEHIND THE CHECK the store is fit, and it is known how many packet records are in use
-abbrev bytes : tie.After-known-told → List ℕ
-bytes k = k.before.before.before.before.before.before.before.before.args.store.now
+abbrev bytes : tie.In-At → List ℕ
+bytes k = k.args.store.now
 
-checked : (k : tie.After-known-told) →
-    (is_fit (bytes k) ≡ true) × (k.before.used.given.0.0 ≡ used_slots (store_in (bytes k)).records)
+checked : (k : tie.In-At) →
+    (is_fit (bytes k) ≡ true) × (k.in-At.used ≡ used_slots (store_in (bytes k)).records)
 checked k =
-    used-fit (is_fit (bytes k)) (bytes k) k.before.used.given.0.0
-    (sym k.before.before.before.used-if-fit.ensures ∙ k.before.used.given.1)
+    used-fit (is_fit (bytes k)) (bytes k) k.in-At.used
+    (sym k.used_if_fit.ensures ∙ k.in-At.is)
 
-answer-requires : tie.Need-answer-requires
-answer-requires c κs = (checked c.before).0
+answer-requires : tie.Need-answer-number-requires
+answer-requires c κs = (checked c).0
 
-zero : (c : tie.Else1) → let k = c.before.before.before in
-    let a = k.before.before.before.before.before.before.before.before.args in
+zero : (c : tie.Else-number-ne0) → let k = c in
+    let a = k.args in
     answer_to a.store.now a.output.now a.datagram.now ≡ 0
 unfolding answer_to
-zero c = sym c.before.answer.ensures ∙ c.if1.false
+zero c = sym c.answer-number.ensures ∙ c.if-number-ne0.false
 
-returns-2 : tie.Need-returns-2
+returns-2 : tie.Need-returns-then-number-ne0
 unfolding answer_to
 returns-2 c =
-    let k = c.before.before.before in
-    let a = k.before.before.before.before.before.before.before.before.args in
-    let call = c.before.answer in
-    refuses a.store.now a.output.now a.datagram.now call.result call.ensures c.if1.true
+    let k = c in
+    let a = k.args in
+    let call = c.answer-number in
+    refuses a.store.now a.output.now a.datagram.now call.result call.ensures c.if-number-ne0.true
 
-accept-requires : tie.Need-accept-requires
+accept-requires : tie.Need-accept-size-requires
 accept-requires c κs =
     let test = c.before.before in
-    (zero test, (checked test.before.before.before).1)
+    (zero test, (checked test.before.before).1)
 
-returns-3 : tie.Need-returns-3
+returns-3 : tie.Need-returns
 returns-3 c =
     let call = c.before.before.before.before in
     let test = call.before.before.before in
-    let k = test.before.before.before in
-    let a = k.before.before.before.before.before.before.before.before.args in
-    let left = call.accept in
-    carries-out a.store.now a.output.now a.datagram.now (zero test) left.result left.new.0
-    left.new.1.0 left.ensures.0 left.ensures.1.0 left.ensures.1.1
+    let k = c in
+    let a = k.args in
+    let left = call.accept-size in
+    carries-out a.store.now a.output.now a.datagram.now (zero test) left.result left.new.store
+    left.new.output left.ensures.0 left.ensures.1.0 left.ensures.1.1
 
-pub handle-spec : {M : Type 1} → statement M
-handle-spec =
+pub handle_spec : {M : Type 1} → statement M
+handle_spec =
     tie.close
     (tie.spec
     (λ c κs. search rules) (λ c. search rules) (λ c. search rules) (λ c. search rules) returns answer-requires

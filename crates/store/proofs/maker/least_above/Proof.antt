@@ -11,45 +11,45 @@ use Rattle.openings.specs.Opening.{opening_size, ends_of, ends_from}
 use Rattle.openings.proofs.OpeningLaws.{openings-over}
 use Rattle.openings.specs.Maker.{least_above}
 use Rattle.openings.proofs.LeastLaws.{least-turn}
-use Rattle.store.proofs.maker.least-above.Statement.{statement}
-use Rattle.store.proofs.maker.least-above.Tie as tie
+use Rattle.store.proofs.maker.least_above.Statement.{statement}
+use Rattle.store.proofs.maker.least_above.Tie as tie
 
-abbrev invariant-loop : tie.invariant-loop
+abbrev invariant-loop : tie.invariant-loop-i
 invariant-loop openings i₀ next₀ i next =
     (i ≤ length openings / opening_size) × (next ≡ least_above (ends_from openings i))
 
-abbrev decreases-loop : tie.decreases-loop
+abbrev decreases-loop : tie.decreases-loop-i
 decreases-loop openings i₀ next₀ i next = i
 
-loop-holds : tie.Need-loop-init invariant-loop decreases-loop
+loop-holds : tie.Need-loop-i-init invariant-loop decreases-loop
 unfolding least_above
 loop-holds c =
-    let bs = c.before.args.openings.now in
+    let bs = c.args.openings.now in
     (omega arith, rw (openings-over bs (length bs / opening_size) (omega arith)))
 
 -- a turn, by the number that is read
-turn : (u : tie.After-u32-at invariant-loop decreases-loop) → let l = u.before.before in
-    least_above (ends_from l.before.before.args.openings.now (l.loop.i - 1)) ≡
-    pick (ltb u.u32-at.result l.loop.next) l.loop.next (u.u32-at.result + 1)
+turn : (u : tie.After-u32_at-number invariant-loop decreases-loop) → let l = u.before.before in
+    least_above (ends_from l.args.openings.now (l.loop-i.i - 1)) ≡
+    pick (ltb u.u32_at-number.result l.loop-i.next) l.loop-i.next (u.u32_at-number.result + 1)
 turn u =
-    let l = u.before.before in
-    let bs = l.before.before.args.openings.now in
-    rw (u.u32-at.ensures, l.loop.invariant.1) (least-turn bs l.loop.i (omega arith) (omega arith))
+    let l = u in
+    let bs = l.args.openings.now in
+    rw (u.u32_at-number.ensures, l.loop-i.invariant.1) (least-turn bs l.loop-i.i (omega arith) (omega arith))
 
-loop-again : tie.Need-loop-preserved invariant-loop decreases-loop
-loop-again c = (omega arith, rw (turn c.before, le-ltb _ _ c.if1.true))
+loop-again : tie.Need-loop-i-preserved-then-next-number invariant-loop decreases-loop
+loop-again c = (omega arith, rw (turn c.before, le-ltb _ _ c.if-next-number.true))
 
-loop-again-2 : tie.Need-loop-preserved-2 invariant-loop decreases-loop
-loop-again-2 c = (omega arith, rw (turn c.before, lt-ltb _ _ c.if1.false))
+loop-again-2 : tie.Need-loop-i-preserved invariant-loop decreases-loop
+loop-again-2 c = (omega arith, rw (turn c.before, lt-ltb _ _ c.if-next-number.false))
 
 returns : tie.Need-returns invariant-loop decreases-loop
 unfolding ends_of
 returns c =
-    let end : c.before.loop.i ≡ 0 = omega arith in
-    c.before.loop.invariant.1 ∙ rw (ends_of, end, sub-zero)
+    let end : c.loop-i.i ≡ 0 = omega arith in
+    c.loop-i.invariant.1 ∙ rw (ends_of, end, sub-zero)
 
-pub least-above-spec : {M : Type 1} → statement M
-least-above-spec =
+pub least_above_spec : {M : Type 1} → statement M
+least_above_spec =
     tie.close
     (tie.spec
     invariant-loop decreases-loop loop-holds (λ c. omega arith) (λ c. omega arith) (λ c. omega arith) (λ c κs. omega arith)
