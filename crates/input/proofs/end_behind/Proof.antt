@@ -28,8 +28,8 @@ end_behind_spec =
     (tie.spec
     (λ c κs. search rules) (λ c. search rules)
     (λ c.
-      let piece = c.args.piece.now in
-      let e = c.end_within-from.ensures in
-      let from = length_front c.end_within-from.result c.args.held piece e.0 e.1 in
-      both (length piece) c.args.held c.args.read piece (omega (arith, from)))
+    let piece = c.args.piece.now in
+    let e = c.end_within-from.ensures in
+    let from = length_front c.end_within-from.result c.args.held piece e.0 e.1 in
+    both (length piece) c.args.held c.args.read piece (omega (arith, from)))
     (λ c. search rules) returns-2)

@@ -78,6 +78,6 @@ front_at_spec =
     (tie.spec
     returns (λ c. search rules) returns-2 (λ c κs. search rules) (λ c. search rules) returns-3 returns-4
     (λ c.
-      let u = c.before.before.before in
-      rw (read u, is-in c.if-size-lt-LEAST.false c.if-size-gt-GREATEST.false, lt-ltb (left u) (size u) (omega arith)))
+    let u = c.before.before.before in
+    rw (read u, is-in c.if-size-lt-LEAST.false c.if-size-gt-GREATEST.false, lt-ltb (left u) (size u) (omega arith)))
     returns-6)

@@ -31,8 +31,8 @@ part_at_spec =
     (tie.spec
     (λ c κs. search rules) (λ c. search rules) (λ c. search rules) (λ c. search rules) (λ c. search rules)
     (λ c.
-      let w = c.end_within-from in
-      let src = c.args.src.now in
-      let from = length_front w.result c.args.at src w.ensures.0 w.ensures.1 in
-      part-most w.result c.args.at (length src - w.result) c.args.size src from (omega arith))
+    let w = c.end_within-from in
+    let src = c.args.src.now in
+    let from = length_front w.result c.args.at src w.ensures.0 w.ensures.1 in
+    part-most w.result c.args.at (length src - w.result) c.args.size src from (omega arith))
     (λ c. search rules) (λ c. search rules) (λ c. search rules) (λ c. search rules) returns-2)

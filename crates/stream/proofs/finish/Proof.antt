@@ -28,30 +28,12 @@ returns c =
     let a = c.args in
     rw (last-nowhere (length a.text.now) a.replay a.left c.if-text-lt-LINE.true) (refl, refl)
 
-returns-2 : tie.Need-returns-then-left-eq0
-returns-2 c =
-    let t = c in
-    let a = t.args in
-    let zero = eq-eqb a.left 0 t.if-left-eq0.true in
-    let e : last_line a.replay a.left ≡ line_of end_word a.replay.count =
-    rw (t.in-Running.is, zero) in
-    stored a.text.now a.replay a.left (omega arith) e c.put_word_line-then-left-eq0.ensures
-
 returns-3 : tie.Need-returns-in-Before
 returns-3 c =
     let t = c in
     let a = t.args in
     let e : last_line a.replay a.left ≡ line_of torn_word 0 = rw t.in-Before.is in
     stored a.text.now a.replay a.left (omega arith) e c.put_word_line.ensures
-
-returns-4 : tie.Need-returns-else-left-eq0
-returns-4 c =
-    let t = c in
-    let a = t.args in
-    let some = ne_eqb a.left 0 t.if-left-eq0.false in
-    let e : last_line a.replay a.left ≡ line_of torn_word a.replay.count =
-    rw (t.in-Running.is, some) in
-    stored a.text.now a.replay a.left (omega arith) e c.put_word_line-in-Running.ensures
 
 returns-5 : tie.Need-returns-in-Over
 unfolding patch
@@ -64,5 +46,15 @@ finish_spec =
     tie.close
     (tie.spec
     returns (λ c. search rules) (λ c κs. search rules) (λ c. search rules) (λ c κs. search rules) (λ c. search rules)
-    returns-2 (λ c κs. search rules) (λ c. search rules) (λ c. search rules) returns-3 (λ c. search rules) returns-4
+    (λ c.
+    let a = c.args in
+    let zero = eq-eqb a.left 0 (omega arith) in
+    let e : last_line a.replay a.left ≡ line_of end_word a.replay.count = rw (c.in-Running.is, zero) in
+    stored a.text.now a.replay a.left (omega arith) e (search rules))
+    (λ c κs. search rules) (λ c. search rules) (λ c. search rules) returns-3 (λ c. search rules)
+    (λ c.
+    let a = c.args in
+    let some = ne_eqb a.left 0 (omega arith) in
+    let e : last_line a.replay a.left ≡ line_of torn_word a.replay.count = rw (c.in-Running.is, some) in
+    stored a.text.now a.replay a.left (omega arith) e c.put_word_line-in-Running.ensures)
     returns-5)
