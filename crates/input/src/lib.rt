@@ -1,5 +1,6 @@
 // The input as it is read, piece by piece: what a read gave, and the bytes of a piece that are held for the next read.
 #![tactic(auto)]
+
 ghost use Rattle.std.specs.Prelude.{◌≡◌, ◌++◌, ◌-◌, ◌≤◌, length, take, drop};
 ghost use Rattle.wire.specs.Bytes.{part, patch};
 ghost use Rattle.input.specs.Given.{given_of};

@@ -2,6 +2,7 @@
 // record, and `moved` is a reader at another place. The functions over it are thin, since each is proved by a walk: the
 // work is `front_at` and `part_at`. Other crates use `next_at` and `bytes_at`, whose parameters are plain.
 #![tactic(auto)]
+
 ghost use Rattle.std.specs.Prelude.{◌≡◌, drop};
 ghost use Rattle.wire.specs.Bytes.{part};
 ghost use Rattle.reader.specs.Front.{front_of};

@@ -1,6 +1,7 @@
 // Reads a trace from standard input and writes its transcript to standard output. What each read does is the library's,
 // `stream`: here bytes are only read and written.
 #![tactic(auto)]
+
 use input::end_within;
 use libc::{STDIN_FILENO, STDOUT_FILENO};
 use stream::{PIECE, ROOM, Reading, TEXT, after_read, begin};

@@ -1,6 +1,7 @@
 // What the replay program does with each read of its input: the bytes that are fed, the text that is to be written, the
 // bytes that are kept for the next read, and whether there is to be one.
 #![tactic(auto)]
+
 ghost use Rattle.std.specs.Prelude.{◌≡◌, false, ◌/◌, ◌≤◌, length, take, drop};
 ghost use Rattle.wire.specs.Bytes.{patch};
 ghost use Rattle.input.specs.Given.{given_of};

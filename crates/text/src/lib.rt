@@ -1,5 +1,6 @@
 // Lines of text, stored from a place on. Each function answers the place behind what it stored.
 #![tactic(auto)]
+
 ghost use Rattle.std.specs.Prelude.{◌≡◌, ◌+◌, ◌≤◌, length};
 ghost use Rattle.wire.specs.Bytes.{patch};
 ghost use Rattle.text.specs.Line.{decimal_of, line_of, tail_of};

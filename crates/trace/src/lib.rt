@@ -1,5 +1,6 @@
 // A trace of one ledger: a first record that opens the store, then datagrams, each answered by a line.
 #![tactic(auto)]
+
 mod records; // what a record does
 
 pub use records::{is_over, over, start, step};

@@ -1,6 +1,7 @@
 // The text that the replay program prints for its input. A piece of the input is fed record by record, and what is left
 // of it goes before the next piece.
 #![tactic(auto)]
+
 ghost use Rattle.std.specs.Prelude.{◌+◌, ◌/◌, ◌≤◌, length, drop};
 ghost use Rattle.transcript.specs.Transcript.{fed, line_room};
 ghost use Rattle.transcript.specs.Feeds.{Feeds};
