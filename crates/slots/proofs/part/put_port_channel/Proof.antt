@@ -9,8 +9,8 @@ returns c =
     let first = c.before.before.before.before.before.before in
     let a = first.before.before.before.args in
     patch-two a.at 2 4 a.port a.channel a.s.now
-    first.put-u16.ensures c.before.before.put-u32.ensures
+    first.put_u16.ensures c.before.before.put_u32.ensures
 
-pub put-port-channel-spec : {M : Type 1} → statement M
-put-port-channel-spec =
+pub put_port_channel_spec : {M : Type 1} → statement M
+put_port_channel_spec =
     tie.close (tie.spec (λ c κs. search rules) (λ c. search rules) (λ c κs. search rules) (λ c. search rules) returns)

@@ -12,16 +12,16 @@ returns c =
     let port = counterparty.before.before.before.before in
     let head = port.before.before.before.before in
     rw (
-      version.put-version.ensures,
+      version.put_version.ensures,
       counters.put_three.ensures,
-      counterparty.put-port-channel.ensures,
-      port.put-u16.ensures,
-      head.put-head.ensures,
+      counterparty.put_port_channel.ensures,
+      port.put_u16.ensures,
+      head.put_head.ensures,
       channel-stored,
     )
 
-pub put-channel-spec : {M : Type 1} → statement M
-put-channel-spec =
+pub put_channel_spec : {M : Type 1} → statement M
+put_channel_spec =
     tie.close
     (tie.spec
     (λ c κs. search rules) (λ c. search rules) (λ c κs. search rules) (λ c. search rules) (λ c κs. search rules)

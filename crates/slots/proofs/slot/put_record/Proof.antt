@@ -9,10 +9,10 @@ returns c =
     let digest = c.before.before in
     let times = digest.before.before.before.before.before in
     let head = times.before.before.before.before in
-    rw (digest.put-digest.ensures, times.put_three.ensures, head.put-head.ensures, record-stored)
+    rw (digest.put_digest.ensures, times.put_three.ensures, head.put_head.ensures, record-stored)
 
-pub put-record-spec : {M : Type 1} → statement M
-put-record-spec =
+pub put_record_spec : {M : Type 1} → statement M
+put_record_spec =
     tie.close
     (tie.spec
     (λ c κs. search rules) (λ c. search rules) (λ c κs. search rules) (λ c. search rules) (λ c κs. search rules)
