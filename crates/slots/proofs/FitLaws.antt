@@ -30,9 +30,9 @@ fits-size n h =
     let r = eqb-true ((n - records_from) % slot_size) 0 (and_both h).1 in
     record { low = omega arith; high = omega arith; whole = omega arith }
 
-pub size_fits : (n : ℕ) → 1 ≤ n → n ≤ record_limit → size_fits (size_for n) ≡ true
+pub size-fits : (n : ℕ) → 1 ≤ n → n ≤ record_limit → size_fits (size_for n) ≡ true
 unfolding size_fits
-size_fits n l u =
+size-fits n l u =
     let a = le-leb (size_for 1) (size_for n) (omega arith) in
     let b = le-leb (size_for n) (size_for record_limit) (omega arith) in
     both-and (both-and a b) (eq-eqb ((size_for n - records_from) % slot_size) 0 (omega arith))
@@ -142,7 +142,7 @@ fit-fields bs b h = laid-fields bs b (and_both h).0 (and_both (and_both h).1).0
 laid_of : (s : Store) → StoreFields s → is_laid_out (bytes_of s) ≡ true
 unfolding is_laid_out
 laid_of s ok =
-    let z = size_fits (length s.records) ok.low ok.high in
+    let z = size-fits (length s.records) ok.low ok.high in
     rw (read_back s ok, size_of s ok) (both-and z (eq-same (bytes_of s)))
 
 pub fit_of : (s : Store) → StoreFields s → store_fits s ≡ true → is_fit (bytes_of s) ≡ true

@@ -17,7 +17,7 @@ use Rattle.slots.specs.Fit.{size_fits, is_laid_out, is_fit}
 use Rattle.slots.specs.Effect.{Exact, with_times, with_next, with_channel_slot, with_records}
 use Rattle.slots.proofs.TableLaws.{Each}
 use Rattle.slots.proofs.LayoutLaws.{ChannelFields, RecordFields, StoreFields, read_back, size_of}
-use Rattle.slots.proofs.FitLaws.{size_fits}
+use Rattle.slots.proofs.FitLaws.{size-fits}
 use Rattle.slots.proofs.TableBytesLaws.{each_set}
 
 pub record Held (s : Store) (bs : List ℕ) : Type 0 where
@@ -42,7 +42,7 @@ module _ {s : Store} {bs : List ℕ} (h : Held s bs) where
       record {
         size =
             ap (λ (l : List ℕ). size_fits (length l)) h.bytes ∙ ap size_fits (size_of s h.fields) ∙
-            size_fits (length s.records) h.fields.low h.fields.high;
+            size-fits (length s.records) h.fields.low h.fields.high;
         laid = ap bytes_of held-store ∙ sym h.bytes;
       }
 
