@@ -17,11 +17,11 @@ use Rattle.changes.proofs.insert_record.Tie as tie
 full : (o : tie.Start) → length o.args.r.digest ≡ 32
 full o = search rules
 
-put-record-requires : tie.Need-put-record-requires
+put-record-requires : tie.Need-put_record-requires
 put-record-requires c κs =
     let shift = c.before.before.before in
     let o = shift.before.before.before in
-    omega (arith, exact-room _ o.requires.0, ap length shift.shift-up.ensures ∙ length-patch _ _ _)
+    omega (arith, exact-room _ o.requires.0, ap length shift.shift_up.ensures ∙ length-patch _ _ _)
 
 returns : tie.Need-returns
 returns c =
@@ -30,13 +30,13 @@ returns c =
     let first = shift.before.before in
     let o = first.before in
     let a = o.args in
-    let bytes = bytes-array a.s.now first.slice-known.given in
+    let bytes = bytes-array a.s.now first.slice_known-1.given in
     put.put_record.ensures ∙
-    ap (patch (records_from + slot_size * a.i) (record_bytes a.r)) shift.shift-up.ensures ∙
+    ap (patch (records_from + slot_size * a.i) (record_bytes a.r)) shift.shift_up.ensures ∙
     exact-inserted a.s.now o.requires.0 bytes a.i a.m a.r (length-record a.r (full o)) o.requires.1
 
-pub insert-record-spec : {M : Type 1} → statement M
-insert-record-spec =
+pub insert_record_spec : {M : Type 1} → statement M
+insert_record_spec =
     tie.close
     (tie.spec
     (λ c. omega (arith, exact-room _ c.before.requires.0)) (λ c. omega (arith, exact-room _ c.before.requires.0))

@@ -13,11 +13,11 @@ use Rattle.changes.proofs.ShiftLaws.{exact-removed}
 use Rattle.changes.proofs.remove_record.Statement.{statement}
 use Rattle.changes.proofs.remove_record.Tie as tie
 
-put-zeros-requires : tie.Need-put-zeros-requires
+put-zeros-requires : tie.Need-put_zeros-requires
 put-zeros-requires c κs =
     let shift = c.before.before.before in
     let o = shift.before.before.before in
-    omega (arith, exact-room _ o.requires.0, ap length shift.shift-down.ensures ∙ length-patch _ _ _)
+    omega (arith, exact-room _ o.requires.0, ap length shift.shift_down.ensures ∙ length-patch _ _ _)
 
 returns : tie.Need-returns
 returns c =
@@ -26,13 +26,13 @@ returns c =
     let first = shift.before.before in
     let o = first.before in
     let a = o.args in
-    let bytes = bytes-array a.s.now first.slice-known.given in
-    put.put-zeros.ensures ∙
-    ap (patch (records_from + slot_size * a.i + slot_size * a.m) (replicate slot_size 0)) shift.shift-down.ensures ∙
+    let bytes = bytes-array a.s.now first.slice_known-1.given in
+    put.put_zeros.ensures ∙
+    ap (patch (records_from + slot_size * a.i + slot_size * a.m) (replicate slot_size 0)) shift.shift_down.ensures ∙
     exact-removed a.s.now o.requires.0 bytes a.i a.m o.requires.1
 
-pub remove-record-spec : {M : Type 1} → statement M
-remove-record-spec =
+pub remove_record_spec : {M : Type 1} → statement M
+remove_record_spec =
     tie.close
     (tie.spec
     (λ c. omega (arith, exact-room _ c.before.requires.0)) (λ c. omega (arith, exact-room _ c.before.requires.0))

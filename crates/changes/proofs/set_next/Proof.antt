@@ -9,9 +9,9 @@ returns : tie.Need-returns
 returns c =
     let call = c.before.before in
     let o = call.before.before.before in
-    rw call.put-u64.ensures (exact-next o.args.s.now o.requires o.args.next)
+    rw call.put_u64.ensures (exact-next o.args.s.now o.requires o.args.next)
 
-pub set-next-spec : {M : Type 1} → statement M
-set-next-spec =
+pub set_next_spec : {M : Type 1} → statement M
+set_next_spec =
     tie.close
     (tie.spec (λ c κs. omega (arith, exact-room _ c.before.before.requires)) (λ c. search rules) returns)

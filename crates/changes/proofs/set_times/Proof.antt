@@ -16,11 +16,11 @@ returns c =
     let a = o.args in
     let h = a.height.0 in
     let both = patch-then 8 8 (little 8 h) (little 8 a.time.0) a.s.now (length-little 8 h) in
-    rw (second.put-u642.ensures, first.put-u64.ensures, both)
+    rw (second.put_u64-2.ensures, first.put_u64.ensures, both)
     (exact-times a.s.now o.requires a.height a.time)
 
-pub set-times-spec : {M : Type 1} → statement M
-set-times-spec =
+pub set_times_spec : {M : Type 1} → statement M
+set_times_spec =
     tie.close
     (tie.spec
     (λ c κs. omega (arith, exact-room _ c.before.before.requires))

@@ -8,10 +8,10 @@ returns : tie.Need-returns
 returns c =
     let o = c.before.before.before.before in
     opening-read o.args.at o.args.openings.now o.requires
-    c.before.before.u8-at.ensures c.before.port-channel-at.ensures c.port-channel-at2.ensures
+    c.u8_at.ensures c.port_channel_at.ensures c.port_channel_at-2.ensures
 
-pub opening-at-spec : {M : Type 1} → statement M
-opening-at-spec =
+pub opening_at_spec : {M : Type 1} → statement M
+opening_at_spec =
     tie.close
     (tie.spec
     (λ c. search rules) (λ c κs. search rules) (λ c. search rules) (λ c κs. search rules) (λ c. search rules)

@@ -13,14 +13,14 @@ returns c =
     let o = order.before.before in
     rw (
       opening-tests o.args.at o.args.openings.now o.requires,
-      ← size.u32-at.ensures,
-      ← c.before.u16-at.ensures,
-      ← order.u8-at.ensures,
-      ← c.u8-at2.ensures,
+      ← size.u32_at.ensures,
+      ← c.u16_at.ensures,
+      ← order.u8_at-order.ensures,
+      ← c.u8_at.ensures,
     )
 
-pub opening-fits-spec : {M : Type 1} → statement M
-opening-fits-spec =
+pub opening_fits_spec : {M : Type 1} → statement M
+opening_fits_spec =
     tie.close
     (tie.spec
     (λ c. search rules) (λ c κs. search rules) (λ c κs. search rules) (λ c. search rules) (λ c. search rules)

@@ -12,14 +12,14 @@ unfolding ◌and◌
 returns c =
     let first = c.before.before.before in
     let o = first.before.before.before in
-    let xs = o.args.t1 in
-    let ys = o.args.t2 in
+    let xs = o.args.a in
+    let ys = o.args.b in
     let l : length xs ≡ 24 = search rules in
     let m : length ys ≡ 24 = search rules in
-    rw (c.same_word.ensures, first.same-two.ensures) (same-arrays 16 8 xs ys l m)
+    rw (c.same_word.ensures, first.same_two.ensures) (same-arrays 16 8 xs ys l m)
 
-pub same-version-spec : {M : Type 1} → statement M
-same-version-spec =
+pub same_version_spec : {M : Type 1} → statement M
+same_version_spec =
     tie.close
     (tie.spec
     (λ c. search rules) (λ c. search rules) (λ c κs. search rules) (λ c. search rules) (λ c. search rules)

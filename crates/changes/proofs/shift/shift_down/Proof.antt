@@ -8,18 +8,18 @@ use Rattle.changes.proofs.ShiftLaws.{Moved, moved_none, moved_as, length_moved, 
 use Rattle.changes.proofs.shift.shift_down.Statement.{statement}
 use Rattle.changes.proofs.shift.shift_down.Tie as tie
 
-abbrev invariant-loop : tie.invariant-loop
+abbrev invariant-loop : tie.invariant-loop-i
 invariant-loop s₀ to size i₀ s i = (i ≤ size) × (length s ≡ length s₀) × Moved s₀ (to + slot_size) to i s
 
-abbrev decreases-loop : tie.decreases-loop
+abbrev decreases-loop : tie.decreases-loop-i
 decreases-loop s₀ to size i₀ s i = size - i
 
-loop-holds : tie.Need-loop-init invariant-loop decreases-loop
+loop-holds : tie.Need-loop-i-init invariant-loop decreases-loop
 loop-holds c = (omega arith, refl, moved_none _ _ _ _ refl)
 
-loop-again : tie.Need-loop-preserved invariant-loop decreases-loop
+loop-again : tie.Need-loop-i-preserved invariant-loop decreases-loop
 loop-again c =
-    let v = c.before.before.loop in
+    let v = c.before.before.loop-i in
     let a = c.before.before.before.args in
     let bs = a.s.now in
     let more = moved-behind bs (a.to + slot_size) a.to v.i (omega arith) (omega arith) v.invariant.2 in
@@ -27,13 +27,13 @@ loop-again c =
 
 returns : tie.Need-returns invariant-loop decreases-loop
 returns c =
-    let v = c.before.loop in
+    let v = c.before.loop-i in
     let a = c.before.before.args in
     moved_as a.s.now v.s _ _ _ refl refl (omega arith) v.invariant.2
 
-pub shift-down-spec : {M : Type 1} → statement M
-shift-down-spec =
+pub shift_down_spec : {M : Type 1} → statement M
+shift_down_spec =
     tie.close
     (tie.spec
     invariant-loop decreases-loop loop-holds (λ c. omega arith) (λ c. omega arith) (λ c. omega arith) (λ c. omega arith)
-    (λ c. omega arith) (λ c. omega arith) (λ c. omega arith) loop-again (λ c. c.before.loop.invariant.1) returns)
+    (λ c. omega arith) (λ c. omega arith) (λ c. omega arith) loop-again (λ c. c.before.loop-i.invariant.1) returns)

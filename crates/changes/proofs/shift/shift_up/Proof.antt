@@ -8,19 +8,19 @@ use Rattle.changes.proofs.ShiftLaws.{Moved, moved_none, moved_as, length_moved, 
 use Rattle.changes.proofs.shift.shift_up.Statement.{statement}
 use Rattle.changes.proofs.shift.shift_up.Tie as tie
 
-abbrev invariant-loop : tie.invariant-loop
+abbrev invariant-loop : tie.invariant-loop-i
 invariant-loop s₀ from size i₀ s i =
     (i ≤ size) × (length s ≡ length s₀) × Moved s₀ (from + i) (from + slot_size + i) (size - i) s
 
-abbrev decreases-loop : tie.decreases-loop
+abbrev decreases-loop : tie.decreases-loop-i
 decreases-loop s₀ from size i₀ s i = i
 
-loop-holds : tie.Need-loop-init invariant-loop decreases-loop
+loop-holds : tie.Need-loop-i-init invariant-loop decreases-loop
 loop-holds c = (omega arith, refl, moved_none _ _ _ _ (omega arith))
 
-loop-again : tie.Need-loop-preserved invariant-loop decreases-loop
+loop-again : tie.Need-loop-i-preserved invariant-loop decreases-loop
 loop-again c =
-    let v = c.before.before.loop in
+    let v = c.before.before.loop-i in
     let a = c.before.before.before.args in
     let bs = a.s.now in
     let i : ℕ = v.i - 1 in
@@ -36,13 +36,13 @@ loop-again c =
 
 returns : tie.Need-returns invariant-loop decreases-loop
 returns c =
-    let v = c.before.loop in
+    let v = c.before.loop-i in
     let a = c.before.before.args in
     moved_as a.s.now v.s _ _ _ (omega arith) (omega arith) (omega arith) v.invariant.2
 
-pub shift-up-spec : {M : Type 1} → statement M
-shift-up-spec =
+pub shift_up_spec : {M : Type 1} → statement M
+shift_up_spec =
     tie.close
     (tie.spec
     invariant-loop decreases-loop loop-holds (λ c. omega arith) (λ c. omega arith) (λ c. omega arith) (λ c. omega arith)
-    (λ c. omega arith) (λ c. omega arith) (λ c. omega arith) loop-again (λ c. c.before.loop.invariant.1) returns)
+    (λ c. omega arith) (λ c. omega arith) (λ c. omega arith) loop-again (λ c. c.before.loop-i.invariant.1) returns)

@@ -10,13 +10,13 @@ use Rattle.datagram.proofs.place.counterparty_place.Statement.{statement}
 use Rattle.datagram.proofs.place.counterparty_place.Tie as tie
 
 -- of the kinds that have it, one is not an open try
-last : tie.Need-returns-2
+last : tie.Need-returns-in_default
 unfolding with_number body has_part size_before ◌or◌
 last c =
     by_part (λ (n : ℕ). body_from + 4 ≡ place_of counterparty_part (kind_of n)) ((7 ∷ []) ∷ []) counterparty_part refl
-    c.before.args.kind c.match.rest c.before.requires
+    c.args.kind c.in_default.in_default-own.rest c.requires
 
-pub counterparty-place-spec : {M : Type 1} → statement M
+pub counterparty_place_spec : {M : Type 1} → statement M
 unfolding with_number body size_before
-counterparty-place-spec =
-    tie.close (tie.spec (λ c. search rules) (λ c. search rules) (λ c. rw c.match.keys1) last)
+counterparty_place_spec =
+    tie.close (tie.spec (λ c. search rules) (λ c. search rules) (λ c. rw c.in-7.is) last)

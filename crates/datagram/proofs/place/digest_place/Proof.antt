@@ -10,14 +10,14 @@ use Rattle.datagram.proofs.place.digest_place.Statement.{statement}
 use Rattle.datagram.proofs.place.digest_place.Tie as tie
 
 -- of the kinds that have a digest, one is neither a send nor a write
-last : tie.Need-returns-3
+last : tie.Need-returns-in_default
 unfolding with_number body has_part size_before ◌or◌
 last c =
     by_part (λ (n : ℕ). body_from + packet_size ≡ place_of digest_part (kind_of n)) ((1 ∷ []) ∷ (3 ∷ []) ∷ [])
-    digest_part refl c.before.args.kind c.match.rest c.before.requires
+    digest_part refl c.args.kind c.in_default.in_default-own.rest c.requires
 
-pub digest-place-spec : {M : Type 1} → statement M
+pub digest_place_spec : {M : Type 1} → statement M
 unfolding with_number body size_before
-digest-place-spec =
-    tie.close (tie.spec (λ c. search rules) (λ c. search rules) (λ c. search rules) (λ c. rw c.match.keys1)
-    (λ c. rw c.match.keys2) last)
+digest_place_spec =
+    tie.close (tie.spec (λ c. search rules) (λ c. search rules) (λ c. search rules) (λ c. rw c.in-1.is)
+    (λ c. rw c.in-3.is) last)

@@ -10,13 +10,13 @@ use Rattle.datagram.proofs.place.version_place.Statement.{statement}
 use Rattle.datagram.proofs.place.version_place.Tie as tie
 
 -- of the kinds that have a version, one is not an open init
-last : tie.Need-returns-2
+last : tie.Need-returns-in_default
 unfolding with_number body has_part size_before ◌or◌
 last c =
     by_part (λ (n : ℕ). body_from + 7 + end_verdict_size ≡ place_of version_part (kind_of n)) ((6 ∷ []) ∷ []) version_part refl
-    c.before.args.kind c.match.rest c.before.requires
+    c.args.kind c.in_default.in_default-own.rest c.requires
 
-pub version-place-spec : {M : Type 1} → statement M
+pub version_place_spec : {M : Type 1} → statement M
 unfolding with_number body size_before
-version-place-spec =
-    tie.close (tie.spec (λ c. search rules) (λ c. search rules) (λ c. search rules) (λ c. rw c.match.keys1) last)
+version_place_spec =
+    tie.close (tie.spec (λ c. search rules) (λ c. search rules) (λ c. search rules) (λ c. rw c.in-6.is) last)

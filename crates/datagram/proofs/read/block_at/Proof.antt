@@ -7,7 +7,7 @@ use Rattle.datagram.proofs.read.block_at.Tie as tie
 returns : tie.Need-returns
 unfolding block_in
 returns c = λ i.
-    record { height = record { 0 = c.before.u64-at.ensures i }; time = record { 0 = c.u64-at2.ensures i } }
+    record { height = record { 0 = c.u64_at.ensures i }; time = record { 0 = c.u64_at-2.ensures i } }
 
-pub block-at-spec : {M : Type 1} → statement M
-block-at-spec = tie.close (tie.spec (λ c κs. search rules) (λ c. search rules) (λ c κs. search rules) returns)
+pub block_at_spec : {M : Type 1} → statement M
+block_at_spec = tie.close (tie.spec (λ c κs. search rules) (λ c. search rules) (λ c κs. search rules) returns)

@@ -12,19 +12,19 @@ returns c =
     let client = c.before.before in
     let time = client.before.before in
     λ i. record {
-      height = record { 0 = time.before.u64-at.ensures i };
-      time = record { 0 = time.u64-at2.ensures i };
+      height = record { 0 = time.u64_at.ensures i };
+      time = record { 0 = time.u64_at-2.ensures i };
       client =
           record {
-            height = record { 0 = client.before.u64-at3.ensures i };
-            time = record { 0 = client.u64-at4.ensures i };
+            height = record { 0 = client.u64_at-3.ensures i };
+            time = record { 0 = client.u64_at-4.ensures i };
           };
-      port = c.before.u16-at.ensures i;
-      connected = eqb (get_or time.before.before.before.args.d.now 32 0) 1;
+      port = c.u16_at.ensures i;
+      connected = eqb (get_or time.args.d.now 32 0) 1;
     }
 
-pub context-in-spec : {M : Type 1} → statement M
-context-in-spec =
+pub context_in_spec : {M : Type 1} → statement M
+context_in_spec =
     tie.close
     (tie.spec
     (λ c κs. search rules) (λ c. search rules) (λ c κs. search rules) (λ c. search rules) (λ c κs. search rules)

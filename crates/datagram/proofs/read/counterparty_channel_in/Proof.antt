@@ -9,10 +9,10 @@ use Rattle.datagram.proofs.read.counterparty_channel_in.Tie as tie
 
 returns : tie.Need-returns
 unfolding counterparty_from
-returns c = rw (← c.before.counterparty-place.ensures) c.u32-at.ensures
+returns c = rw (← c.counterparty_place.ensures) c.u32_at.ensures
 
-pub counterparty-channel-in-spec : {M : Type 1} → statement M
-counterparty-channel-in-spec =
+pub counterparty_channel_in_spec : {M : Type 1} → statement M
+counterparty_channel_in_spec =
     tie.close
-    (tie.spec (λ c κs. search rules) (λ c κs. omega (arith, part_room counterparty_part _ c.before.before.requires.0))
+    (tie.spec (λ c κs. search rules) (λ c κs. omega (arith, part_room counterparty_part _ c.requires.0))
     returns)

@@ -9,10 +9,10 @@ use Rattle.datagram.proofs.read.digest_in.Tie as tie
 
 returns : tie.Need-returns
 unfolding digest_from
-returns c = rw (← c.before.digest-place.ensures) c.digest-at.ensures
+returns c = rw (← c.digest_place.ensures) c.digest_at.ensures
 
-pub digest-in-spec : {M : Type 1} → statement M
-digest-in-spec =
+pub digest_in_spec : {M : Type 1} → statement M
+digest_in_spec =
     tie.close
-    (tie.spec (λ c κs. search rules) (λ c κs. omega (arith, part_room digest_part _ c.before.before.requires.0))
+    (tie.spec (λ c κs. search rules) (λ c κs. omega (arith, part_room digest_part _ c.requires.0))
     returns)

@@ -10,14 +10,14 @@ returns c =
     let kind = c.before in
     let block = kind.before in
     λ i. record {
-      claim = block.before.u16-at.ensures i;
+      claim = block.u16_at.ensures i;
       block = block.block_at.ensures i;
-      kind = kind.u16-at2.ensures i;
-      end = c.channel-at.ensures i;
+      kind = kind.u16_at-2.ensures i;
+      end = c.channel_at.ensures i;
     }
 
-pub end-verdict-at-spec : {M : Type 1} → statement M
-end-verdict-at-spec =
+pub end_verdict_at_spec : {M : Type 1} → statement M
+end_verdict_at_spec =
     tie.close
     (tie.spec
     (λ c κs. search rules) (λ c. search rules) (λ c κs. search rules) (λ c. search rules) (λ c κs. search rules)

@@ -9,10 +9,10 @@ use Rattle.datagram.proofs.read.end_verdict_in.Tie as tie
 
 returns : tie.Need-returns
 unfolding end_verdict_from
-returns c = rw (← c.before.end-verdict-place.ensures) c.end-verdict-at.ensures
+returns c = rw (← c.end_verdict_place.ensures) c.end_verdict_at.ensures
 
-pub end-verdict-in-spec : {M : Type 1} → statement M
-end-verdict-in-spec =
+pub end_verdict_in_spec : {M : Type 1} → statement M
+end_verdict_in_spec =
     tie.close
-    (tie.spec (λ c κs. search rules) (λ c κs. omega (arith, part_room end_verdict_part _ c.before.before.requires.0))
+    (tie.spec (λ c κs. search rules) (λ c κs. omega (arith, part_room end_verdict_part _ c.requires.0))
     returns)

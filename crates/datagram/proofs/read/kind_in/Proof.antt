@@ -6,8 +6,8 @@ use Rattle.datagram.proofs.read.kind_in.Tie as tie
 
 returns : tie.Need-returns
 unfolding kind_in
-returns c = c.u16-at.ensures
+returns c = c.u16_at.ensures
 
-pub kind-in-spec : {M : Type 1} → statement M
-kind-in-spec =
+pub kind_in_spec : {M : Type 1} → statement M
+kind_in_spec =
     tie.close (tie.spec (λ c κs. search rules) returns)

@@ -9,10 +9,10 @@ use Rattle.datagram.proofs.read.order_in.Tie as tie
 
 returns : tie.Need-returns
 unfolding order_from
-returns c = rw (← c.before.order-place.ensures)
+returns c = rw (← c.order_place.ensures)
 
-pub order-in-spec : {M : Type 1} → statement M
-order-in-spec =
+pub order_in_spec : {M : Type 1} → statement M
+order_in_spec =
     tie.close
-    (tie.spec (λ c κs. search rules) (λ c. omega (arith, part_room order_part _ c.before.before.before.requires.0))
+    (tie.spec (λ c κs. search rules) (λ c. omega (arith, part_room order_part _ c.requires.0))
     returns)

@@ -9,15 +9,15 @@ unfolding packet_in
 returns c =
     let timeout = c.before.before.before in
     λ i. record {
-      sequence = timeout.before.u64-at.ensures i;
-      timeout = timeout.timeout-at.ensures i;
-      source = c.before.before.port-channel-at.ensures i;
-      destination = c.before.port-channel-at2.ensures i;
-      digest = c.digest-at.ensures i;
+      sequence = timeout.u64_at.ensures i;
+      timeout = timeout.timeout_at.ensures i;
+      source = c.port_channel_at.ensures i;
+      destination = c.port_channel_at-2.ensures i;
+      digest = c.digest_at.ensures i;
     }
 
-pub packet-in-spec : {M : Type 1} → statement M
-packet-in-spec =
+pub packet_in_spec : {M : Type 1} → statement M
+packet_in_spec =
     tie.close
     (tie.spec
     (λ c κs. search rules) (λ c. search rules) (λ c κs. search rules) (λ c. search rules) (λ c κs. search rules)

@@ -10,16 +10,16 @@ returns c =
     let about = c.before.before.before in
     let block = about.before in
     λ i. record {
-      claim = block.before.u16-at.ensures i;
+      claim = block.u16_at.ensures i;
       block = block.block_at.ensures i;
-      about = about.port-channel-at.ensures i;
-      sequence = c.before.before.u64-at.ensures i;
-      timeout = c.before.timeout-at.ensures i;
-      digest = c.digest-at.ensures i;
+      about = about.port_channel_at.ensures i;
+      sequence = c.u64_at.ensures i;
+      timeout = c.timeout_at.ensures i;
+      digest = c.digest_at.ensures i;
     }
 
-pub verdict-at-spec : {M : Type 1} → statement M
-verdict-at-spec =
+pub verdict_at_spec : {M : Type 1} → statement M
+verdict_at_spec =
     tie.close
     (tie.spec
     (λ c κs. search rules) (λ c. search rules) (λ c κs. search rules) (λ c. search rules) (λ c κs. search rules)

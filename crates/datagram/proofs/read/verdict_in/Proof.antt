@@ -9,10 +9,10 @@ use Rattle.datagram.proofs.read.verdict_in.Tie as tie
 
 returns : tie.Need-returns
 unfolding verdict_from
-returns c = rw (← c.before.verdict-place.ensures) c.verdict-at.ensures
+returns c = rw (← c.verdict_place.ensures) c.verdict_at.ensures
 
-pub verdict-in-spec : {M : Type 1} → statement M
-verdict-in-spec =
+pub verdict_in_spec : {M : Type 1} → statement M
+verdict_in_spec =
     tie.close
-    (tie.spec (λ c κs. search rules) (λ c κs. omega (arith, part_room verdict_part _ c.before.before.requires.0))
+    (tie.spec (λ c κs. search rules) (λ c κs. omega (arith, part_room verdict_part _ c.requires.0))
     returns)

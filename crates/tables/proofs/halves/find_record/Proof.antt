@@ -31,43 +31,43 @@ answer n bs h k {i} e p =
     ap (λ (j : ℕ). pick (holds (has_key k) (get_or (records n bs) j none)) (At j) Nothing) (sym e) ∙
     ap (λ (b : Bool). pick b (At i) Nothing) p
 
-place-of-requires : tie.Need-place-of-requires
+place-of-requires : tie.Need-place_of-i-requires
 place-of-requires c κs =
     let o = c.before in
     (omega (arith, o.requires.size), order-from o.args.count o.args.s.now o.requires)
 
-returns : tie.Need-returns
+returns : tie.Need-returns-then-has_key
 returns c =
     let call = c.before.before.before in
     let o = call.before.before in
     let a = o.args in
-    let i = call.place_of.result in
-    sym (answer a.count a.s.now o.requires a.k call.place_of.ensures
+    let i = call.place_of-i.result in
+    sym (answer a.count a.s.now o.requires a.k call.place_of-i.ensures
     (ap (holds (has_key a.k)) (slot-at record_in records_from a.count i a.s.now (omega arith)) ∙
-    sym c.before.has-key.ensures ∙ c.if2.true))
+    sym c.has_key.ensures ∙ c.if-has_key.true))
 
-returns-2 : tie.Need-returns-2
+returns-2 : tie.Need-returns-else-has_key
 returns-2 c =
     let call = c.before.before.before in
     let o = call.before.before in
     let a = o.args in
-    let i = call.place_of.result in
-    sym (answer a.count a.s.now o.requires a.k call.place_of.ensures
+    let i = call.place_of-i.result in
+    sym (answer a.count a.s.now o.requires a.k call.place_of-i.ensures
     (ap (holds (has_key a.k)) (slot-at record_in records_from a.count i a.s.now (omega arith)) ∙
-    sym c.before.has-key.ensures ∙ c.if2.false))
+    sym c.has_key.ensures ∙ c.if-has_key.false))
 
-returns-3 : tie.Need-returns-3
+returns-3 : tie.Need-returns-else-i-count
 returns-3 c =
     let call = c.before in
     let o = call.before.before in
     let a = o.args in
-    sym (answer a.count a.s.now o.requires a.k call.place_of.ensures
+    sym (answer a.count a.s.now o.requires a.k call.place_of-i.ensures
     (ap (holds (has_key a.k))
     (get_or-eq_default (records a.count a.s.now) none
     (omega (arith, length-slots record_in records_from a.count a.s.now)))))
 
-pub find-record-spec : {M : Type 1} → statement M
-find-record-spec =
+pub find_record_spec : {M : Type 1} → statement M
+find_record_spec =
     tie.close
     (tie.spec
     place-of-requires (λ c. omega arith) (λ c. omega arith) (λ c κs. omega arith) returns returns-2 returns-3)

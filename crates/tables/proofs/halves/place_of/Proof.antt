@@ -21,11 +21,11 @@ use Rattle.tables.proofs.halves.place_of.Tie as tie
 abbrev records : (count : ℕ) → List ℕ → List (Option Record)
 records n bs = table_from record_in records_from n bs 0
 
-abbrev invariant-loop : tie.invariant-loop
+abbrev invariant-loop : tie.invariant-loop-low
 invariant-loop s count k low₀ high₀ low high =
     (low ≤ place_of k (records count s)) × (place_of k (records count s) ≤ high) × (high ≤ count)
 
-abbrev decreases-loop : tie.decreases-loop
+abbrev decreases-loop : tie.decreases-loop-low
 decreases-loop s count k low₀ high₀ low high = high - low
 
 -- the test of a slot, by the place
@@ -36,44 +36,44 @@ side n bs order k i l e =
     e ∙ ap (holds (λ x. is_before (key_of x) k)) (sym (slot-at record_in records_from n i bs l)) ∙
     holds-place k (records n bs) order i
 
-loop-holds : tie.Need-loop-init invariant-loop decreases-loop
+loop-holds : tie.Need-loop-low-init invariant-loop decreases-loop
 loop-holds c =
-    let a = c.before.args in
+    let a = c.args in
     let most = place-length a.k (records a.count a.s.now) in
     (omega arith, omega (arith, most, length-slots record_in records_from a.count a.s.now), omega arith)
 
 -- the test of the slot in the middle, by the place
-module _ (b : tie.After-stands-before invariant-loop decreases-loop) where
+module _ (b : tie.After-stands_before invariant-loop decreases-loop) where
   abbrev middle : ℕ
-  middle = b.before.before.loop.low + (b.before.before.loop.high - b.before.before.loop.low) / 2
+  middle = b.loop-low.low + (b.loop-low.high - b.loop-low.low) / 2
 
   abbrev place : ℕ
   place =
-      let a = b.before.before.before.before.args in
+      let a = b.args in
       place_of a.k (records a.count a.s.now)
 
-  tested : b.stands-before.result ≡ ltb middle place
+  tested : b.stands_before.result ≡ ltb middle place
   tested =
       let o = b.before.before.before.before in
-      side o.args.count o.args.s.now o.pre.1 o.args.k middle (omega arith) b.stands-before.ensures
+      side o.args.count o.args.s.now o.requires.1 o.args.k middle (omega arith) b.stands_before.ensures
 
-loop-again : tie.Need-loop-preserved invariant-loop decreases-loop
+loop-again : tie.Need-loop-low-preserved-then-stands_before invariant-loop decreases-loop
 loop-again c =
-    let inv = c.before.before.before.loop.invariant in
-    let here = ltb-true (middle c.before) (place c.before) (sym (tested c.before) ∙ c.if1.true) in
+    let inv = c.loop-low.invariant in
+    let here = ltb-true (middle c.before) (place c.before) (sym (tested c.before) ∙ c.if-stands_before.true) in
     (omega (arith, here), inv.1, inv.2)
 
-loop-again-2 : tie.Need-loop-preserved-2 invariant-loop decreases-loop
+loop-again-2 : tie.Need-loop-low-preserved invariant-loop decreases-loop
 loop-again-2 c =
-    let inv = c.before.before.before.loop.invariant in
-    let here = ltb-false (middle c.before) (place c.before) (sym (tested c.before) ∙ c.if1.false) in
+    let inv = c.loop-low.invariant in
+    let here = ltb-false (middle c.before) (place c.before) (sym (tested c.before) ∙ c.if-stands_before.false) in
     (inv.0, here, omega arith)
 
 returns : tie.Need-returns invariant-loop decreases-loop
 returns c = omega arith
 
-pub place-of-spec : {M : Type 1} → statement M
-place-of-spec =
+pub place_of_spec : {M : Type 1} → statement M
+place_of_spec =
     tie.close
     (tie.spec
     invariant-loop decreases-loop loop-holds (λ c. omega arith) (λ c. omega arith) (λ c. omega arith) (λ c. omega arith)

@@ -6,32 +6,32 @@ use Rattle.slots.proofs.SlotTestLaws.{key-held}
 use Rattle.tables.proofs.key.has_key.Statement.{statement}
 use Rattle.tables.proofs.key.has_key.Tie as tie
 
-returns : tie.Need-returns
+returns : tie.Need-returns-then-u64_at-k
 unfolding ◌and◌
 returns c =
     let d = c.before.before in
-    let a = d.before.before.args in
-    rw (key-held a.at a.s.now a.k, ← d.u64-at.ensures, ne_eqb _ _ c.if1.true)
+    let a = d.args in
+    rw (key-held a.at a.s.now a.k, ← d.u64_at.ensures, ne_eqb _ _ c.if-u64_at-k.true)
 
-returns-2 : tie.Need-returns-2
+returns-2 : tie.Need-returns
 unfolding ◌and◌
 returns-2 c =
     let channel = c.before.before in
     let kind = channel.before.before in
     let test = kind.before in
     let sequence = test.before.before in
-    let a = sequence.before.before.args in
+    let a = sequence.args in
     rw (
       key-held a.at a.s.now a.k,
-      ← sequence.u64-at.ensures,
-      eq-eqb _ _ test.if1.false,
-      ← kind.u16-at.ensures,
-      ← channel.u32-at.ensures,
-      ← c.are-zero.ensures,
+      ← sequence.u64_at.ensures,
+      eq-eqb _ _ test.if-u64_at-k.false,
+      ← kind.u16_at.ensures,
+      ← channel.u32_at.ensures,
+      ← c.are_zero.ensures,
     )
 
-pub has-key-spec : {M : Type 1} → statement M
-has-key-spec =
+pub has_key_spec : {M : Type 1} → statement M
+has_key_spec =
     tie.close
     (tie.spec
     (λ c. search rules) (λ c κs. search rules) returns (λ c κs. search rules) (λ c. search rules) (λ c κs. search rules)

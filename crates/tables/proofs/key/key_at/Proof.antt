@@ -9,13 +9,13 @@ use Rattle.tables.proofs.key.key_at.Tie as tie
 returns : tie.Need-returns
 returns c =
     let kind = c.before.before in
-    let a = kind.before.before.args in
+    let a = kind.args in
     ap key_of
-    (record-read a.at a.s.now kind.u16-at.ensures c.before.u32-at.ensures c.u64-at.ensures refl
+    (record-read a.at a.s.now kind.u16_at.ensures c.u32_at.ensures c.u64_at.ensures refl
     refl)
 
-pub key-at-spec : {M : Type 1} → statement M
-key-at-spec =
+pub key_at_spec : {M : Type 1} → statement M
+key_at_spec =
     tie.close
     (tie.spec
     (λ c κs. search rules) (λ c. search rules) (λ c κs. search rules) (λ c. search rules) (λ c κs. search rules)

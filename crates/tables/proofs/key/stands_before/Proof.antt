@@ -12,28 +12,28 @@ use Rattle.slots.proofs.SlotTestLaws.{held}
 use Rattle.tables.proofs.key.stands_before.Statement.{statement}
 use Rattle.tables.proofs.key.stands_before.Tie as tie
 
-returns : tie.Need-returns
+returns : tie.Need-returns-then-not-is_before
 unfolding ◌and◌
 returns c =
     let d = c.before in
-    let a = d.before.before.before.args in
+    let a = d.args in
     let p = part a.at slot_size a.s.now in
     let e : is_before (key_of (record_in p)) a.k ≡ false =
-    ap (λ (q : Key). is_before q a.k) (sym d.before.key-at.ensures) ∙ sym d.is-before.ensures ∙
-    not-true d.is-before.result c.if1.true in
+    ap (λ (q : Key). is_before q a.k) (sym d.key_at.ensures) ∙ sym d.is_before.ensures ∙
+    c.if-not-is_before.true in
     rw (held record_in p (λ x. is_before (key_of x) a.k), e)
 
-returns-2 : tie.Need-returns-2
+returns-2 : tie.Need-returns
 unfolding ◌and◌
 returns-2 c =
     let d = c.before.before in
-    let a = d.before.before.before.args in
+    let a = d.args in
     let p = part a.at slot_size a.s.now in
     let e : is_before (key_of (record_in p)) a.k ≡ true =
-    ap (λ (q : Key). is_before q a.k) (sym d.before.key-at.ensures) ∙ sym d.is-before.ensures ∙
-    not-false d.is-before.result c.before.if1.false in
-    rw (held record_in p (λ x. is_before (key_of x) a.k), e, ← c.are-zero.ensures)
+    ap (λ (q : Key). is_before q a.k) (sym d.key_at.ensures) ∙ sym d.is_before.ensures ∙
+    c.if-not-is_before.false in
+    rw (held record_in p (λ x. is_before (key_of x) a.k), e, ← c.are_zero.ensures)
 
-pub stands-before-spec : {M : Type 1} → statement M
-stands-before-spec =
+pub stands_before_spec : {M : Type 1} → statement M
+stands_before_spec =
     tie.close (tie.spec (λ c κs. search rules) (λ c κs. search rules) returns (λ c κs. search rules) returns-2)

@@ -8,6 +8,6 @@ returns : tie.Need-returns
 unfolding allows_timeouts
 returns c = refl
 
-pub allows-timeouts-spec : {M : Type 1} → statement M
-allows-timeouts-spec =
+pub allows_timeouts_spec : {M : Type 1} → statement M
+allows_timeouts_spec =
     tie.close (tie.spec returns)

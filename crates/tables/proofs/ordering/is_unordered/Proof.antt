@@ -8,6 +8,6 @@ returns : tie.Need-returns
 unfolding is_unordered
 returns c = refl
 
-pub is-unordered-spec : {M : Type 1} → statement M
-is-unordered-spec =
+pub is_unordered_spec : {M : Type 1} → statement M
+is_unordered_spec =
     tie.close (tie.spec returns)

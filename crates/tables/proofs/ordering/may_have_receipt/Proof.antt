@@ -6,7 +6,7 @@ use Rattle.tables.proofs.ordering.may_have_receipt.Tie as tie
 
 returns : tie.Need-returns
 unfolding may_have_receipt
-returns c = c.is-unordered.ensures
+returns c = c.is_unordered.ensures
 
-pub may-have-receipt-spec : {M : Type 1} → statement M
-may-have-receipt-spec = tie.close (tie.spec (λ c κs. search rules) returns)
+pub may_have_receipt_spec : {M : Type 1} → statement M
+may_have_receipt_spec = tie.close (tie.spec (λ c κs. search rules) returns)

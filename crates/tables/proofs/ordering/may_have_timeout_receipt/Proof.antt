@@ -7,7 +7,7 @@ use Rattle.tables.proofs.ordering.may_have_timeout_receipt.Tie as tie
 
 returns : tie.Need-returns
 unfolding may_have_timeout_receipt ◌and◌
-returns c = rw (← c.before.allows-timeouts.ensures)
+returns c = rw (← c.allows_timeouts.ensures)
 
-pub may-have-timeout-receipt-spec : {M : Type 1} → statement M
-may-have-timeout-receipt-spec = tie.close (tie.spec (λ c κs. search rules) returns)
+pub may_have_timeout_receipt_spec : {M : Type 1} → statement M
+may_have_timeout_receipt_spec = tie.close (tie.spec (λ c κs. search rules) returns)
