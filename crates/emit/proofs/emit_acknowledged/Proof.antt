@@ -29,11 +29,11 @@ returns c =
     let l = length-packet-bytes o.args.p (full o).0 in
     let size : length (bs ++ a) ≡ packet_size + digest_size = omega (arith, length-append bs a, (full o).1) in
     emitted 0x0104 (packet_size + digest_size) (bs ++ a) o.args.out.now size (omega (arith, o.requires))
-    frame.put-frame.ensures
-    (rw (last.put-digest.ensures, first.put-packet.ensures) (patch-then frame_size packet_size bs a _ l))
+    frame.put_frame.ensures
+    (rw (last.put_digest.ensures, first.put_packet.ensures) (patch-then frame_size packet_size bs a _ l))
 
-pub emit-acknowledged-spec : {M : Type 1} → statement M
-emit-acknowledged-spec =
+pub emit_acknowledged_spec : {M : Type 1} → statement M
+emit_acknowledged_spec =
     tie.close
     (tie.spec
     (λ c κs. search rules) (λ c κs. search rules) (λ c. search rules) (λ c κs. search rules) (λ c. search rules)

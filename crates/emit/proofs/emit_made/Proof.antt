@@ -13,14 +13,14 @@ use Rattle.emit.proofs.emit_made.Tie as tie
 
 returns : tie.Need-returns
 returns c =
-    let body = c.before.before in
-    let frame = body.before.before.before.before in
-    let o = frame.before.before.before in
+    let body = c in
+    let frame = c in
+    let o = c in
     let e : List ℕ = port_channel_bytes o.args.e in
     let six : length e ≡ 6 = simp (length-append, length-little) in
-    emitted 0x0107 6 e o.args.out.now six (omega (arith, o.requires)) frame.put-frame.ensures
-    body.put-port-channel.ensures
+    emitted 0x0107 6 e o.args.out.now six (omega (arith, o.requires)) frame.put_frame.ensures
+    body.put_port_channel.ensures
 
-pub emit-made-spec : {M : Type 1} → statement M
-emit-made-spec =
+pub emit_made_spec : {M : Type 1} → statement M
+emit_made_spec =
     tie.close (tie.spec (λ c κs. search rules) (λ c κs. search rules) (λ c. search rules) returns)

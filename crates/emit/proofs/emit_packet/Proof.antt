@@ -20,8 +20,8 @@ returns c =
     let o = frame.before.before.before in
     emitted o.args.kind packet_size (packet_bytes o.args.p) o.args.out.now
     (length-packet-bytes o.args.p (full o)) (omega (arith, o.requires))
-    frame.put-frame.ensures body.put-packet.ensures
+    frame.put_frame.ensures body.put_packet.ensures
 
-pub emit-packet-spec : {M : Type 1} → statement M
-emit-packet-spec =
+pub emit_packet_spec : {M : Type 1} → statement M
+emit_packet_spec =
     tie.close (tie.spec (λ c κs. search rules) (λ c κs. search rules) (λ c. search rules) returns)

@@ -4,32 +4,32 @@ use borrow.Author.Rules.{rules}
 use Rattle.emit.proofs.emit_record.Statement.{statement}
 use Rattle.emit.proofs.emit_record.Tie as tie
 
-returns : tie.Need-returns
+returns : tie.Need-returns-in-PacketOnly
 returns c =
-    let call = c.before.before in
-    rw call.before.before.before.form.given.1 call.emit-packet.ensures
+    let call = c in
+    rw call.in-PacketOnly.is call.emit_packet.ensures
 
-returns-2 : tie.Need-returns-2
+returns-2 : tie.Need-returns-in-Written
 returns-2 c =
-    let call = c.before.before in
-    rw call.before.before.enum_told.given.1 call.emit-written.ensures
+    let call = c in
+    rw call.in-Written.is call.emit_written.ensures
 
-returns-3 : tie.Need-returns-3
+returns-3 : tie.Need-returns-in-Acknowledged
 returns-3 c =
-    let call = c.before.before in
-    rw call.before.before.enum-told2.given.1 call.emit-acknowledged.ensures
+    let call = c in
+    rw call.in-Acknowledged.is call.emit_acknowledged.ensures
 
-returns-4 : tie.Need-returns-4
+returns-4 : tie.Need-returns-in-Made
 returns-4 c =
-    let call = c.before.before in
-    rw call.before.before.before.form2.given.1 call.emit-made.ensures
+    let call = c in
+    rw call.in-Made.is call.emit_made.ensures
 
 -- nothing is at the front of what was there
-returns-5 : tie.Need-returns-5
-returns-5 c = rw c.enum-told3.given.1 (refl, refl)
+returns-5 : tie.Need-returns-in-Nothing
+returns-5 c = rw c.in-Nothing.is (refl, refl)
 
-pub emit-record-spec : {M : Type 1} → statement M
-emit-record-spec =
+pub emit_record_spec : {M : Type 1} → statement M
+emit_record_spec =
     tie.close
     (tie.spec
     (λ c. search rules) (λ c κs. search rules) (λ c. search rules) (λ c κs. search rules) (λ c. search rules)

@@ -31,12 +31,12 @@ returns c =
     let more : length (e ++ n) ≡ 14 = simp (length-append, length-little) in
     let size : length (e ++ n ++ a) ≡ 14 + digest_size = omega (arith, length-append (e ++ n) a, full o) in
     emitted 0x0103 (14 + digest_size) (e ++ n ++ a) o.args.out.now size (omega (arith, o.requires))
-    frame.put-frame.ensures
-    (rw (last.put-digest.ensures, second.put-u64.ensures, first.put-port-channel.ensures)
+    frame.put_frame.ensures
+    (rw (last.put_digest.ensures, second.put_u64.ensures, first.put_port_channel.ensures)
     (rw (patch-then frame_size 6 e n _ six) (patch-then frame_size 14 (e ++ n) a _ more)))
 
-pub emit-written-spec : {M : Type 1} → statement M
-emit-written-spec =
+pub emit_written_spec : {M : Type 1} → statement M
+emit_written_spec =
     tie.close
     (tie.spec
     (λ c κs. search rules) (λ c κs. search rules) (λ c. search rules) (λ c κs. search rules) (λ c. search rules)

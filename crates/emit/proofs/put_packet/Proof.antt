@@ -6,20 +6,20 @@ use Rattle.emit.proofs.put_packet.Tie as tie
 
 returns : tie.Need-returns
 returns c =
-    let digest = c.before.before in
-    let destination = digest.before.before.before.before.before in
-    let source = destination.before.before.before.before in
-    let times = source.before.before.before.before in
+    let digest = c in
+    let destination = c in
+    let source = c in
+    let times = c in
     rw (
-      digest.put-digest.ensures,
-      destination.put-port-channel2.ensures,
-      source.put-port-channel.ensures,
+      digest.put_digest.ensures,
+      destination.put_port_channel-2.ensures,
+      source.put_port_channel.ensures,
       times.put_three.ensures,
       patch-packet,
     )
 
-pub put-packet-spec : {M : Type 1} → statement M
-put-packet-spec =
+pub put_packet_spec : {M : Type 1} → statement M
+put_packet_spec =
     tie.close
     (tie.spec
     (λ c κs. search rules) (λ c. search rules) (λ c κs. search rules) (λ c. search rules) (λ c κs. search rules)

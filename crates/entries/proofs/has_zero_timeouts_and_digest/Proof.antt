@@ -7,8 +7,8 @@ use Rattle.entries.proofs.has_zero_timeouts_and_digest.Tie as tie
 
 returns : tie.Need-returns
 unfolding has_zero_timeouts_and_digest ◌and◌
-returns c = rw (← c.before.is-no-timeout.ensures, ← c.is-zero-digest.ensures)
+returns c = rw (← c.is_no_timeout.ensures, ← c.is_zero_digest.ensures)
 
-pub has-zero-timeouts-and-digest-spec : {M : Type 1} → statement M
-has-zero-timeouts-and-digest-spec =
+pub has_zero_timeouts_and_digest_spec : {M : Type 1} → statement M
+has_zero_timeouts_and_digest_spec =
     tie.close (tie.spec (λ c κs. search rules) (λ c κs. search rules) returns)

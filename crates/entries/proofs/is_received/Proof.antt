@@ -5,25 +5,25 @@ use Rattle.slots.proofs.OrderingLaws.{received-receipt, received-timeout-receipt
 use Rattle.entries.proofs.is_received.Statement.{statement}
 use Rattle.entries.proofs.is_received.Tie as tie
 
-returns : tie.Need-returns
+returns : tie.Need-returns-then-may_have_receipt
 returns c =
-    let may = sym c.before.before.may-have-receipt.ensures ∙ c.before.if1.true in
-    rw (received-receipt _ _ _ may) c.is-there.ensures
+    let may = sym c.may_have_receipt.ensures ∙ c.if-may_have_receipt.true in
+    rw (received-receipt _ _ _ may) c.is_there.ensures
 
-returns-2 : tie.Need-returns-2
+returns-2 : tie.Need-returns-then-may_have_timeout_receipt
 returns-2 c =
-    let may = sym c.before.before.may-have-timeout-receipt.ensures ∙ c.before.if2.true in
-    rw (received-timeout-receipt _ _ _ may, ← c.is-there2.ensures)
+    let may = sym c.may_have_timeout_receipt.ensures ∙ c.if-may_have_timeout_receipt.true in
+    rw (received-timeout-receipt _ _ _ may, ← c.is_there-then-may_have_timeout_receipt.ensures)
 
-returns-3 : tie.Need-returns-3
+returns-3 : tie.Need-returns
 returns-3 c =
-    let second = c.before.before in
-    let first = second.before in
-    sym (received-counter _ _ _ (sym first.before.may-have-receipt.ensures ∙ first.if1.false)
-    (sym second.may-have-timeout-receipt.ensures ∙ c.before.if2.false))
+    let second = c in
+    let first = second in
+    sym (received-counter _ _ _ (sym first.may_have_receipt.ensures ∙ first.if-may_have_receipt.false)
+    (sym second.may_have_timeout_receipt.ensures ∙ c.if-may_have_timeout_receipt.false))
 
-pub is-received-spec : {M : Type 1} → statement M
-is-received-spec =
+pub is_received_spec : {M : Type 1} → statement M
+is_received_spec =
     tie.close
     (tie.spec
     (λ c κs. search rules) (λ c κs. search rules) returns (λ c κs. search rules) (λ c κs. search rules) returns-2

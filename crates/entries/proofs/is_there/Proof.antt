@@ -12,13 +12,13 @@ use Rattle.entries.proofs.is_there.Tie as tie
 
 returns : tie.Need-returns
 returns c =
-    let o = c.before.before.before in
+    let o = c in
     let a = o.args in
     let s = a.s.now in
     let k : Key = record { kind = a.kind; channel = a.c.own.channel; sequence = a.sequence } in
     rw (find_at (has_key k) 0 (store_in s).records, records-from a.count s o.requires)
-    (c.is_found.ensures ∙ ap is_at c.before.first-record.ensures)
+    (c.is_found.ensures ∙ ap is_at c.first_record.ensures)
 
-pub is-there-spec : {M : Type 1} → statement M
-is-there-spec =
+pub is_there_spec : {M : Type 1} → statement M
+is_there_spec =
     tie.close (tie.spec (λ c κs. search rules) (λ c κs. search rules) returns)

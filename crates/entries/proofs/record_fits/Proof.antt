@@ -18,52 +18,52 @@ use Rattle.entries.proofs.record_fits.Statement.{statement}
 use Rattle.entries.proofs.record_fits.Tie as tie
 
 -- the slot that is found, and the bytes and the number that are searched
-abbrev index : tie.After-known-told → ℕ
-index k = k.before.j.given.0.0
+abbrev index : tie.In-At → ℕ
+index k = k.in-At.j
 
-abbrev bytes : tie.After-known-told → List ℕ
-bytes k = k.before.before.before.before.before.args.s.now
+abbrev bytes : tie.In-At → List ℕ
+bytes k = k.args.s.now
 
-abbrev number : tie.After-known-told → ℕ
-number k = k.before.before.before.before.before.args.r.channel
+abbrev number : tie.In-At → ℕ
+number k = k.args.r.channel
 
-found : (k : tie.After-known-told) → first_that (is_numbered (number k)) (store_in (bytes k)).channels ≡ At (index k)
-found k = sym k.before.before.before.find-channel.ensures ∙ k.before.j.given.1
+found : (k : tie.In-At) → first_that (is_numbered (number k)) (store_in (bytes k)).channels ≡ At (index k)
+found k = sym k.find_channel.ensures ∙ k.in-At.is
 
-below : (k : tie.After-known-told) → index k < channel_limit
+below : (k : tie.In-At) → index k < channel_limit
 below k = channel-index (index k) (bytes k) (holds (is_numbered (number k))) (found k)
 
-returns : tie.Need-returns
+returns : tie.Need-returns-in_default
 unfolding record_fits fits_end
 returns c =
-    let f = c.before.before in
-    let a = f.before.before.args in
-    let nothing = sym f.find-channel.ensures ∙ c.enum_told.given.1 in
+    let f = c in
+    let a = f.args in
+    let nothing = sym f.find_channel.ensures ∙ c.in_default.is in
     let none = find-nothing (is_numbered a.r.channel) 0 (store_in a.s.now).channels nothing in
     rw (record_fits, none, and-false)
 
-mul-channel-at : tie.Need-overflow-mul-channel-at
+mul-channel-at : tie.Need-overflow_mul-j
 mul-channel-at c = omega (arith, below c)
 
-add-channel-at : tie.Need-overflow-add-channel-at
+add-channel-at : tie.Need-overflow_add-j
 add-channel-at c = omega (arith, below c)
 
-channel-at-requires : tie.Need-channel-at-requires
+channel-at-requires : tie.Need-channel_at-c-requires
 channel-at-requires c κs = omega (arith, below c)
 
-returns-2 : tie.Need-returns-2
+returns-2 : tie.Need-returns
 unfolding record_fits ◌and◌
 returns-2 c =
     let k = c.before.before.before in
     rw (
       record_fits,
       channel-found (is_numbered (number k)) (index k) (bytes k) (found k),
-      ← c.before.before.channel-at.ensures,
-      ← c.fits-end.ensures,
+      ← c.channel_at-c.ensures,
+      ← c.fits_end.ensures,
     )
 
-pub record-fits-spec : {M : Type 1} → statement M
-record-fits-spec =
+pub record_fits_spec : {M : Type 1} → statement M
+record_fits_spec =
     tie.close
     (tie.spec
     (λ c κs. search rules) (λ c. search rules) (λ c. search rules) returns mul-channel-at add-channel-at

@@ -27,48 +27,48 @@ slot o = slot_at header_size o.args.s.now o.args.i
 abbrev front : tie.Start → List (List ℕ)
 front o = slots_from header_size o.args.i o.args.s.now 0
 
-returns : tie.Need-returns
+returns : tie.Need-returns-then-are_zero
 returns c =
     let o = c.before.before.before in
     slot-free channel_bytes channel_in (fits_below o.args.next) (is_lone same_number) (slot o) (front o)
-    c.before.are-zero.ensures c.if1.true
+    c.are_zero.ensures c.if-are_zero.true
 
 -- the number that is read
-numbered : (x : tie.After-u32-at) → let o = x.before.before.before.before in
-    x.u32-at.result ≡ (channel_in (slot o)).own.channel
+numbered : (x : tie.After-u32_at-number) → let o = x.before.before.before.before in
+    x.u32_at-number.result ≡ (channel_in (slot o)).own.channel
 unfolding channel_in
 numbered x =
-    let o = x.before.before.before.before in
+    let o = x in
     let at = header_size + slot_size * o.args.i in
-    x.u32-at.ensures ∙ sym (field-part 4 4 at slot_size o.args.s.now (omega arith))
+    x.u32_at-number.ensures ∙ sym (field-part 4 4 at slot_size o.args.s.now (omega arith))
 
 -- the end is not one that fits
-returns-2 : tie.Need-returns-2
+returns-2 : tie.Need-returns-then-not-channel_fits
 unfolding fits_below ◌and◌
 returns-2 c =
-    let call = c.before.channel-fits in
+    let call = c.channel_fits in
     let d = c.before.before.before in
     let o = d.before.before.before in
-    let unfit = sym call.ensures ∙ not-true call.result c.if2.true in
+    let unfit = sym call.ensures ∙ c.if-not-channel_fits.true in
     let e : Bool = is_exact channel_bytes channel_in (slot o) in
     let low : Bool = is_below o.args.next (channel_in (slot o)) in
     slot-taken channel_bytes channel_in (fits_below o.args.next) (is_lone same_number) (slot o) (front o)
-    d.before.are-zero.ensures d.if1.false {q = false}
+    d.are_zero.ensures d.if-are_zero.false {q = false}
     (sym (ap (λ (b : Bool). e and (b and low)) unfit ∙ and-false e)) refl
 
 -- behind that test: what the mark and the number tell
-told : (x : tie.After-is-channel-exact) → let n = x.before.before.before in
+told : (x : tie.After-is_channel_exact) → let n = x.before.before.before in
     let o = n.before.before.before.before in
-    (x.is-channel-exact.result and ltb n.u32-at.result o.args.next) ≡
+    (x.is_channel_exact.result and ltb n.u32_at-number.result o.args.next) ≡
     (is_exact channel_bytes channel_in (slot o) and fits_below o.args.next (channel_in (slot o)))
 unfolding fits_below is_below ◌and◌
 told x =
-    let call = x.before.before.channel-fits in
+    let call = x.channel_fits in
     let n = x.before.before.before in
-    let fit = sym call.ensures ∙ not-false call.result x.before.if2.false in
-    rw (x.is-channel-exact.ensures, fit, numbered n)
+    let fit = sym call.ensures ∙ x.if-not-channel_fits.false in
+    rw (x.is_channel_exact.ensures, fit, numbered n)
 
-returns-3 : tie.Need-returns-3
+returns-3 : tie.Need-returns-then-is_channel_exact-number
 unfolding ◌and◌
 returns-3 c =
     let k = c.before.before in
@@ -76,20 +76,20 @@ returns-3 c =
     let d = n.before in
     let o = d.before.before.before in
     slot-taken channel_bytes channel_in (fits_below o.args.next) (is_lone same_number) (slot o) (front o)
-    d.before.are-zero.ensures d.if1.false {q = true} (sym k.if3.true ∙ told k.before)
+    d.are_zero.ensures d.if-are_zero.false {q = true} (sym k.if-is_channel_exact-number.true ∙ told k.before)
     (rw (find_at (same_number (channel_in (slot o))) 0 (map (slot_in channel_in) (front o)), ← numbered n)
-    (ap not (c.is_found.ensures ∙ ap is_at c.before.first-channel.ensures)))
+    (ap not (c.is_found.ensures ∙ ap is_at c.first_channel.ensures)))
 
-returns-4 : tie.Need-returns-4
+returns-4 : tie.Need-returns
 unfolding ◌and◌
 returns-4 c =
     let d = c.before.before.before.before.before in
     let o = d.before.before.before in
     slot-taken channel_bytes channel_in (fits_below o.args.next) (is_lone same_number) (slot o) (front o)
-    d.before.are-zero.ensures d.if1.false {q = false} (sym c.if3.false ∙ told c.before) refl
+    d.are_zero.ensures d.if-are_zero.false {q = false} (sym c.if-is_channel_exact-number.false ∙ told c.before) refl
 
-pub channel-slot-fits-spec : {M : Type 1} → statement M
-channel-slot-fits-spec =
+pub channel_slot_fits_spec : {M : Type 1} → statement M
+channel_slot_fits_spec =
     tie.close
     (tie.spec
     (λ c. search rules) (λ c. search rules) (λ c κs. search rules) returns (λ c. search rules) (λ c κs. search rules)

@@ -29,40 +29,40 @@ all : (s : List ℕ) (next : ℕ) → each (test s next) 0 channel_limit ≡
     every_from (slot_fits channel_bytes channel_in (fits_below next) (is_lone same_number)) header_size channel_limit s 0
 all s n = each-before channel_bytes channel_in (fits_below n) same_number header_size s same-turned channel_limit
 
-abbrev invariant-loop : tie.invariant-loop
+abbrev invariant-loop : tie.invariant-loop-i
 invariant-loop s next i₀ i = Up (test s next) 0 i
 
-abbrev decreases-loop : tie.decreases-loop
+abbrev decreases-loop : tie.decreases-loop-i
 decreases-loop s next i₀ i = channel_limit - i
 
-loop-holds : tie.Need-loop-init invariant-loop decreases-loop
+loop-holds : tie.Need-loop-i-init invariant-loop decreases-loop
 loop-holds c = up_none _ 0
 
-returns : tie.Need-returns invariant-loop decreases-loop
+returns : tie.Need-returns-then-not-channel_slot_fits invariant-loop decreases-loop
 returns c =
-    let call = c.before.channel-slot-fits in
-    let l = c.before.before.before in
-    let a = l.before.before.args in
-    up-fails (test a.s.now a.next) 0 channel_limit l.loop.i l.loop.invariant (omega arith)
-    (sym call.ensures ∙ not-true call.result c.if1.true) ∙ all a.s.now a.next
+    let call = c.channel_slot_fits in
+    let l = c in
+    let a = l.args in
+    up-fails (test a.s.now a.next) 0 channel_limit l.loop-i.i l.loop-i.invariant (omega arith)
+    (sym call.ensures ∙ c.if-not-channel_slot_fits.true) ∙ all a.s.now a.next
 
-loop-again : tie.Need-loop-preserved invariant-loop decreases-loop
+loop-again : tie.Need-loop-i-preserved invariant-loop decreases-loop
 loop-again c =
-    let call = c.before.channel-slot-fits in
-    let l = c.before.before.before in
-    let a = l.before.before.args in
-    up_more (test a.s.now a.next) 0 l.loop.i l.loop.invariant
-    (sym call.ensures ∙ not-false call.result c.if1.false)
+    let call = c.channel_slot_fits in
+    let l = c in
+    let a = l.args in
+    up_more (test a.s.now a.next) 0 l.loop-i.i l.loop-i.invariant
+    (sym call.ensures ∙ c.if-not-channel_slot_fits.false)
 
-returns-2 : tie.Need-returns-2 invariant-loop decreases-loop
+returns-2 : tie.Need-returns invariant-loop decreases-loop
 returns-2 c =
-    let l = c.before in
-    let a = l.before.before.args in
-    up-all (test a.s.now a.next) 0 channel_limit l.loop.i l.loop.invariant (omega arith) (omega arith) ∙
+    let l = c in
+    let a = l.args in
+    up-all (test a.s.now a.next) 0 channel_limit l.loop-i.i l.loop-i.invariant (omega arith) (omega arith) ∙
     all a.s.now a.next
 
-pub channels-fit-spec : {M : Type 1} → statement M
-channels-fit-spec =
+pub channels_fit_spec : {M : Type 1} → statement M
+channels_fit_spec =
     tie.close
     (tie.spec
     invariant-loop decreases-loop loop-holds (λ c κs. omega arith) returns (λ c. omega arith) (λ c. omega arith) loop-again returns-2)

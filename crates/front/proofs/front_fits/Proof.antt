@@ -18,25 +18,25 @@ ends n o =
     every_slot (slot_fits channel_bytes channel_in (fits_below n) (is_lone same_number))
     (slots_from header_size channel_limit o.args.s.now 0)
 
-returns : tie.Need-returns
+returns : tie.Need-returns-then-is_header_exact-next
 unfolding front_fits ◌and◌
 returns c =
     let header = c.before.before in
     let next = header.before in
-    rw (← header.is-header-exact.ensures, ← next.u64-at.ensures)
-    (c.channels-fit.ensures ∙
-    sym (ap (λ (b : Bool). b and ends next.u64-at.result next.before.before) c.before.if1.true))
+    rw (← header.is_header_exact.ensures, ← next.u64_at-next.ensures)
+    (c.channels_fit.ensures ∙
+    sym (ap (λ (b : Bool). b and ends next.u64_at-next.result next.before.before) c.if-is_header_exact-next.true))
 
-returns-2 : tie.Need-returns-2
+returns-2 : tie.Need-returns
 unfolding front_fits ◌and◌
 returns-2 c =
     let header = c.before in
     let next = header.before in
-    rw (← header.is-header-exact.ensures, ← next.u64-at.ensures)
-    (sym (ap (λ (b : Bool). b and ends next.u64-at.result next.before.before) c.if1.false))
+    rw (← header.is_header_exact.ensures, ← next.u64_at-next.ensures)
+    (sym (ap (λ (b : Bool). b and ends next.u64_at-next.result next.before.before) c.if-is_header_exact-next.false))
 
-pub front-fits-spec : {M : Type 1} → statement M
-front-fits-spec =
+pub front_fits_spec : {M : Type 1} → statement M
+front_fits_spec =
     tie.close
     (tie.spec
     (λ c κs. omega arith) (λ c κs. (omega arith, omega arith)) (λ c κs. omega arith) returns returns-2)

@@ -8,5 +8,5 @@ returns : tie.Need-returns
 unfolding has_version
 returns c = search rules
 
-pub has-version-spec : {M : Type 1} → statement M
-has-version-spec = tie.close (tie.spec (λ c κs. search rules) returns)
+pub has_version_spec : {M : Type 1} → statement M
+has_version_spec = tie.close (tie.spec (λ c κs. search rules) returns)

@@ -8,5 +8,5 @@ returns : tie.Need-returns
 unfolding needed_end
 returns c = search rules
 
-pub needed-end-spec : {M : Type 1} → statement M
-needed-end-spec = tie.close (tie.spec returns)
+pub needed_end_spec : {M : Type 1} → statement M
+needed_end_spec = tie.close (tie.spec returns)

@@ -8,5 +8,5 @@ returns : tie.Need-returns
 unfolding needed_peer
 returns c = search rules
 
-pub needed-peer-spec : {M : Type 1} → statement M
-needed-peer-spec = tie.close (tie.spec (λ c κs. search rules) returns)
+pub needed_peer_spec : {M : Type 1} → statement M
+needed_peer_spec = tie.close (tie.spec (λ c κs. search rules) returns)

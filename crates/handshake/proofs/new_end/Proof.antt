@@ -7,5 +7,5 @@ returns : tie.Need-returns
 unfolding new_end
 returns c d order port version = rw (order, port, version)
 
-pub new-end-spec : {M : Type 1} → statement M
-new-end-spec = tie.close (tie.spec returns)
+pub new_end_spec : {M : Type 1} → statement M
+new_end_spec = tie.close (tie.spec returns)

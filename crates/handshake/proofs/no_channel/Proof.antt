@@ -8,5 +8,5 @@ returns : tie.Need-returns
 unfolding no_channel
 returns c = refl
 
-pub no-channel-spec : {M : Type 1} → statement M
-no-channel-spec = tie.close (tie.spec returns)
+pub no_channel_spec : {M : Type 1} → statement M
+no_channel_spec = tie.close (tie.spec returns)

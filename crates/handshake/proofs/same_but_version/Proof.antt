@@ -10,5 +10,5 @@ returns : tie.Need-returns
 unfolding same_but_version ◌and◌ same_port_channel same_counters
 returns c = search rules
 
-pub same-but-version-spec : {M : Type 1} → statement M
-same-but-version-spec = tie.close (tie.spec returns)
+pub same_but_version_spec : {M : Type 1} → statement M
+same_but_version_spec = tie.close (tie.spec returns)

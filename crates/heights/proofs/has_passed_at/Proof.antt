@@ -7,16 +7,16 @@ use Rattle.heights.proofs.has_passed_at.Tie as tie
 returns : tie.Need-returns
 unfolding ◌or◌
 returns c =
-    let height = c.before.before in
+    let height = c in
     rw (
-      height.is-past-other.ensures,
-      height.before.height-at-sender.ensures,
-      c.is-past-other-time.ensures,
-      c.before.time-at-sender.ensures,
+      height.is_past_other.ensures,
+      height.height_at_sender.ensures,
+      c.is_past_other_time.ensures,
+      c.time_at_sender.ensures,
     )
 
-pub has-passed-at-spec : {M : Type 1} → statement M
-has-passed-at-spec =
+pub has_passed_at_spec : {M : Type 1} → statement M
+has_passed_at_spec =
     tie.close
     (tie.spec
     (λ c κs. search rules) (λ c κs. search rules) (λ c κs. search rules) (λ c κs. search rules) returns)

@@ -8,16 +8,16 @@ use Rattle.heights.proofs.is_late_at_receiver.Tie as tie
 returns : tie.Need-returns
 unfolding is_late_at_receiver ◌or◌
 returns c =
-    let height = c.before.before in
+    let height = c in
     rw (
-      height.is-past-own.ensures,
-      height.before.height-at-receiver.ensures,
-      c.is-past-own-time.ensures,
-      c.before.time-at-receiver.ensures,
+      height.is_past_own.ensures,
+      height.height_at_receiver.ensures,
+      c.is_past_own_time.ensures,
+      c.time_at_receiver.ensures,
     )
 
-pub is-late-at-receiver-spec : {M : Type 1} → statement M
-is-late-at-receiver-spec =
+pub is_late_at_receiver_spec : {M : Type 1} → statement M
+is_late_at_receiver_spec =
     tie.close
     (tie.spec
     (λ c κs. search rules) (λ c κs. search rules) (λ c κs. search rules) (λ c κs. search rules) returns)

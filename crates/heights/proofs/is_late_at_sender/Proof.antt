@@ -6,8 +6,8 @@ use Rattle.heights.proofs.is_late_at_sender.Tie as tie
 
 returns : tie.Need-returns
 unfolding is_late_at_sender
-returns c = c.has-passed-at.ensures
+returns c = c.has_passed_at.ensures
 
-pub is-late-at-sender-spec : {M : Type 1} → statement M
-is-late-at-sender-spec =
+pub is_late_at_sender_spec : {M : Type 1} → statement M
+is_late_at_sender_spec =
     tie.close (tie.spec (λ c κs. search rules) returns)

@@ -4,7 +4,7 @@ use Rattle.heights.proofs.is_no_timeout.Statement.{statement}
 use Rattle.heights.proofs.is_no_timeout.Tie as tie
 
 returns : tie.Need-returns
-returns c = rw (c.same-timeout.ensures, c.before.no-timeout.ensures)
+returns c = rw (c.same_timeout.ensures, c.no_timeout.ensures)
 
-pub is-no-timeout-spec : {M : Type 1} → statement M
-is-no-timeout-spec = tie.close (tie.spec (λ c κs. search rules) (λ c κs. search rules) returns)
+pub is_no_timeout_spec : {M : Type 1} → statement M
+is_no_timeout_spec = tie.close (tie.spec (λ c κs. search rules) (λ c κs. search rules) returns)

@@ -6,7 +6,7 @@ use Rattle.heights.proofs.is_proved_late.Tie as tie
 
 returns : tie.Need-returns
 unfolding is_proved_late
-returns c = c.has-passed-at.ensures
+returns c = c.has_passed_at.ensures
 
-pub is-proved-late-spec : {M : Type 1} → statement M
-is-proved-late-spec = tie.close (tie.spec (λ c κs. search rules) returns)
+pub is_proved_late_spec : {M : Type 1} → statement M
+is_proved_late_spec = tie.close (tie.spec (λ c κs. search rules) returns)

@@ -5,13 +5,13 @@ use Rattle.slots.specs.Height.{same_timeout}
 use Rattle.heights.proofs.same_timeout.Statement.{statement}
 use Rattle.heights.proofs.same_timeout.Tie as tie
 
-returns : tie.Need-returns
+returns : tie.Need-returns-then-t-u
 unfolding same_timeout ◌and◌
-returns c = rw (ne_eqb _ _ c.if1.true)
+returns c = rw (ne_eqb _ _ c.if-t-u.true)
 
-returns-2 : tie.Need-returns-2
+returns-2 : tie.Need-returns
 unfolding same_timeout ◌and◌
-returns-2 c = rw (eq-eqb _ _ c.before.before.if1.false)
+returns-2 c = rw (eq-eqb _ _ c.if-t-u.false)
 
-pub same-timeout-spec : {M : Type 1} → statement M
-same-timeout-spec = tie.close (tie.spec returns returns-2)
+pub same_timeout_spec : {M : Type 1} → statement M
+same_timeout_spec = tie.close (tie.spec returns returns-2)

@@ -7,13 +7,13 @@ use Rattle.rules.specs.Handshake.{answering}
 use Rattle.lifecycle.proofs.answered_end.Statement.{statement}
 use Rattle.lifecycle.proofs.answered_end.Tie as tie
 
-counterparty-channel-in-requires : tie.Need-counterparty-channel-in-requires
+counterparty-channel-in-requires : tie.Need-counterparty_channel_in-requires
 unfolding with_number body has_part ◌or◌
-counterparty-channel-in-requires c κs = (refl, c.before.requires)
+counterparty-channel-in-requires c κs = (refl, c.requires)
 
 returns : tie.Need-returns
 unfolding with_number answering
-returns c = rw (c.moved.ensures, c.before.counterparty-channel-in.ensures)
+returns c = rw (c.moved.ensures, c.counterparty_channel_in.ensures)
 
-pub answered-end-spec : {M : Type 1} → statement M
-answered-end-spec = tie.close (tie.spec counterparty-channel-in-requires (λ c κs. search rules) returns)
+pub answered_end_spec : {M : Type 1} → statement M
+answered_end_spec = tie.close (tie.spec counterparty-channel-in-requires (λ c κs. search rules) returns)

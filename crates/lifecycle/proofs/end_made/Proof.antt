@@ -12,16 +12,16 @@ use Rattle.datagram.proofs.KindLaws.{part_room}
 use Rattle.lifecycle.proofs.end_made.Statement.{statement}
 use Rattle.lifecycle.proofs.end_made.Tie as tie
 
-abbrev start : tie.After-version-place → tie.Start
+abbrev start : tie.After-version_place → tie.Start
 start v = v.before.before.before.before
 
-version-from-requires : tie.Need-version-from-requires
+version-from-requires : tie.Need-version_from-version-requires
 unfolding version_from
 version-from-requires c κs =
     let o = start c in
-    let at = c.version-place.ensures in (
-      rw at (omega (arith, part_room version_part (body_of (kind_of o.args.kind)) o.pre.1, o.pre.2)),
-      ap (λ (n : ℕ). version_fits (drop n o.args.d.now)) at ∙ o.pre.3.1,
+    let at = c.version_place.ensures in (
+      rw at (omega (arith, part_room version_part (body_of (kind_of o.args.kind)) o.requires.1, o.requires.2)),
+      ap (λ (n : ℕ). version_fits (drop n o.args.d.now)) at ∙ o.requires.3.1,
     )
 
 returns : tie.Need-returns
@@ -29,15 +29,15 @@ unfolding version_from
 returns c =
     let version = c.before in
     let place = version.before in
-    let order = place.before in
+    let order = c in
     let o = start place in
     let d = o.args.d.now in
-    c.new-end.ensures (datagram_of (kind_of o.args.kind) d) (sym order.order-in.ensures)
-    (ap (λ (x : Context). x.port) (sym order.before.context-in.ensures))
-    (sym (version.version-from.ensures ∙ ap (λ (n : ℕ). padded (drop n d)) place.version-place.ensures))
+    c.new_end.ensures (datagram_of (kind_of o.args.kind) d) (sym order.order_in-order.ensures)
+    (ap (λ (x : Context). x.port) (sym order.context_in-context.ensures))
+    (sym (version.version_from-version.ensures ∙ ap (λ (n : ℕ). padded (drop n d)) place.version_place.ensures))
 
-pub end-made-spec : {M : Type 1} → statement M
-end-made-spec =
+pub end_made_spec : {M : Type 1} → statement M
+end_made_spec =
     tie.close
     (tie.spec
     (λ c κs. search rules) (λ c κs. search rules) (λ c κs. search rules) version-from-requires (λ c. search rules)

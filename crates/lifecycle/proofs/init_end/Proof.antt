@@ -7,17 +7,17 @@ use Rattle.datagram.specs.Datagram.{counterparty_from}
 use Rattle.lifecycle.proofs.init_end.Statement.{statement}
 use Rattle.lifecycle.proofs.init_end.Tie as tie
 
-counterparty-port-in-requires : tie.Need-counterparty-port-in-requires
+counterparty-port-in-requires : tie.Need-counterparty_port_in-requires
 unfolding body parts_size
-counterparty-port-in-requires c κs = omega (arith, c.before.requires.0)
+counterparty-port-in-requires c κs = omega (arith, c.requires.0)
 
-end-made-requires : tie.Need-end-made-requires
+end-made-requires : tie.Need-end_made-requires
 unfolding with_number body has_part ◌or◌
-end-made-requires c κs = (refl, refl, c.before.before.requires.0, c.before.before.requires.1)
+end-made-requires c κs = (refl, refl, c.requires.0, c.requires.1)
 
 returns : tie.Need-returns
 unfolding with_number counterparty_from body size_before
-returns c = rw (c.end-made.ensures, c.before.counterparty-port-in.ensures)
+returns c = rw (c.end_made.ensures, c.counterparty_port_in.ensures)
 
-pub init-end-spec : {M : Type 1} → statement M
-init-end-spec = tie.close (tie.spec counterparty-port-in-requires end-made-requires returns)
+pub init_end_spec : {M : Type 1} → statement M
+init_end_spec = tie.close (tie.spec counterparty-port-in-requires end-made-requires returns)

@@ -9,9 +9,9 @@ use Rattle.ordering.proofs.acknowledges_in_order.Tie as tie
 returns : tie.Need-returns
 unfolding acknowledges_in_order
 returns c =
-    let a = c.before.before.args in
-    rw (← c.before.is-unordered.ensures)
-    (or-pick c.before.is-unordered.result (eqb a.sequence a.c.next.acknowledge))
+    let a = c.args in
+    rw (← c.is_unordered.ensures)
+    (or-pick c.is_unordered.result (eqb a.sequence a.c.next.acknowledge))
 
-pub acknowledges-in-order-spec : {M : Type 1} → statement M
-acknowledges-in-order-spec = tie.close (tie.spec (λ c κs. search rules) returns)
+pub acknowledges_in_order_spec : {M : Type 1} → statement M
+acknowledges_in_order_spec = tie.close (tie.spec (λ c κs. search rules) returns)

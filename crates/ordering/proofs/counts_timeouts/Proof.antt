@@ -7,7 +7,7 @@ use Rattle.ordering.proofs.counts_timeouts.Tie as tie
 
 returns : tie.Need-returns
 unfolding counts_timeouts ◌and◌
-returns c = rw (← c.before.allows-timeouts.ensures)
+returns c = rw (← c.allows_timeouts.ensures)
 
-pub counts-timeouts-spec : {M : Type 1} → statement M
-counts-timeouts-spec = tie.close (tie.spec (λ c κs. search rules) returns)
+pub counts_timeouts_spec : {M : Type 1} → statement M
+counts_timeouts_spec = tie.close (tie.spec (λ c κs. search rules) returns)

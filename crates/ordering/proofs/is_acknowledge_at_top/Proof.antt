@@ -7,7 +7,7 @@ use Rattle.ordering.proofs.is_acknowledge_at_top.Tie as tie
 
 returns : tie.Need-returns
 unfolding is_acknowledge_at_top ◌and◌
-returns c = rw (← c.before.raises-counter.ensures.1)
+returns c = rw (← c.raises_counter.ensures.1)
 
-pub is-acknowledge-at-top-spec : {M : Type 1} → statement M
-is-acknowledge-at-top-spec = tie.close (tie.spec (λ c κs. search rules) returns)
+pub is_acknowledge_at_top_spec : {M : Type 1} → statement M
+is_acknowledge_at_top_spec = tie.close (tie.spec (λ c κs. search rules) returns)

@@ -7,7 +7,7 @@ use Rattle.ordering.proofs.is_receive_at_top.Tie as tie
 
 returns : tie.Need-returns
 unfolding is_receive_at_top ◌and◌
-returns c = rw (← c.before.raises-counter.ensures.0)
+returns c = rw (← c.raises_counter.ensures.0)
 
-pub is-receive-at-top-spec : {M : Type 1} → statement M
-is-receive-at-top-spec = tie.close (tie.spec (λ c κs. search rules) returns)
+pub is_receive_at_top_spec : {M : Type 1} → statement M
+is_receive_at_top_spec = tie.close (tie.spec (λ c κs. search rules) returns)

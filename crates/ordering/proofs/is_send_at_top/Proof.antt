@@ -8,5 +8,5 @@ returns : tie.Need-returns
 unfolding is_send_at_top
 returns c = refl
 
-pub is-send-at-top-spec : {M : Type 1} → statement M
-is-send-at-top-spec = tie.close (tie.spec returns)
+pub is_send_at_top_spec : {M : Type 1} → statement M
+is_send_at_top_spec = tie.close (tie.spec returns)

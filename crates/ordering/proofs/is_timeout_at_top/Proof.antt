@@ -7,7 +7,7 @@ use Rattle.ordering.proofs.is_timeout_at_top.Tie as tie
 
 returns : tie.Need-returns
 unfolding is_timeout_at_top ◌and◌
-returns c = rw (← c.before.counts-timeouts.ensures)
+returns c = rw (← c.counts_timeouts.ensures)
 
-pub is-timeout-at-top-spec : {M : Type 1} → statement M
-is-timeout-at-top-spec = tie.close (tie.spec (λ c κs. search rules) returns)
+pub is_timeout_at_top_spec : {M : Type 1} → statement M
+is_timeout_at_top_spec = tie.close (tie.spec (λ c κs. search rules) returns)

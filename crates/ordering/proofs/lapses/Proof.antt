@@ -7,7 +7,7 @@ use Rattle.ordering.proofs.lapses.Tie as tie
 
 returns : tie.Need-returns
 unfolding lapses ◌and◌
-returns c = rw (← c.allows-timeouts.ensures)
+returns c = rw (← c.allows_timeouts.ensures)
 
-pub lapses-spec : {M : Type 1} → statement M
-lapses-spec = tie.close (tie.spec (λ c κs. search rules) returns)
+pub lapses_spec : {M : Type 1} → statement M
+lapses_spec = tie.close (tie.spec (λ c κs. search rules) returns)

@@ -7,7 +7,7 @@ use Rattle.ordering.proofs.needs_record.Tie as tie
 
 returns : tie.Need-returns
 unfolding needs_record ◌or◌
-returns c = rw (← c.before.raises-counter.ensures.0, ← c.lapses.ensures)
+returns c = rw (← c.raises_counter.ensures.0, ← c.lapses.ensures)
 
-pub needs-record-spec : {M : Type 1} → statement M
-needs-record-spec = tie.close (tie.spec (λ c κs. search rules) (λ c κs. search rules) returns)
+pub needs_record_spec : {M : Type 1} → statement M
+needs_record_spec = tie.close (tie.spec (λ c κs. search rules) (λ c κs. search rules) returns)

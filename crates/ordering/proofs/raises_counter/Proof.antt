@@ -8,7 +8,7 @@ use Rattle.ordering.proofs.raises_counter.Tie as tie
 
 returns : tie.Need-returns
 unfolding raises_receive raises_acknowledge
-returns c = (ap not c.is-unordered.ensures, ap not c.is-unordered.ensures)
+returns c = (ap not c.is_unordered.ensures, ap not c.is_unordered.ensures)
 
-pub raises-counter-spec : {M : Type 1} → statement M
-raises-counter-spec = tie.close (tie.spec (λ c κs. search rules) returns)
+pub raises_counter_spec : {M : Type 1} → statement M
+raises_counter_spec = tie.close (tie.spec (λ c κs. search rules) returns)

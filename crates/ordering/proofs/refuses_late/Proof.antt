@@ -7,7 +7,7 @@ use Rattle.ordering.proofs.refuses_late.Tie as tie
 
 returns : tie.Need-returns
 unfolding refuses_late ◌and◌
-returns c = rw (← c.allows-timeouts.ensures)
+returns c = rw (← c.allows_timeouts.ensures)
 
-pub refuses-late-spec : {M : Type 1} → statement M
-refuses-late-spec = tie.close (tie.spec (λ c κs. search rules) returns)
+pub refuses_late_spec : {M : Type 1} → statement M
+refuses_late_spec = tie.close (tie.spec (λ c κs. search rules) returns)

@@ -9,9 +9,9 @@ use Rattle.ordering.proofs.times_out_in_order.Tie as tie
 returns : tie.Need-returns
 unfolding times_out_in_order
 returns c =
-    let a = c.before.before.args in
-    rw (← c.before.counts-timeouts.ensures)
-    (not-or-pick c.before.counts-timeouts.result (eqb a.sequence a.c.next.acknowledge))
+    let a = c.args in
+    rw (← c.counts_timeouts.ensures)
+    (not-or-pick c.counts_timeouts.result (eqb a.sequence a.c.next.acknowledge))
 
-pub times-out-in-order-spec : {M : Type 1} → statement M
-times-out-in-order-spec = tie.close (tie.spec (λ c κs. search rules) returns)
+pub times_out_in_order_spec : {M : Type 1} → statement M
+times_out_in_order_spec = tie.close (tie.spec (λ c κs. search rules) returns)

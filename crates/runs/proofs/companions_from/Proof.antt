@@ -9,34 +9,34 @@ use Rattle.runs.proofs.RunLaws.{kind_at, channel-at}
 use Rattle.runs.proofs.companions_from.Statement.{statement}
 use Rattle.runs.proofs.companions_from.Tie as tie
 
-tested : (k : tie.After-u32-at2) → let channel = k.before in let kind = channel.before in
-    let a = kind.before.before.args in let s = a.s.now in
+tested : (k : tie.After-u32_at-2) → let channel = k.before in let kind = channel.before in
+    let a = kind.args in let s = a.s.now in
     (ltb a.p a.i and eqb (key_at s a.p).kind a.kind and
     eqb (key_at s a.p).channel (key_at s a.i).channel) ≡
-    ((ltb a.p a.i && eqb kind.u16-at.result a.kind) &&
-    eqb channel.u32-at.result k.u32-at2.result)
+    ((ltb a.p a.i && eqb kind.u16_at.result a.kind) &&
+    eqb channel.u32_at.result k.u32_at-2.result)
 unfolding ◌and◌
 tested k =
-    let channel = k.before in
-    let kind = channel.before in
-    let a = kind.before.before.args in
+    let channel = k in
+    let kind = k in
+    let a = kind.args in
     rw (
       kind_at a.s.now a.p,
       channel-at a.s.now a.p,
       channel-at a.s.now a.i,
-      ← kind.u16-at.ensures,
-      ← channel.u32-at.ensures,
-      ← k.u32-at2.ensures,
+      ← kind.u16_at.ensures,
+      ← channel.u32_at.ensures,
+      ← k.u32_at-2.ensures,
     )
 
-returns : tie.Need-returns
-returns c = rw (tested c.before, c.if1.true)
+returns : tie.Need-returns-then-p-i
+returns c = rw (tested c.before, c.if-p-i.true)
 
-returns-2 : tie.Need-returns-2
-returns-2 c = rw (tested c.before, c.if1.false)
+returns-2 : tie.Need-returns
+returns-2 c = rw (tested c.before, c.if-p-i.false)
 
-pub companions-from-spec : {M : Type 1} → statement M
-companions-from-spec =
+pub companions_from_spec : {M : Type 1} → statement M
+companions_from_spec =
     tie.close
     (tie.spec
     (λ c. omega arith) (λ c. omega arith) (λ c. omega arith) (λ c. omega arith) (λ c κs. omega arith)

@@ -7,10 +7,10 @@ use Rattle.runs.proofs.is_zero_word.Tie as tie
 
 returns : tie.Need-returns
 returns c =
-    let o = c.before in
-    let s = o.before.args.s.now in
-    rw (zero_number o.before.args.at s (bytes-array s o.shared-slice-known.given), ← c.u64-at.ensures)
+    let o = c in
+    let s = o.args.s.now in
+    rw (zero_number o.args.at s (bytes-array s o.shared_slice_known-1.given), ← c.u64_at.ensures)
 
-pub is-zero-word-spec : {M : Type 1} → statement M
-is-zero-word-spec =
+pub is_zero_word_spec : {M : Type 1} → statement M
+is_zero_word_spec =
     tie.close (tie.spec (λ c κs. search rules) returns)

@@ -24,137 +24,137 @@ Up s count i size last at e =
     (Run s size i e × (e ≤ count) × (at ≡ records_from + slot_size * e)) ×
     ((i < e → last ≡ (key_at s (e - 1)).sequence) × (e ≡ i → last ≡ 0))
 
-abbrev invariant-loop : tie.invariant-loop
+abbrev invariant-loop : tie.invariant-loop-at
 invariant-loop s count i size first word end last₀ at₀ last at = Up s count i size last at (index at)
 
-abbrev decreases-loop : tie.decreases-loop
+abbrev decreases-loop : tie.decreases-loop-at
 decreases-loop s count i size first word end last₀ at₀ last at = end - at
 
-loop-holds : tie.Need-loop-init invariant-loop decreases-loop
+loop-holds : tie.Need-loop-at-init invariant-loop decreases-loop
 loop-holds c =
-    let a = c.before.before.args in
+    let a = c.args in
     let e : a.i ≡ index (records_from + slot_size * a.i) = omega arith in
     subst (Up a.s.now a.count a.i a.size 0 (records_from + slot_size * a.i)) e
     ((run_none a.s.now a.size a.i, omega arith, refl), (λ l. absurd (omega arith), λ q. refl))
 
-abbrev head : tie.After-u64-at2 invariant-loop decreases-loop → tie.At-loop invariant-loop decreases-loop
+abbrev head : tie.After-u64_at invariant-loop decreases-loop → tie.At-loop-at invariant-loop decreases-loop
 head k = k.before.before
 
-abbrev bytes : tie.At-loop invariant-loop decreases-loop → List ℕ
-bytes l = l.before.before.before.args.s.now
+abbrev bytes : tie.At-loop-at invariant-loop decreases-loop → List ℕ
+bytes l = l.args.s.now
 
-known : (l : tie.At-loop invariant-loop decreases-loop) → Bytes (bytes l)
-known l = bytes-array (bytes l) l.before.before.shared-slice-known.given
+known : (l : tie.At-loop-at invariant-loop decreases-loop) → Bytes (bytes l)
+known l = bytes-array (bytes l) l.shared_slice_known-1.given
 
 -- AT A SLOT: its first eight bytes and those of slot i
-own-word : (k : tie.After-u64-at2 invariant-loop decreases-loop) → let l = head k in
-    k.u64-at2.result ≡ field (records_from + slot_size * index l.loop.at) 8 (bytes l)
+own-word : (k : tie.After-u64_at invariant-loop decreases-loop) → let l = head k in
+    k.u64_at.result ≡ field (records_from + slot_size * index l.loop-at.at) 8 (bytes l)
 own-word k =
     let l = head k in
-    k.u64-at2.ensures ∙ ap (λ (x : ℕ). field x 8 (bytes l)) l.loop.inv.0.2
+    k.u64_at.ensures ∙ ap (λ (x : ℕ). field x 8 (bytes l)) l.loop-at.invariant.0.2
 
-returns : tie.Need-returns invariant-loop decreases-loop
+returns : tie.Need-returns-then-u64_at-word invariant-loop decreases-loop
 returns c =
     let k = c.before in
     let l = head k in
-    let a = l.before.before.before.args in
-    let inv = l.loop.inv in
+    let a = l.args in
+    let inv = l.loop-at.invariant in
     record {
       run = inv.0.0;
       high = inv.0.1;
       stopped = λ m b n h o r p.
-          c.if1.true
+          c.if-u64_at-word.true
           (own-word k ∙
-          same_word (bytes l) (known l) a.i (index l.loop.at) (omega arith) (omega arith) n b h ∙
-          sym l.before.u64-at.ensures);
+          same_word (bytes l) (known l) a.i (index l.loop-at.at) (omega arith) (omega arith) n b h ∙
+          sym l.u64_at-word.ensures);
     }
 
 -- ITS SEQUENCE
-sequence : (k : tie.After-u64-at3 invariant-loop decreases-loop) → let l = head k.before.before in
-    k.u64-at3.result ≡ (key_at (bytes l) (index l.loop.at)).sequence
+sequence : (k : tie.After-u64_at-next invariant-loop decreases-loop) → let l = head k.before.before in
+    k.u64_at-next.result ≡ (key_at (bytes l) (index l.loop-at.at)).sequence
 sequence k =
     let l = head k.before.before in
-    k.u64-at3.ensures ∙ ap (λ (x : ℕ). field (x + 8) 8 (bytes l)) l.loop.inv.0.2 ∙
-    sym (sequence-at (bytes l) (index l.loop.at))
+    k.u64_at-next.ensures ∙ ap (λ (x : ℕ). field (x + 8) 8 (bytes l)) l.loop-at.invariant.0.2 ∙
+    sym (sequence-at (bytes l) (index l.loop-at.at))
 
-returns-2 : tie.Need-returns-2 invariant-loop decreases-loop
+returns-2 : tie.Need-returns-then-next-last invariant-loop decreases-loop
 returns-2 c =
     let k = c.before in
     let l = head k.before.before in
-    let a = l.before.before.before.args in
-    let inv = l.loop.inv in
+    let a = l.args in
+    let inv = l.loop-at.invariant in
     let low = inv.0.0.low in
     record {
       run = inv.0.0;
       high = inv.0.1;
       stopped = λ m b n h o r p.
-          cases (ltb a.i (index l.loop.at))
-          (λ f. let g = ltb-true a.i (index l.loop.at) f in
-          omega (arith, c.if2.true, sequence k, inv.1.0 g, r g))
-          (λ f. let g = ltb-false a.i (index l.loop.at) f in
-          omega (arith, c.if2.true, sequence k, inv.1.1 (omega arith), o));
+          cases (ltb a.i (index l.loop-at.at))
+          (λ f. let g = ltb-true a.i (index l.loop-at.at) f in
+          omega (arith, c.if-next-last.true, sequence k, inv.1.0 g, r g))
+          (λ f. let g = ltb-false a.i (index l.loop-at.at) f in
+          omega (arith, c.if-next-last.true, sequence k, inv.1.1 (omega arith), o));
     }
 
 -- THE BYTES BEHIND ITS KEY
-plain : (k : tie.After-is-plain invariant-loop decreases-loop) → let l = head k.before.before.before.before in
-    k.is-plain.result ≡ is_plain (bytes l) l.before.before.before.args.size (index l.loop.at)
+plain : (k : tie.After-is_plain invariant-loop decreases-loop) → let l = head k.before.before.before.before in
+    k.is_plain.result ≡ is_plain (bytes l) l.args.size (index l.loop-at.at)
 plain k =
     let l = head k.before.before.before.before in
-    k.is-plain.ensures ∙
-    ap (λ (x : ℕ). are_zero (part (x + 16) l.before.before.before.args.size (bytes l))) l.loop.inv.0.2
+    k.is_plain.ensures ∙
+    ap (λ (x : ℕ). are_zero (part (x + 16) l.args.size (bytes l))) l.loop-at.invariant.0.2
 
-returns-3 : tie.Need-returns-3 invariant-loop decreases-loop
+returns-3 : tie.Need-returns-then-not-is_plain invariant-loop decreases-loop
 returns-3 c =
     let k = c.before in
     let l = head k.before.before.before.before in
-    let inv = l.loop.inv in
+    let inv = l.loop-at.invariant in
     record {
       run = inv.0.0;
       high = inv.0.1;
       stopped = λ m b n h o r p.
-          clash p (sym (plain k) ∙ not-true k.is-plain.result c.if3.true);
+          clash p (sym (plain k) ∙ c.if-not-is_plain.true);
     }
 
-loop-again : tie.Need-loop-preserved invariant-loop decreases-loop
+loop-again : tie.Need-loop-at-preserved invariant-loop decreases-loop
 loop-again c =
     let k = c.before in
     let word = k.before.before.before.before in
     let l = head word in
-    let a = l.before.before.before.args in
+    let a = l.args in
     let s = bytes l in
-    let e = index l.loop.at in
-    let inv = l.loop.inv in
+    let e = index l.loop-at.at in
+    let inv = l.loop-at.invariant in
     let next = k.before.before in
     let seq = sequence next in
     let same = word_same s (known l) a.i e (omega arith) (omega arith)
-    (sym (own-word word) ∙ k.before.before.before.if1.false ∙ l.before.u64-at.ensures) in
-    let above : 1 ≤ (key_at s e).sequence = omega (arith, k.before.if2.false, seq) in
+    (sym (own-word word) ∙ k.if-u64_at-word.false ∙ l.u64_at-word.ensures) in
+    let above : 1 ≤ (key_at s e).sequence = omega (arith, k.if-next-last.false, seq) in
     let rises : a.i < e → (key_at s (e - 1)).sequence < (key_at s e).sequence =
-    λ f. omega (arith, k.before.if2.false, seq, inv.1.0 f) in
+    λ f. omega (arith, k.if-next-last.false, seq, inv.1.0 f) in
     let run = run_more s a.size a.i e inv.0.0 same above rises
-    (sym (plain k) ∙ not-false k.is-plain.result c.if3.false) in
+    (sym (plain k) ∙ c.if-not-is_plain.false) in
     let at = inv.0.2 in
-    let z : e + 1 ≡ index (l.loop.at + slot_size) = omega arith in
+    let z : e + 1 ≡ index (l.loop-at.at + slot_size) = omega arith in
     let y : e ≡ e + 1 - 1 = omega arith in
     let low = inv.0.0.low in
-    subst (Up s a.count a.i a.size next.u64-at3.result (l.loop.at + slot_size)) z
+    subst (Up s a.count a.i a.size next.u64_at-next.result (l.loop-at.at + slot_size)) z
     ((run, omega arith, omega arith), (λ f. seq ∙ ap (λ (x : ℕ). (key_at s x).sequence) y, λ f. absurd (omega arith)))
 
-returns-4 : tie.Need-returns-4 invariant-loop decreases-loop
+returns-4 : tie.Need-returns invariant-loop decreases-loop
 returns-4 c =
-    let inv = c.before.loop.invariant in
+    let inv = c.loop-at.invariant in
     record { run = inv.0.0; high = inv.0.1; stopped = λ m b n h o r p. omega (arith, inv.0.2) }
 
 -- the place is that of a slot, and in the loop that slot is one of the table's
-from : (l : tie.At-loop invariant-loop decreases-loop) → records_from ≤ l.loop.at
-from l = omega (arith, l.loop.invariant.0.2)
+from : (l : tie.At-loop-at invariant-loop decreases-loop) → records_from ≤ l.loop-at.at
+from l = omega (arith, l.loop-at.invariant.0.2)
 
-within : (k : tie.In-loop invariant-loop decreases-loop) →
-    k.before.loop.at + slot_size ≤ records_from + slot_size * k.before.before.before.before.args.count
-within k = omega (arith, k.before.loop.invariant.0.2)
+within : (k : tie.In-loop-at invariant-loop decreases-loop) →
+    k.loop-at.at + slot_size ≤ records_from + slot_size * k.args.count
+within k = omega (arith, k.loop-at.invariant.0.2)
 
-pub run-end-spec : {M : Type 1} → statement M
-run-end-spec =
+pub run_end_spec : {M : Type 1} → statement M
+run_end_spec =
     tie.close
     (tie.spec
     invariant-loop decreases-loop (λ c. omega arith) (λ c. omega arith) (λ c κs. omega arith) (λ c. omega arith) (λ c. omega arith)

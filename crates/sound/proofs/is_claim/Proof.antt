@@ -8,6 +8,6 @@ returns : tie.Need-returns
 unfolding ◌and◌
 returns c = rw claim-known
 
-pub is-claim-spec : {M : Type 1} → statement M
-is-claim-spec =
+pub is_claim_spec : {M : Type 1} → statement M
+is_claim_spec =
     tie.close (tie.spec returns)

@@ -11,11 +11,11 @@ use Rattle.sound.proofs.is_context_sound.Tie as tie
 returns : tie.Need-returns
 unfolding is_context_sound context_in ◌and◌
 returns c =
-    let word = c.before in
-    let o = word.before.before in
+    let word = c in
+    let o = c in
     let d = o.args.d.now in
-    let bytes = bytes-array d word.before.shared-slice-known.given in
-    rw (← context-word d bytes (omega arith), ← word.u64-at.ensures, ← c.u64-at2.ensures)
+    let bytes = bytes-array d word.shared_slice_known-1.given in
+    rw (← context-word d bytes (omega arith), ← word.u64_at.ensures, ← c.u64_at-2.ensures)
 
-pub is-context-sound-spec : {M : Type 1} → statement M
-is-context-sound-spec = tie.close (tie.spec (λ c. search rules) (λ c κs. search rules) (λ c κs. search rules) returns)
+pub is_context_sound_spec : {M : Type 1} → statement M
+is_context_sound_spec = tie.close (tie.spec (λ c. search rules) (λ c κs. search rules) (λ c κs. search rules) returns)

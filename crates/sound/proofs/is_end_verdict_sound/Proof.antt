@@ -10,10 +10,10 @@ use Rattle.sound.proofs.is_end_verdict_sound.Tie as tie
 returns : tie.Need-returns
 unfolding end_verdict_in end_verdict_from
 returns c =
-    rw (← c.before.before.end-verdict-place.ensures, ← c.before.u16-at.ensures) c.is-claim.ensures
+    rw (← c.end_verdict_place.ensures, ← c.u16_at.ensures) c.is_claim.ensures
 
-pub is-end-verdict-sound-spec : {M : Type 1} → statement M
-is-end-verdict-sound-spec =
+pub is_end_verdict_sound_spec : {M : Type 1} → statement M
+is_end_verdict_sound_spec =
     tie.close
-    (tie.spec (λ c κs. search rules) (λ c κs. omega (arith, part_room end_verdict_part _ c.before.before.requires.0))
+    (tie.spec (λ c κs. search rules) (λ c κs. omega (arith, part_room end_verdict_part _ c.requires.0))
     (λ c κs. search rules) returns)

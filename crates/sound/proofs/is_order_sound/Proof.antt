@@ -6,8 +6,8 @@ use Rattle.sound.proofs.is_order_sound.Tie as tie
 
 returns : tie.Need-returns
 unfolding ◌and◌
-returns c = rw (← c.order-in.ensures)
+returns c = rw (← c.order_in-order.ensures)
 
-pub is-order-sound-spec : {M : Type 1} → statement M
-is-order-sound-spec =
+pub is_order_sound_spec : {M : Type 1} → statement M
+is_order_sound_spec =
     tie.close (tie.spec (λ c κs. search rules) returns)

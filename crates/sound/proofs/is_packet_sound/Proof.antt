@@ -6,8 +6,8 @@ use Rattle.sound.proofs.is_packet_sound.Tie as tie
 
 returns : tie.Need-returns
 unfolding packet_in
-returns c = rw (← c.u64-at.ensures)
+returns c = rw (← c.u64_at.ensures)
 
-pub is-packet-sound-spec : {M : Type 1} → statement M
-is-packet-sound-spec =
+pub is_packet_sound_spec : {M : Type 1} → statement M
+is_packet_sound_spec =
     tie.close (tie.spec (λ c κs. search rules) returns)

@@ -24,36 +24,36 @@ module _ (o : tie.Start) where
       (is_sound bytes
       ≡ (is_sized (kind_of o.args.kind) o.args.length
       and (is_context_sound bytes and is_body_sound (kind_of o.args.kind) bytes)))
-  tests = whole bytes o.pre
+  tests = whole bytes o.requires
 
 -- where its length is the kind's
-long : (c : tie.Else1) → let a = c.before.before.before.args in size_of (kind_of a.kind) ≤ length a.d.now
+long : (c : tie.Else-not-is_sized) → let a = c.args in size_of (kind_of a.kind) ≤ length a.d.now
 long c =
     let o = c.before.before.before in
-    let right = sym c.before.is-sized.ensures ∙ not-false c.before.is-sized.result c.if1.false in
+    let right = sym c.is_sized.ensures ∙ c.if-not-is_sized.false in
     omega (arith, (tests o).0, sized (kind_of o.args.kind) o.args.length right)
 
-returns : tie.Need-returns
+returns : tie.Need-returns-then-not-is_sized
 unfolding ◌and◌
 returns c =
-    let other = not-true c.before.is-sized.result c.if1.true in
-    rw ((tests c.before.before.before).1, ← c.before.is-sized.ensures, other)
+    let other = c.if-not-is_sized.true in
+    rw ((tests c.before.before.before).1, ← c.is_sized.ensures, other)
 
-returns-2 : tie.Need-returns-2
+returns-2 : tie.Need-returns
 unfolding ◌and◌
 returns-2 c =
     let sizes = c.before.before.before in
-    let right = not-false sizes.is-sized.result c.before.before.if1.false in
+    let right = c.if-not-is_sized.false in
     rw (
       (tests sizes.before.before).1,
-      ← sizes.is-sized.ensures,
+      ← sizes.is_sized.ensures,
       right,
-      ← c.before.is-context-sound.ensures,
-      ← c.is-body-sound.ensures,
+      ← c.is_context_sound.ensures,
+      ← c.is_body_sound.ensures,
     )
 
-pub is-sound-spec : {M : Type 1} → statement M
-is-sound-spec =
+pub is_sound_spec : {M : Type 1} → statement M
+is_sound_spec =
     tie.close
     (tie.spec
     (λ c κs. search rules) returns (λ c κs. omega (arith, long c)) (λ c κs. long c.before) returns-2)

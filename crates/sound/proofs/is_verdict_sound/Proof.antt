@@ -10,10 +10,10 @@ use Rattle.sound.proofs.is_verdict_sound.Tie as tie
 returns : tie.Need-returns
 unfolding verdict_in verdict_from
 returns c =
-    rw (← c.before.before.verdict-place.ensures, ← c.before.u16-at.ensures) c.is-claim.ensures
+    rw (← c.verdict_place.ensures, ← c.u16_at.ensures) c.is_claim.ensures
 
-pub is-verdict-sound-spec : {M : Type 1} → statement M
-is-verdict-sound-spec =
+pub is_verdict_sound_spec : {M : Type 1} → statement M
+is_verdict_sound_spec =
     tie.close
-    (tie.spec (λ c κs. search rules) (λ c κs. omega (arith, part_room verdict_part _ c.before.before.requires.0))
+    (tie.spec (λ c κs. search rules) (λ c κs. omega (arith, part_room verdict_part _ c.requires.0))
     (λ c κs. search rules) returns)

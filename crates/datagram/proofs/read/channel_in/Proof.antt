@@ -26,11 +26,11 @@ unfolding with_number body parts_size size_before channel_from
 own c =
     let a = c.args in
     let P = Lies body_from a.d.now in
-    elim c.match.branch [
-      | inl w ↦ by_key P (1 ∷ 3 ∷ []) (omega arith, refl) (omega arith, refl) a.kind w.keys1
+    elim c.in-1-1.branch-raw [
+      | inl w ↦ by_key P (1 ∷ 3 ∷ []) (omega arith, refl) (omega arith, refl) a.kind w.in-1-1.keys1
       | inr w ↦
           by-range P arms 8 4 (omega arith, refl) (omega arith, refl) (omega arith, refl) (omega arith, refl) a.kind
-          w.0.rest (w.3.left, w.4.taken)
+          w.in_default-1.rest (w.if-kind-lt8-1.false, w.if-kind-lt12-1.true)
     ]
 
 source : (c : tie.In-4-1) → let a = c.args in Lies (body_from + 26) a.d.now a.kind
@@ -38,10 +38,10 @@ unfolding with_number body parts_size size_before channel_from packet_from packe
 source c =
     let a = c.args in
     let P = Lies (body_from + 26) a.d.now in
-    elim c.match.branch [
-      | inl w ↦ by_key P (12 ∷ []) (omega arith, refl) a.kind w.keys3
+    elim c.in-4-1.branch-raw [
+      | inl w ↦ by_key P (12 ∷ []) (omega arith, refl) a.kind w.in-12-1.keys3
       | inr w ↦
-          by-range P arms 1 5 (omega arith, refl) (omega arith, refl) a.kind w.0.rest (w.1.left, w.2.taken)
+          by-range P arms 1 5 (omega arith, refl) (omega arith, refl) a.kind w.in_default-1.rest (w.if-kind-lt1-1.false, w.if-kind-lt6-1.true)
     ]
 
 u32-at-requires : tie.Need-u32_at-requires
@@ -62,18 +62,16 @@ returns-2 c =
 returns-3 : tie.Need-returns-in_default-2
 unfolding with_number channel_from
 returns-3 c =
-    let m = c.before.before.before in
-    let a = m.args in
-    by-range (λ (n : ℕ). 0 ≡ channel_from (kind_of n) a.d.now) arms 6 2 refl refl a.kind m.in_default.in_default-own.rest
-    (c.if-kind-lt6.false, c.if-kind-lt8.true)
+    let a = c.args in
+    by-range (λ (n : ℕ). 0 ≡ channel_from (kind_of n) a.d.now) arms 6 2 refl refl a.kind c.in_default.in_default-own.rest
+    (c.in_default.if-kind-lt6-own.false, c.in_default.if-kind-lt8-own.true)
 
 returns-4 : tie.Need-returns-in_default-3
 unfolding channel_from
 returns-4 c =
-    let m = c.before.before.before.before in
-    let a = m.args in
-    by_kind (λ (n : ℕ). 0 ≡ channel_from (kind_of n) a.d.now) arms 12 a.kind m.in_default.in_default-own.rest
-    (c.if-kind-lt12.false, λ e. rw e)
+    let a = c.args in
+    by_kind (λ (n : ℕ). 0 ≡ channel_from (kind_of n) a.d.now) arms 12 a.kind c.in_default.in_default-own.rest
+    (c.in_default.if-kind-lt12-own.false, λ e. rw e)
 
 pub channel_in_spec : {M : Type 1} → statement M
 channel_in_spec =
@@ -81,4 +79,4 @@ channel_in_spec =
     (tie.spec
     (λ c. search rules) u32-at-requires (λ c. search rules) (λ c κs. omega (arith, (source c).0))
     (λ c κs. omega (arith, (own c).0)) returns returns-2 returns-3
-    returns-4 (λ c. c.u32_at-in-4.ensures ∙ (source c.before).1) (λ c. c.u32-at3.ensures ∙ (own c.before).1))
+    returns-4 (λ c. c.u32_at-in-4.ensures ∙ (source c.before).1) (λ c. c.u32_at-in-1.ensures ∙ (own c.before).1))
