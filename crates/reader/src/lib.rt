@@ -1,6 +1,6 @@
 // One record at a time. A reader holds the input and a place in it; it tells what stands there and hands out the
-// record, and `moved` is a reader at another place. The functions over it are thin, since each is proved by a walk: the
-// work is `front_at` and `part_at`. Other crates use `next_at` and `bytes_at`, whose parameters are plain.
+// record, and `moved` is a reader at another place. The functions over it are thin: the work is `front_at` and
+// `part_at`. Other crates use `next_at` and `bytes_at`, whose parameters are plain.
 #![tactic(auto)]
 
 ghost use Rattle.std.specs.Prelude.{◌≡◌, drop};

@@ -6,7 +6,7 @@ use lib.Seq.{length-take-le, take_all}
 use Rattle.input.proofs.end_within.Statement.{statement}
 use Rattle.input.proofs.end_within.Tie as tie
 
-returns : tie.Need-returns
+returns : tie.Need-returns-then-bytes-size
 returns c =
     let a = c.before.args in
     let bytes = a.bytes.now in (
@@ -15,10 +15,10 @@ returns c =
       sym (length-take-le (length bytes) bytes (omega arith)),
     )
 
-returns-2 : tie.Need-returns-2
+returns-2 : tie.Need-returns
 returns-2 c =
     let a = c.before.args in
     (omega arith, refl, sym (length-take-le a.size a.bytes.now (omega arith)))
 
-pub end-within-spec : {M : Type 1} → statement M
-end-within-spec = tie.close (tie.spec returns returns-2)
+pub end_within_spec : {M : Type 1} → statement M
+end_within_spec = tie.close (tie.spec returns returns-2)

@@ -25,31 +25,31 @@ given-read (pos zero) s h some = absurd (some refl)
 given-read (pos (suc n)) s h some = (tt, record { fits = omega (arith, s.sfits) }, refl)
 given-read (negsuc n) s h some = absurd (subst Holds h tt)
 
-returns : tie.Need-returns
+returns : tie.Need-returns-then-got-lt0
 returns c =
     let o = c.before in
     given-failed o.args.got
-    (subst (λ (z : ℤ). lt_z z (pos 0) ≡ true) (to_z-of_z w64 o.args.got o.ranges.got) c.if1.true)
+    (subst (λ (z : ℤ). lt_z z (pos 0) ≡ true) (to_z-of_z w64 o.args.got o.ranges.got) c.if-got-lt0.true)
 
-returns-2 : tie.Need-returns-2
+returns-2 : tie.Need-returns-then-got-eq0
 returns-2 c =
     let o = c.before.before in
-    ap given_of (sym (ap (to_z w64) c.if2.true) ∙ to_z-of_z w64 o.args.got o.ranges.got)
+    ap given_of (sym (ap (to_z w64) c.if-got-eq0.true) ∙ to_z-of_z w64 o.args.got o.ranges.got)
 
-read : (c : tie.Else2) → let z = to_z w64 (of_z w64 c.before.before.args.got) in
+read : (c : tie.Else-got-eq0) → let z = to_z w64 (of_z w64 c.before.before.args.got) in
     Holds (non_neg z) × Fits w64 (nat_abs z) × (Read (nat_abs z) ≡ given_of c.before.before.args.got)
 read c =
     let o = c.before.before in
     let same = to_z-of_z w64 o.args.got o.ranges.got in
-    let positive = subst (λ (z : ℤ). lt_z z (pos 0) ≡ false) same c.before.if1.false in
+    let positive = subst (λ (z : ℤ). lt_z z (pos 0) ≡ false) same c.before.if-got-lt0.false in
     subst (λ (z : ℤ). Holds (non_neg z) × Fits w64 (nat_abs z) × (Read (nat_abs z) ≡ given_of o.args.got)) (sym same)
-    (given-read o.args.got o.ranges.got positive (λ e. c.if2.false (ap (of_z w64) e)))
+    (given-read o.args.got o.ranges.got positive (λ e. c.if-got-eq0.false (ap (of_z w64) e)))
 
-cast-t3 : tie.Need-overflow-cast-t3
+cast-t3 : tie.Need-overflow_cast-result
 cast-t3 c = ((read c).0, (read c).1)
 
-returns-3 : tie.Need-returns-3
+returns-3 : tie.Need-returns
 returns-3 c = (read c).2
 
-pub given-by-spec : {M : Type 1} → statement M
-given-by-spec = tie.close (tie.spec returns returns-2 cast-t3 returns-3)
+pub given_by_spec : {M : Type 1} → statement M
+given_by_spec = tie.close (tie.spec returns returns-2 cast-t3 returns-3)

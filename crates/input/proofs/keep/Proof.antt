@@ -15,35 +15,32 @@ use Rattle.input.proofs.KeptLaws.{get_or-patch-behind, length-part-most}
 use Rattle.input.proofs.keep.Statement.{statement}
 use Rattle.input.proofs.keep.Tie as tie
 
-abbrev invariant-loop : tie.invariant-loop
+abbrev invariant-loop : tie.invariant-loop-i
 invariant-loop piece₀ from to size i₀ piece i = (i ≤ size) × (piece ≡ patch 0 (take i (part from (to - from) piece₀)) piece₀)
 
-abbrev decreases-loop : tie.decreases-loop
+abbrev decreases-loop : tie.decreases-loop-i
 decreases-loop piece₀ from to size i₀ piece i = size - i
 
-loop-holds : tie.Need-loop-init invariant-loop decreases-loop
+loop-holds : tie.Need-loop-i-init invariant-loop decreases-loop
 unfolding patch
 loop-holds c = (omega arith, refl)
 
 -- the place that is read lies in the piece
-inside : (c : tie.In-loop invariant-loop decreases-loop) → let a = c.before.before.before.before.before.args in
-    a.from + c.before.loop.i < length a.piece.now
+inside : (c : tie.In-loop-i invariant-loop decreases-loop) → let a = c.before.before.before.before.args in
+    a.from + c.before.loop-i.i < length a.piece.now
 inside c =
-    let a = c.before.before.before.before.before.args in
-    let z = c.before.before.size-between in
+    let a = c.before.before.before.before.args in
+    let z = c.before.before.size_between-size in
     omega (arith, z.ensures, length-part-most a.from (a.to - a.from) a.piece.now)
 
-slice-read-piece : tie.Need-slice-read-piece invariant-loop decreases-loop
-slice-read-piece c = rw c.before.before.loop.invariant.1 (simp length-patch (inside c.before))
+slice-write-piece : tie.Need-bounds-piece-i invariant-loop decreases-loop
+slice-write-piece c = rw c.before.before.loop-i.invariant.1 (simp length-patch (omega (arith, inside c.before)))
 
-slice-write-piece : tie.Need-slice-write-piece invariant-loop decreases-loop
-slice-write-piece c = rw c.before.before.loop.invariant.1 (simp length-patch (omega (arith, inside c.before)))
-
-loop-again : tie.Need-loop-preserved invariant-loop decreases-loop
+loop-again : tie.Need-loop-i-preserved invariant-loop decreases-loop
 loop-again c =
-    let v = c.before.before.loop in
-    let z = c.before.before.before.size-between in
-    let a = c.before.before.before.before.before.before.args in
+    let v = c.before.before.loop-i in
+    let z = c.before.before.before.size_between-size in
+    let a = c.before.before.before.before.before.args in
     let p = a.piece.now in
     let n = a.to - a.from in
     let xs = part a.from n p in
@@ -60,14 +57,14 @@ loop-again c =
       rw (v.invariant.1, behind, ← read, add-one v.i, take-suc xs v.i 0 (omega (arith, z.ensures))) stored,
     )
 
-same_length : tie.Need-same-length invariant-loop decreases-loop
-same_length c = rw c.before.loop.invariant.1 (length-patch _ _ _)
+same_length : tie.Need-shape_of-piece invariant-loop decreases-loop
+same_length c = rw c.before.loop-i.invariant.1 (length-patch _ _ _)
 
 returns : tie.Need-returns invariant-loop decreases-loop
 returns c =
-    let v = c.before.loop in
-    let z = c.before.before.size-between in
-    let a = c.before.before.before.before.before.args in
+    let v = c.before.loop-i in
+    let z = c.before.before.size_between-size in
+    let a = c.before.before.before.before.args in
     let xs = part a.from (a.to - a.from) a.piece.now in
     let end : v.i ≡ length xs = omega (arith, z.ensures) in
     (z.ensures, v.invariant.1 ∙ rw (end, take_all (length xs) xs (omega arith)))
@@ -76,6 +73,6 @@ pub keep_spec : {M : Type 1} → statement M
 keep_spec =
     tie.close
     (tie.spec
-    invariant-loop decreases-loop (λ c κs. search rules) loop-holds (λ c. omega (arith, inside c)) slice-read-piece
-    slice-write-piece (λ c. omega (arith, inside c.before)) (λ c. omega arith)
+    invariant-loop decreases-loop (λ c κs. search rules) loop-holds (λ c. omega (arith, inside c))
+    (λ c. rw c.loop-i.invariant.1 (simp length-patch (omega (arith, inside c.before)))) slice-write-piece (λ c. omega (arith, inside c.before)) (λ c. omega arith)
     loop-again same_length returns)

@@ -21,15 +21,15 @@ front-short : (at : ℕ) (bs : List ℕ) → length bs - at < 4 → Short ≡ fr
 unfolding front_of
 front-short at bs few = rw (length-drop at bs, lt-ltb (length bs - at) 4 few)
 
-returns : tie.Need-returns
+returns : tie.Need-returns-then-src-at
 returns c =
-    let a = c.before.before.args in
+    let a = c.args in
     front-short a.at a.src.now (omega arith)
 
-returns-2 : tie.Need-returns-2
+returns-2 : tie.Need-returns-then-left-lt4
 returns-2 c =
-    let a = c.before.before.before.args in
-    front-short a.at a.src.now c.if2.true
+    let a = c.args in
+    front-short a.at a.src.now c.if-left-lt4.true
 
 -- the answer by the length that was read
 abbrev by_size : (left size : ℕ) → Front
@@ -44,7 +44,7 @@ is-in : {size : ℕ} → least_record ≤ size → size ≤ greatest_record → 
 unfolding ◌and◌
 is-in {size} low high = rw (le-leb least_record size low, le-leb size greatest_record high)
 
-module _ (u : tie.After-u32-at) where
+module _ (u : tie.After-u32_at-size) where
   abbrev o : tie.Start
   o = u.before.before.before.before
 
@@ -52,34 +52,32 @@ module _ (u : tie.After-u32-at) where
   left = length o.args.src.now - o.args.at
 
   abbrev size : ℕ
-  size = u.u32-at.result
+  size = u.u32_at-size.result
 
   read : front_of (drop o.args.at o.args.src.now) ≡ by_size left size
-  read = front_read o.args.at size o.args.src.now u.before.if2.left u.u32-at.ensures
+  read = front_read o.args.at size o.args.src.now u.if-left-lt4.false u.u32_at-size.ensures
 
-returns-3 : tie.Need-returns-3
+returns-3 : tie.Need-returns-then-size-lt-LEAST
 unfolding ◌and◌
-returns-3 c = rw (read c.before, lt-leb least_record (size c.before) c.if3.true)
+returns-3 c = rw (read c.before, lt-leb least_record (size c.before) c.if-size-lt-LEAST.true)
 
-returns-4 : tie.Need-returns-4
+returns-4 : tie.Need-returns-then-size-gt-GREATEST
 unfolding ◌and◌
 returns-4 c =
     let n = size c.before.before in
-    rw (read c.before.before, le-leb least_record n c.before.if3.false, lt-leb n greatest_record c.if4.true)
+    rw (read c.before.before, le-leb least_record n c.if-size-lt-LEAST.false, lt-leb n greatest_record c.if-size-gt-GREATEST.true)
 
-returns-5 : tie.Need-returns-5
-returns-5 c =
-    let u = c.before.before.before in
-    rw (read u, is-in c.before.before.if3.false c.before.if4.false, lt-ltb (left u) (size u) c.if5.true)
-
-returns-6 : tie.Need-returns-6
+returns-6 : tie.Need-returns
 returns-6 c =
     let u = c.before.before.before in
-    rw (read u, is-in c.before.before.if3.false c.before.if4.false, le-ltb (left u) (size u) c.if5.false)
+    rw (read u, is-in c.if-size-lt-LEAST.false c.if-size-gt-GREATEST.false, le-ltb (left u) (size u) (omega arith))
 
-pub front-at-spec : {M : Type 1} → statement M
-front-at-spec =
+pub front_at_spec : {M : Type 1} → statement M
+front_at_spec =
     tie.close
     (tie.spec
-    returns (λ c. search rules) returns-2 (λ c κs. search rules) (λ c. search rules) returns-3 returns-4 returns-5
+    returns (λ c. search rules) returns-2 (λ c κs. search rules) (λ c. search rules) returns-3 returns-4
+    (λ c.
+      let u = c.before.before.before in
+      rw (read u, is-in c.if-size-lt-LEAST.false c.if-size-gt-GREATEST.false, lt-ltb (left u) (size u) (omega arith)))
     returns-6)

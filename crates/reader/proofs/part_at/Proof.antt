@@ -17,25 +17,22 @@ part-most from at n size bs h e =
     let left : n ≡ min size (length (drop at bs)) = omega (arith, h, e, length-drop at bs) in
     ap (take n) (drop-most from at bs h) ∙ take-most n size (drop at bs) left
 
-returns : tie.Need-returns
-returns c =
-    let a = c.before.before.before.before.args in
-    let w = c.before.before.end-within in
-    let src = a.src.now in
-    let from = length_front w.result a.at src w.ensures.0 w.ensures.1 in
-    part-most w.result a.at (length src - w.result) a.size src from (omega arith)
-
-returns-2 : tie.Need-returns-2
+returns-2 : tie.Need-returns
 returns-2 c =
-    let a = c.before.before.before.before.args in
-    let w = c.before.before.end-within in
+    let a = c.args in
+    let w = c.end_within-from in
     let src = a.src.now in
     let from = length_front w.result a.at src w.ensures.0 w.ensures.1 in
     part-most w.result a.at (w.result + a.size - w.result) a.size src from (omega arith)
 
-pub part-at-spec : {M : Type 1} → statement M
-part-at-spec =
+pub part_at_spec : {M : Type 1} → statement M
+part_at_spec =
     tie.close
     (tie.spec
-    (λ c κs. search rules) (λ c. search rules) (λ c. search rules) (λ c. search rules) (λ c. search rules) returns
+    (λ c κs. search rules) (λ c. search rules) (λ c. search rules) (λ c. search rules) (λ c. search rules)
+    (λ c.
+      let w = c.end_within-from in
+      let src = c.args.src.now in
+      let from = length_front w.result c.args.at src w.ensures.0 w.ensures.1 in
+      part-most w.result c.args.at (length src - w.result) c.args.size src from (omega arith))
     (λ c. search rules) (λ c. search rules) (λ c. search rules) (λ c. search rules) returns-2)

@@ -12,46 +12,36 @@ use Rattle.stream.proofs.after_read.Statement.{statement}
 use Rattle.stream.proofs.after_read.Tie as tie
 
 -- what the read gave; a signed number is passed in bits, and read back it is the number
-gave : (g : tie.After-given-by) → given_of g.before.before.before.before.args.got ≡ g.given_by.result
-gave g =
-    let o = g.before.before.before.before in
-    ap given_of (sym (to_z-of_z w64 o.args.got o.ranges.got)) ∙ sym g.given_by.ensures
-
-returns : tie.Need-returns
+returns : tie.Need-returns-in-Read
 returns c =
-    let f = c.before.before.before.before.before.before in
-    let e = f.before.before.before.before in
-    let m = e.before.before.before in
-    let g = m.before.before in
-    let a = g.before.before.before.before.args in
-    let read : given_of a.got ≡ Read m.read.given.0.0 = gave g ∙ m.read.given.1 in
-    rw (read, ← e.end-behind.ensures.1) f.feed-front.ensures
+    let a = c.args in
+    let gave = ap given_of (sym (to_z-of_z w64 a.got c.ranges.got)) ∙ sym c.given_by.ensures in
+    let read : given_of a.got ≡ Read c.in-Read.read = gave ∙ c.in-Read.is in
+    rw (read, ← c.end_behind-end.ensures.1) c.feed_front.ensures
 
-returns-2 : tie.Need-returns-2
+returns-2 : tie.Need-returns-in-Ended
 unfolding patch
 returns-2 c =
-    let m = c.before.before.before.before.before.before in
-    let g = m.before.before in
-    let a = g.before.before.before.before.args in
-    let w = c.before.before.before.before.end-within in
-    let p = c.before.before.last.ensures in
-    let ended : given_of a.got ≡ Ended = gave g ∙ m.enum_told.given.1 in
+    let a = c.args in
+    let gave = ap given_of (sym (to_z-of_z w64 a.got c.ranges.got)) ∙ sym c.given_by.ensures in
+    let w = c.end_within-left in
+    let p = c.last.ensures in
+    let ended : given_of a.got ≡ Ended = gave ∙ c.in-Ended.is in
     let left : w.result ≡ length (take a.held a.piece.now) =
     sym (length-take-le w.result a.piece.now w.ensures.0) ∙ ap length w.ensures.1 in
     rw (ended, ← left) (p.0, refl, refl, p.1)
 
-returns-3 : tie.Need-returns-3
+returns-3 : tie.Need-returns-in-Failed
 unfolding patch
 returns-3 c =
-    let m = c.before.before.before.before in
-    let g = m.before.before in
-    let a = g.before.before.before.before.args in
-    let p = c.before.before.last2.ensures in
-    let failed : given_of a.got ≡ Failed = gave g ∙ m.enum-told2.given.1 in
+    let a = c.args in
+    let gave = ap given_of (sym (to_z-of_z w64 a.got c.ranges.got)) ∙ sym c.given_by.ensures in
+    let p = c.last-in-Failed.ensures in
+    let failed : given_of a.got ≡ Failed = gave ∙ c.in-Failed.is in
     rw failed (p.0, refl, refl, p.1)
 
-pub after-read-spec : {M : Type 1} → statement M
-after-read-spec =
+pub after_read_spec : {M : Type 1} → statement M
+after_read_spec =
     tie.close
     (tie.spec
     (λ c κs. search rules) (λ c. search rules) (λ c κs. search rules) (λ c κs. search rules) (λ c. search rules)

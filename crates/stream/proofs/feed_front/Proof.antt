@@ -9,22 +9,22 @@ use Rattle.stream.proofs.StreamLaws.{takes-fed}
 use Rattle.stream.proofs.feed_front.Statement.{statement}
 use Rattle.stream.proofs.feed_front.Tie as tie
 
-slice-aggregate-feed : tie.Need-slice-aggregate-feed
+slice-aggregate-feed : tie.Need-slice_bounds-feed-end-2
 slice-aggregate-feed c =
-    let o = c.before.before.before.before.before in
+    let o = c in
     sym (length-take-le o.args.end o.args.piece.now o.requires)
 
 returns : tie.Need-returns
 returns c =
-    let k = c.before.before.before.before in
-    let f = k.before.before.before.before.before.before in
-    let o = f.before.before.before.before.before.before.before in
+    let k = c in
+    let f = c in
+    let o = c in
     let a = o.args in
     takes-fed (length a.text.now / line_room) a.replay a.room.now a.end a.piece.now a.text.now
-    f.feed.result o.requires f.feed.ensures k.keep.ensures c.is-over.ensures
+    f.feed-fed.result o.requires f.feed-fed.ensures k.keep-held.ensures c.is_over-is_ended.ensures
 
-pub feed-front-spec : {M : Type 1} → statement M
-feed-front-spec =
+pub feed_front_spec : {M : Type 1} → statement M
+feed_front_spec =
     tie.close
     (tie.spec
     (λ c. search rules) slice-aggregate-feed (λ c κs. search rules) (λ c κs. search rules) (λ c κs. search rules)

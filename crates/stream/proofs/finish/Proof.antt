@@ -22,47 +22,47 @@ stored : (text : List ℕ) (replay : Replay) (k : ℕ) {line : List ℕ} {r : �
 stored text replay k {line} h e p =
     rw (last-within (length text) replay k h, e) (p.0 ∙ zero-add (length line), p.1)
 
-returns : tie.Need-returns
+returns : tie.Need-returns-then-text-lt-LINE
 unfolding patch
 returns c =
-    let a = c.before.before.args in
-    rw (last-nowhere (length a.text.now) a.replay a.left c.if1.true) (refl, refl)
+    let a = c.args in
+    rw (last-nowhere (length a.text.now) a.replay a.left c.if-text-lt-LINE.true) (refl, refl)
 
-returns-2 : tie.Need-returns-2
+returns-2 : tie.Need-returns-then-left-eq0
 returns-2 c =
-    let t = c.before.before.before.before.before in
-    let a = t.before.before.before.before.before.args in
-    let zero = eq-eqb a.left 0 t.if2.true in
+    let t = c in
+    let a = t.args in
+    let zero = eq-eqb a.left 0 t.if-left-eq0.true in
     let e : last_line a.replay a.left ≡ line_of end_word a.replay.count =
-    rw (t.before.enum-told2.given.1, zero) in
-    stored a.text.now a.replay a.left (omega arith) e c.before.before.put-word-line2.ensures
+    rw (t.in-Running.is, zero) in
+    stored a.text.now a.replay a.left (omega arith) e c.put_word_line-then-left-eq0.ensures
 
-returns-3 : tie.Need-returns-3
+returns-3 : tie.Need-returns-in-Before
 returns-3 c =
-    let t = c.before.before.before.before.before in
-    let a = t.before.before.before.before.args in
-    let e : last_line a.replay a.left ≡ line_of torn_word 0 = rw t.enum_told.given.1 in
-    stored a.text.now a.replay a.left (omega arith) e c.before.before.put-word-line.ensures
+    let t = c in
+    let a = t.args in
+    let e : last_line a.replay a.left ≡ line_of torn_word 0 = rw t.in-Before.is in
+    stored a.text.now a.replay a.left (omega arith) e c.put_word_line.ensures
 
-returns-4 : tie.Need-returns-4
+returns-4 : tie.Need-returns-else-left-eq0
 returns-4 c =
-    let t = c.before.before.before.before.before in
-    let a = t.before.before.before.before.before.args in
-    let some = ne_eqb a.left 0 t.if2.false in
+    let t = c in
+    let a = t.args in
+    let some = ne_eqb a.left 0 t.if-left-eq0.false in
     let e : last_line a.replay a.left ≡ line_of torn_word a.replay.count =
-    rw (t.before.enum-told2.given.1, some) in
-    stored a.text.now a.replay a.left (omega arith) e c.before.before.put-word-line3.ensures
+    rw (t.in-Running.is, some) in
+    stored a.text.now a.replay a.left (omega arith) e c.put_word_line-in-Running.ensures
 
-returns-5 : tie.Need-returns-5
+returns-5 : tie.Need-returns-in-Over
 unfolding patch
 returns-5 c =
-    let a = c.before.before.before.before.args in
-    rw (last-within (length a.text.now) a.replay a.left (omega arith), c.enum-told3.given.1) (refl, refl)
+    let a = c.args in
+    rw (last-within (length a.text.now) a.replay a.left (omega arith), c.in-Over.is) (refl, refl)
 
 pub finish_spec : {M : Type 1} → statement M
 finish_spec =
     tie.close
     (tie.spec
-    returns (λ c. search rules) (λ c. search rules) (λ c κs. search rules) (λ c. search rules) (λ c. search rules)
-    (λ c κs. search rules) (λ c. search rules) returns-2 (λ c. search rules) (λ c κs. search rules) (λ c. search rules)
-    (λ c. search rules) returns-3 (λ c. search rules) returns-4 returns-5)
+    returns (λ c. search rules) (λ c κs. search rules) (λ c. search rules) (λ c κs. search rules) (λ c. search rules)
+    returns-2 (λ c κs. search rules) (λ c. search rules) (λ c. search rules) returns-3 (λ c. search rules) returns-4
+    returns-5)

@@ -7,15 +7,15 @@ use Rattle.trace.proofs.records.answer_datagram.Tie as tie
 
 returns : tie.Need-returns
 returns c =
-    let m = c.before.before.before.handle in
-    let e = c.before.before.before.before.before.before.end-within in
-    let a = c.before.before.before.before.before.before.before.before.before.before.args in (
+    let m = c.handle-told in
+    let e = c.end_within-end in
+    let a = c.args in (
       rw (← e.ensures.1) (ap (λ (t : Told). t.number) m.ensures.0),
-      rw (← e.ensures.1) (front-back e.result a.room.now e.ensures.0 m.auto.0 m.ensures.1.0),
+      rw (← e.ensures.1) (front-back e.result a.room.now e.ensures.0 m.auto.store m.ensures.1.0),
     )
 
-pub answer-datagram-spec : {M : Type 1} → statement M
-answer-datagram-spec =
+pub answer_datagram_spec : {M : Type 1} → statement M
+answer_datagram_spec =
     tie.close
     (tie.spec
     (λ c κs. search rules) (λ c. search rules) (λ c. search rules) (λ c. search rules) (λ c κs. search rules)

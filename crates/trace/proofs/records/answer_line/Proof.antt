@@ -7,13 +7,13 @@ use Rattle.trace.proofs.records.answer_line.Tie as tie
 returns : tie.Need-returns
 unfolding answers
 returns c =
-    let p = c.before.before.put-number-line.ensures in
-    let d = c.before.before.before.before.before.before.answer-datagram.ensures in
-    let n = c.before.before.before.before.before.before.before.before.wrapping-add-u64.ensures in
+    let p = c.put_number_line-end.ensures in
+    let d = c.answer_datagram-number.ensures in
+    let n = c.wrapping_add_u64-count.ensures in
     (rw (p.0, d.0, n), (d.1, rw (p.1, d.0, n)))
 
-pub answer-line-spec : {M : Type 1} → statement M
-answer-line-spec =
+pub answer_line_spec : {M : Type 1} → statement M
+answer_line_spec =
     tie.close
     (tie.spec
     (λ c κs. search rules) (λ c κs. search rules) (λ c. search rules) (λ c κs. search rules) (λ c. search rules)

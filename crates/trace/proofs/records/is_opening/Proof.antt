@@ -6,13 +6,13 @@ use Rattle.trace.specs.Trace.{is_opening}
 use Rattle.trace.proofs.records.is_opening.Statement.{statement}
 use Rattle.trace.proofs.records.is_opening.Tie as tie
 
-returns : tie.Need-returns
+returns : tie.Need-returns-then-bytes-lt8
 unfolding is_opening ◌and◌
-returns c = rw (lt-leb 8 (length c.before.before.args.bytes.now) (omega arith))
+returns c = rw (lt-leb 8 (length c.args.bytes.now) (omega arith))
 
-returns-2 : tie.Need-returns-2
+returns-2 : tie.Need-returns
 unfolding is_opening ◌and◌
-returns-2 c = rw (c.u16-at.ensures, le-leb 8 (length c.before.before.before.args.bytes.now) (omega arith))
+returns-2 c = rw (c.u16_at.ensures, le-leb 8 (length c.args.bytes.now) (omega arith))
 
-pub is-opening-spec : {M : Type 1} → statement M
-is-opening-spec = tie.close (tie.spec returns (λ c κs. search rules) returns-2)
+pub is_opening_spec : {M : Type 1} → statement M
+is_opening_spec = tie.close (tie.spec returns (λ c κs. search rules) returns-2)

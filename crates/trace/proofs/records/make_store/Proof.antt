@@ -6,15 +6,15 @@ use Rattle.trace.proofs.records.make_store.Tie as tie
 
 returns : tie.Need-returns
 returns c =
-    let m = c.before.before.make in
-    let e = c.before.before.before.before.end-within in
-    let a = c.before.before.before.before.before.before.before.before.args in (
+    let m = c.make in
+    let e = c.end_within-end in
+    let a = c.args in (
       rw (← e.ensures.1) m.ensures.0,
-      rw (← e.ensures.1) (front-back e.result a.room.now e.ensures.0 m.auto.0 m.ensures.1),
+      rw (← e.ensures.1) (front-back e.result a.room.now e.ensures.0 m.auto.store m.ensures.1),
     )
 
-pub make-store-spec : {M : Type 1} → statement M
-make-store-spec =
+pub make_store_spec : {M : Type 1} → statement M
+make_store_spec =
     tie.close
     (tie.spec
     (λ c κs. search rules) (λ c. search rules) (λ c. search rules) (λ c κs. search rules) (λ c. search rules) returns)

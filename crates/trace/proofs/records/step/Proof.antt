@@ -7,26 +7,26 @@ use Rattle.trace.specs.Stepped.{Leaves}
 use Rattle.trace.proofs.records.step.Statement.{statement}
 use Rattle.trace.proofs.records.step.Tie as tie
 
-returns : tie.Need-returns
+returns : tie.Need-returns-in-Before
 returns c =
-    let g = c.before.before.before.before.before.before.before.enum_told.given in
-    rw g.1 c.before.before.before.before.open-store.ensures
+    let g = c.in-Before.is in
+    rw g c.open_store.ensures
 
-returns-2 : tie.Need-returns-2
+returns-2 : tie.Need-returns-in-Running
 returns-2 c =
-    let g = c.before.before.before.before.before.before.before.enum-told2.given in
-    let x = c.before.before.before.before.answer-line in
-    let a = c.before.before.before.before.before.before.before.before.before.before.before.before.args in
+    let g = c.in-Running.is in
+    let x = c.answer_line in
+    let a = c.args in
     subst (λ (p : Phase). Leaves (stepped_in p a.replay a.room.now a.bytes.now) a.at a.text.now
-    x.result x.new.0 x.new.1.1.0) (sym g.1) x.ensures
+    x.result x.new.room x.new.text) (sym g) x.ensures
 
-returns-3 : tie.Need-returns-3
+returns-3 : tie.Need-returns-in-Over
 unfolding patch
 returns-3 c =
-    let g = c.enum-told3.given in
-    let a = c.before.before.before.before.before.args in
+    let g = c.in-Over.is in
+    let a = c.args in
     let z : a.at ≡ a.at + 0 = omega arith in
-    rw g.1 (rw (← z), (refl, refl))
+    rw g (rw (← z), (refl, refl))
 
 pub step_spec : {M : Type 1} → statement M
 step_spec =

@@ -6,31 +6,29 @@ use Rattle.trace.proofs.TraceLaws.{opened-zero, opened-refused}
 use Rattle.trace.proofs.records.told_opening.Statement.{statement}
 use Rattle.trace.proofs.records.told_opening.Tie as tie
 
-returns : tie.Need-returns
-returns c =
-    let a = c.before.before.before.before.before.before.before.args in
-    let p = c.before.before.before.put-word-line.ensures in
-    let o = opened-zero a.told a.size c.if1.true in
-    (rw (o.0, o.1, p.0), rw o.0 p.1)
-
-put-word-line-requires-2 : tie.Need-put-word-line-requires-2
+put-word-line-requires-2 : tie.Need-put_word_line-last-requires
 put-word-line-requires-2 c κs =
-    let first = c.before.before.before.before.before in
-    let a = first.before.before.before.before.args in
-    omega (arith, first.put-word-line.ensures.0, length-line open_word a.told)
+    let first = c in
+    let a = first.args in
+    omega (arith, first.put_word_line-end.ensures.0, length-line open_word a.told)
 
-returns-2 : tie.Need-returns-2
+returns-2 : tie.Need-returns
 returns-2 c =
-    let first = c.before.before.before.before.before.before.before.before.before in
-    let a = first.before.before.before.before.args in
-    let o = opened-refused a.told a.size c.before.before.before.before.before.before.if1.false in
+    let first = c in
+    let a = first.args in
+    let o = opened-refused a.told a.size (omega arith) in
     let b = line-behind a.at (line_of open_word a.told) (line_of end_word 0) a.text.now
-    first.put-word-line.ensures c.before.before.before.put-word-line2.ensures in
+    first.put_word_line-end.ensures c.put_word_line-last.ensures in
     (rw (o.0, o.1, b.0, c.over.ensures), rw o.0 b.1)
 
-pub told-opening-spec : {M : Type 1} → statement M
-told-opening-spec =
+pub told_opening_spec : {M : Type 1} → statement M
+told_opening_spec =
     tie.close
     (tie.spec
-    (λ c. search rules) (λ c κs. search rules) (λ c. search rules) returns (λ c. search rules) put-word-line-requires-2
+    (λ c κs. search rules) (λ c. search rules)
+    (λ c.
+    let p = c.put_word_line-end.ensures in
+    let o = opened-zero c.args.told c.args.size (omega arith) in
+    (rw (o.0, o.1, p.0), rw o.0 p.1))
+    put-word-line-requires-2
     (λ c κs. search rules) (λ c. search rules) returns-2)
