@@ -1,5 +1,5 @@
 /* The packet handler of one ledger: a datagram goes in, a number and a record come out. The functions are those of the
- * static library libroute.a, which `rt staticlib route` writes. docs/FORMAT.md and docs/DATAGRAMS.md have the
+ * static library libroute.a, which `rt lib` in crates/route writes. docs/FORMAT.md and docs/DATAGRAMS.md have the
  * layouts; docs/ANSWERS.md has what to do about each answer. Who opens or closes a channel reads docs/CHANNELS.md: it
  * has the order of steps in which a close strands no packet.
  *

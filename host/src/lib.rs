@@ -2,7 +2,7 @@
 //! remember in a [`Store`].
 //!
 //! The work is done by a static library whose code is proved. This package makes it safe and comfortable to call; it
-//! needs nothing but the standard library, and the static library, which `rt staticlib route` writes.
+//! needs nothing but the standard library, and the static library, which `rt lib` in crates/route writes.
 //!
 //! A host keeps one store for its ledger. For each datagram it calls [`Store::handle`], and gets what is [`Emitted`] or
 //! a [`Refusal`], which has changed nothing:

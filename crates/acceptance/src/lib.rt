@@ -1,5 +1,6 @@
 // Carries out an accepted datagram: reads alone plan it; then the store is changed, and then the record is emitted.
 #![tactic(auto)]
+
 ghost use Rattle.std.specs.Prelude.{◌≡◌, true, ℕ, ◌≤◌, ◌<◌, length};
 ghost use Rattle.slots.specs.declared.Found.TheVariants.{At};
 ghost use Rattle.slots.specs.Limits.{channel_limit, top};

@@ -2,6 +2,7 @@
 // Lines 2 to 4 are for every kind, 5 and 7 for those about an end, 6 for the kinds 1 to 4. They stand here in their
 // order.
 #![tactic(auto)]
+
 ghost use Rattle.std.specs.Prelude.{◌≡◌, true, false, ◌≤◌, length};
 ghost use Rattle.std.proofs.Math.Option.{some};
 ghost use Rattle.slots.specs.declared.Channel.{Channel};

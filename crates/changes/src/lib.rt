@@ -2,6 +2,7 @@
 // end, the packet records from one on. Each step leaves the bytes of the store with that part replaced, and no other
 // byte changed.
 #![tactic(auto)]
+
 mod shift; // bytes moved up or down by a slot
 
 ghost use Rattle.std.specs.Prelude.{◌≡◌, ◌+◌, ◌<◌, length};

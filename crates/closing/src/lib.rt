@@ -2,6 +2,7 @@
 // that are for its kind, in their order: 0 where none applies. Each function takes the parts of a datagram that its
 // lines look at, and promises the answer for all that have them.
 #![tactic(auto)]
+
 ghost use Rattle.std.specs.Prelude.{◌≡◌};
 ghost use Rattle.std.proofs.Math.Option.{some};
 ghost use Rattle.slots.specs.Layout.{Store, store_in};

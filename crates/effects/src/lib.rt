@@ -2,6 +2,7 @@
 // packet records, and the record that is emitted. A new kind is a line of `decide`, and one more such function where it
 // is about a packet.
 #![tactic(auto)]
+
 ghost use Rattle.std.specs.Prelude.{◌≡◌, true, false, ◌+◌, ◌≤◌, length};
 ghost use Rattle.std.proofs.Math.Option.{some};
 ghost use Rattle.wire.specs.Choice.{is_some};

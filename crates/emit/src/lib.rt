@@ -1,5 +1,6 @@
 // The records that are handed out, written at the front of the lent output. Each writer returns the record's length.
 #![tactic(auto)]
+
 ghost use Rattle.std.specs.Prelude.{◌≡◌, [], ◌+◌, ◌≤◌, length};
 ghost use Rattle.wire.specs.Bytes.{patch};
 ghost use Rattle.slots.specs.Limits.{output_limit};

@@ -1,5 +1,6 @@
 // The channel end that acceptance of a packet leaves, by the kind of datagram and the channel's ordering.
 #![tactic(auto)]
+
 ghost use Rattle.std.specs.Prelude.{◌≡◌, false, ◌+◌, eqb};
 ghost use Rattle.wire.specs.Choice.{◌and◌, pick};
 ghost use Rattle.slots.specs.Limits.{top};

@@ -1,5 +1,6 @@
 // Whether an entry of a store fits: a channel end by itself, and a packet record beside its channel end.
 #![tactic(auto)]
+
 ghost use Rattle.std.specs.Prelude.{◌≡◌, ◌+◌, ◌≤◌, length};
 ghost use Rattle.std.proofs.Math.Option.{some};
 ghost use Rattle.wire.specs.Choice.{◌and◌, is_some};

@@ -1,5 +1,6 @@
 // Whether a store is fit: laid out exactly, each entry of its tables fits, and the packet records are in order.
 #![tactic(auto)]
+
 ghost use Rattle.std.specs.Prelude.{◌≡◌, ◌+◌, ◌≤◌, ◌<◌, length};
 ghost use Rattle.slots.specs.declared.Found.TheVariants.{At};
 ghost use Rattle.slots.specs.Table.{is_numbered};

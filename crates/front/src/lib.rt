@@ -1,5 +1,6 @@
 // All of a store before its packet records: whether header, next channel number and channel ends fit.
 #![tactic(auto)]
+
 pub mod exact; // bytes laid out exactly as a store's
 
 ghost use Rattle.std.specs.Prelude.{◌≡◌, ◌≤◌, ◌<◌, length};

@@ -1,5 +1,6 @@
 // The handler: answers a datagram and carries it out.
 #![tactic(auto)]
+
 ghost use Rattle.std.specs.Prelude.{◌≡◌};
 ghost use Rattle.rules.specs.Call.{call_told, call_store, call_output};
 

@@ -1,6 +1,7 @@
 // Opening and closing: the record of the other end that a step needs, compared with the one that its verdict shows; a
 // new end, and an end in another state.
 #![tactic(auto)]
+
 ghost use Rattle.std.specs.Prelude.{◌≡◌};
 ghost use Rattle.slots.specs.Codes.{state_init, state_try_open};
 ghost use Rattle.slots.specs.Version.{padded};

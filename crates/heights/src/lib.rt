@@ -1,6 +1,7 @@
 // Heights and times: timeouts that have passed, and a clock that goes back. A packet's timeouts are the other ledger's
 // at its sender and this ledger's at its receiver; four conversions say which.
 #![tactic(auto)]
+
 ghost use Rattle.std.specs.Prelude.{◌≡◌};
 ghost use Rattle.slots.specs.declared.Timeout.{Timeout};
 ghost use Rattle.slots.specs.Layout.{Store};

@@ -1,5 +1,6 @@
 // The channel end that a step of a channel's lifecycle leaves: a new one, one that opens, or one that closes.
 #![tactic(auto)]
+
 ghost use Rattle.std.specs.Prelude.{◌≡◌, true, ◌≤◌, length};
 ghost use Rattle.std.proofs.Math.Option.{some};
 ghost use Rattle.datagram.specs.Kind.{open_init, open_try, open_acknowledge, kind_of, size_of, body_of, has_part};

@@ -1,6 +1,7 @@
 // A list of openings, read: whether each fits, whether their channel numbers differ, and the channel ends that they
 // open.
 #![tactic(auto)]
+
 ghost use Rattle.std.specs.Prelude.{◌≡◌, ◌+◌, ◌%◌, ◌≤◌, eqb, length};
 ghost use Rattle.wire.specs.Choice.{◌and◌, is_some};
 ghost use Rattle.wire.specs.Bytes.{part};

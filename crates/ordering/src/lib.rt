@@ -2,6 +2,7 @@
 // packet lapses, and which counters rise. The tests of the ordering are tables'. Beside this crate only entries asks
 // them, for the fitness of packet records, and ends, where a time-out closes an ordered channel.
 #![tactic(auto)]
+
 ghost use Rattle.std.specs.Prelude.{◌≡◌};
 ghost use Rattle.wire.specs.Choice.{is_some};
 ghost use Rattle.slots.specs.Table.{lookup};

@@ -1,6 +1,7 @@
 // A packet at an end: whether it can have come, over an open connection to an end that it fits, and what the packet
 // records hold of it.
 #![tactic(auto)]
+
 ghost use Rattle.std.specs.Prelude.{◌≡◌, not};
 ghost use Rattle.std.proofs.Math.Option.{some};
 ghost use Rattle.slots.specs.Table.{same_port_channel, has_free};

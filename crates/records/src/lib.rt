@@ -1,5 +1,6 @@
 // What acceptance does to the packet records. Which edit it is, is decided by value; one function carries it out.
 #![tactic(auto)]
+
 ghost use Rattle.std.specs.Prelude.{◌≡◌, true, ◌≤◌};
 ghost use Rattle.wire.specs.Bytes.{no_digest};
 ghost use Rattle.slots.specs.Table.{commitment_key, in_order, key_of, precedes};

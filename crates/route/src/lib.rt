@@ -1,6 +1,7 @@
 // The functions that a host links, under their C names. A slice is passed as a pointer and a length. Each promises what
 // the function below it promises, for every input. include/route.h tells C programs the same.
 #![tactic(auto)]
+
 ghost use Rattle.std.specs.Prelude.{◌≡◌};
 ghost use Rattle.store.specs.Length.{length_for};
 ghost use Rattle.openings.specs.Maker.{make_told, make_store};

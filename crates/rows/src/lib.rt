@@ -2,6 +2,7 @@
 // none applies. Each function takes the parts of a datagram that its lines look at, and promises the answer for all
 // that have them.
 #![tactic(auto)]
+
 ghost use Rattle.std.specs.Prelude.{◌≡◌, not};
 ghost use Rattle.std.proofs.Math.Option.{some};
 ghost use Rattle.wire.specs.Choice.{◌and◌};

@@ -1,6 +1,7 @@
 // Runs of packet records: neighbours of one kind and channel, whose sequences rise. So what a record is held against is
 // looked up once for its run, and of a limit only the last sequence is asked.
 #![tactic(auto)]
+
 ghost use Rattle.std.specs.Prelude.{◌≡◌, not, ◌+◌, ◌*◌, ◌-◌, ◌≤◌, ◌<◌, ltb, eqb, length};
 ghost use Rattle.wire.specs.Choice.{◌and◌, pick};
 ghost use Rattle.wire.specs.Bytes.{part, are_zero};

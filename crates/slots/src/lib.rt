@@ -1,6 +1,7 @@
 // What a store holds, and its slots of 64 bytes: the types of a channel end and of a packet record, read from lent
 // bytes and stored there. specs/ says what they mean, and what a store says by its bytes.
 #![tactic(auto)]
+
 pub mod part; // a port and a channel, and timeouts
 pub mod size; // how many bytes a store has
 pub mod slot; // a channel end or a packet record in 64 bytes

@@ -1,5 +1,6 @@
 // Whether a datagram whose frame is whole is well formed.
 #![tactic(auto)]
+
 ghost use Rattle.std.specs.Prelude.{◌≡◌, true, ◌+◌, ◌≤◌, ltb, length};
 ghost use Rattle.wire.specs.Choice.{is_some};
 ghost use Rattle.wire.specs.Frame.{frame_in};

@@ -2,6 +2,7 @@
 // where none applies. Each function takes the parts of a datagram that its lines look at, and promises the answer for
 // all that have them.
 #![tactic(auto)]
+
 ghost use Rattle.std.specs.Prelude.{◌≡◌, true, ◌≤◌, length};
 ghost use Rattle.std.proofs.Math.Option.{none, some};
 ghost use Rattle.slots.specs.declared.Channel.{Channel};

@@ -1,6 +1,7 @@
 // Line 14, a verdict against what is needed of it: the number of the part that differs first, 0 where none does. And of
 // line 15, what a verdict says of the packet's turn.
 #![tactic(auto)]
+
 ghost use Rattle.std.specs.Prelude.{◌≡◌};
 ghost use Rattle.wire.specs.Choice.{pick};
 ghost use Rattle.rules.specs.Verdict.{first_difference, block_difference};

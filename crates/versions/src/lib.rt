@@ -1,6 +1,7 @@
 // Versions: whether the bytes behind a datagram's fixed part are one, and whether the 24 bytes of a channel record are
 // one with zeros behind it. Both ask how many bytes stand before the first zero byte.
 #![tactic(auto)]
+
 ghost use Rattle.std.specs.Prelude.{◌≡◌, true, ◌+◌, ◌≤◌, length, drop};
 ghost use Rattle.wire.specs.Bytes.{part, same};
 ghost use Rattle.slots.specs.Limits.{version_size};

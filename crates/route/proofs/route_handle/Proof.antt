@@ -7,8 +7,8 @@ use Rattle.route.proofs.route_handle.Tie as tie
 
 returns : tie.Need-returns
 returns c =
-    let left = c.before.before.before.before.handle.ensures in
+    let left = c.handle-told.ensures in
     (ap (λ (t : Told). t.number) left.0, (ap (λ (t : Told). t.size) left.0, (left.1.0, left.1.1)))
 
-pub route-handle-spec : {M : Type 1} → statement M
-route-handle-spec = tie.close (tie.spec (λ c κs. search rules) (λ c. search rules) (λ c. search rules) returns)
+pub route_handle_spec : {M : Type 1} → statement M
+route_handle_spec = tie.close (tie.spec (λ c κs. search rules) (λ c. search rules) (λ c. search rules) returns)
