@@ -3,6 +3,7 @@ use mathlib.Core.Path.{◌≡◌, sym, ◌∙◌}
 use mathlib.Core.Bool.{not}
 use Prim.Native.Nat.{ℕ}
 use lib.Dec.{eqb}
+use native.Mathlib.Omega.{arith}
 use borrow.Author.Rules.{rules}
 use borrow.Author.Tests.{eq-eqb, ne_eqb}
 use Rattle.wire.specs.Choice.{pick}
@@ -34,14 +35,13 @@ past-3 e =
     let e1 = e in
     rw (eq-eqb _ _ e1.if-v-claim.false, eq-eqb _ _ e2.if-v-about.false, eq-eqb _ _ e.if-v-about-2.false)
 
-abbrev fourth : tie.Else-not-same_timeout → tie.Else-v-sequence
-fourth e = e.before.before.before
-
 past-5 : (e : tie.Else-not-same_timeout) →
-    let o = (fourth e).before.before.before.before.before.before.before.before.before.before in whole o ≡ last o
+    let o = e.before.before.before.before.before.before.before.before.before.before.before.before.before in
+    whole o ≡ last o
 past-5 e =
-    past-3 (fourth e).before.before ∙
-    rw (eq-eqb _ _ (fourth e).if-v-sequence.false, holds e.same_timeout.ensures e.if-not-same_timeout.false)
+    let equal : e.args.v.sequence ≡ e.args.sequence = omega arith in
+    past-3 e.before.before.before.before.before ∙
+    rw (eq-eqb _ _ equal, holds e.same_timeout.ensures e.if-not-same_timeout.false)
 
 returns : tie.Need-returns-then-v-claim
 unfolding first_difference
@@ -58,14 +58,11 @@ returns-3 c =
     let e1 = c in
     rw (eq-eqb _ _ e1.if-v-claim.false, eq-eqb _ _ e2.if-v-about.false, ne_eqb _ _ c.if-v-about-2.true)
 
-returns-4 : tie.Need-returns-then-v-sequence
-returns-4 c = sym (past-3 c.before.before ∙ rw (ne_eqb _ _ c.if-v-sequence.true))
-
 returns-5 : tie.Need-returns-then-not-same_timeout
 returns-5 c =
-    let e4 = c.before.before.before in
-    sym (past-3 e4.before.before ∙
-    rw (eq-eqb _ _ e4.if-v-sequence.false, fails c.same_timeout.ensures c.if-not-same_timeout.true))
+    let equal : c.args.v.sequence ≡ c.args.sequence = omega arith in
+    sym (past-3 c.before.before.before.before.before ∙
+    rw (eq-eqb _ _ equal, fails c.same_timeout.ensures c.if-not-same_timeout.true))
 
 returns-6 : tie.Need-returns-then-not-same_digest
 returns-6 c = sym (past-5 c.before.before.before ∙ rw (fails c.same_digest.ensures c.if-not-same_digest.true))
@@ -77,4 +74,8 @@ pub first_difference_spec : {M : Type 1} → statement M
 first_difference_spec =
     tie.close
     (tie.spec
-    returns returns-2 returns-3 returns-4 (λ c κs. search rules) returns-5 (λ c κs. search rules) returns-6 returns-7)
+    returns returns-2 returns-3
+    (λ c.
+    let other : c.args.v.sequence ≡ c.args.sequence → ⊥ = search rules in
+    sym (past-3 c.before.before ∙ rw (ne_eqb _ _ other)))
+    (λ c κs. search rules) returns-5 (λ c κs. search rules) returns-6 returns-7)
