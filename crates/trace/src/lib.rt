@@ -1,9 +1,9 @@
 // A trace of one ledger: a first record that opens the store, then datagrams, each answered by a line.
 #![tactic(auto)]
 
-mod records; // what a record does
+mod trace_records; // what a record does
 
-pub use records::{is_over, over, start, step};
+pub use trace_records::{is_over, over, start, step};
 
 // Whether the first record is still to come, datagrams are answered, or nothing more is read.
 #[derive(Clone, Copy)]

@@ -1,7 +1,9 @@
 -- The frame and the tests of lines 2 and 3, then the lines behind them. Assumes nothing.
 use mathlib.Core.Path.{◌≡◌, sym, ◌∙◌}
+use native.Mathlib.Omega.{arith}
 use borrow.Author.Rules.{rules}
 use borrow.Author.Tests.{lt-ltb, le-ltb}
+use Rattle.slots.specs.Limits.{output_limit}
 use Rattle.slots.specs.Layout.{store_in}
 use Rattle.datagram.specs.Datagram.{datagram_in}
 use Rattle.sound.proofs.SoundLaws.{malformed}
@@ -11,19 +13,13 @@ use Rattle.verdicts.proofs.TestedLaws.{holds, fails}
 use Rattle.answer.proofs.answer.Statement.{statement}
 use Rattle.answer.proofs.answer.Tie as tie
 
-returns : tie.Need-returns-then-room-lt-OUTPUT
-unfolding table first_given
-returns c = rw (c.requires, lt-ltb _ _ c.if-room-lt-OUTPUT.true)
-
 returns-2 : tie.Need-returns-in_default
 unfolding table first_given
 returns-2 c =
-    let e1 = c in
-    let o = c in
     rw (
-      o.requires,
-      le-ltb _ _ e1.if-room-lt-OUTPUT.false,
-      malformed o.args.datagram.now (sym c.frame_in.ensures ∙ c.in_default.is),
+      c.requires,
+      le-ltb c.args.room output_limit (omega arith),
+      malformed c.args.datagram.now (sym c.frame_in.ensures ∙ c.in_default.is),
     )
 
 is-sound-requires : tie.Need-is_sound-requires
@@ -32,10 +28,9 @@ is-sound-requires c κs = sym c.frame_in.ensures ∙ c.in-Whole.is
 returns-3 : tie.Need-returns-then-not-is_sound
 unfolding table first_given
 returns-3 c =
-    let e1 = c in
     rw (
-      e1.requires,
-      le-ltb _ _ e1.if-room-lt-OUTPUT.false,
+      c.requires,
+      le-ltb c.args.room output_limit (omega arith),
       fails c.is_sound.ensures c.if-not-is_sound.true,
     )
 
@@ -53,10 +48,9 @@ past : (e : tie.Else-not-is_sound) →
     number_behind 3 d.kind s d (or_none (end_for s d))
 unfolding number_behind behind table first_given
 past e =
-    let e1 = e in
     rw (
-      e1.requires,
-      le-ltb _ _ e1.if-room-lt-OUTPUT.false,
+      e.requires,
+      le-ltb e.args.room output_limit (omega arith),
       holds e.is_sound.ensures e.if-not-is_sound.false,
     )
 
@@ -64,8 +58,9 @@ returns-4 : tie.Need-returns
 returns-4 c = c.answer_sound.ensures ∙ sym (past c.before)
 
 pub answer_spec : {M : Type 1} → statement M
+unfolding table first_given
 answer_spec =
     tie.close
     (tie.spec
-    returns (λ c κs. search rules) (λ c. search rules) (λ c. search rules) returns-2
+    (λ c. rw (c.requires, lt-ltb c.args.room output_limit (omega arith))) (λ c κs. search rules) (λ c. search rules) (λ c. search rules) returns-2
     is-sound-requires returns-3 answer-sound-requires returns-4)

@@ -1,6 +1,6 @@
 -- The clock, then whether the datagram makes an end. Assumes nothing.
 use mathlib.Core.Path.{◌≡◌, sym, ap, ◌∙◌}
-use mathlib.Core.Bool.{true}
+use mathlib.Core.Bool.{true, false}
 use mathlib.Core.List.{List}
 use Prim.Native.Nat.{ℕ, ◌-◌, ◌/◌, ◌≤◌}
 use native.Mathlib.Omega.{arith}
@@ -124,19 +124,12 @@ making-number n s d c e h =
 answer-by-kind-requires : tie.Need-answer_by_kind-requires
 answer-by-kind-requires c κs = known c.before.before
 
-returns-2 : tie.Need-returns-then-kind
-unfolding ◌or◌
-returns-2 c =
-    let k = c.before.before.before in
-    let n = k.kind_in-kind.result in
-    c.answer_by_kind.ensures ∙
-    sym (past-4 k (named k) ∙
-    making-number n (store_in (bytes (origin k))) (datagram_of (kind_of n) (sent (origin k))) (named k)
-    c.no_channel.result c.if-kind.true)
-
 answer-on-requires : tie.Need-answer_on-requires
 unfolding ◌or◌
-answer-on-requires c κs = (known c.before, making-numbers c.kind_in-kind.result ∙ c.if-kind.false)
+answer-on-requires c κs =
+    let n = c.kind_in-kind.result in
+    let no : (eqb n 6 or eqb n 7) ≡ false = search rules in
+    (known c.before, making-numbers n ∙ no)
 
 returns-3 : tie.Need-returns
 unfolding datagram_in
@@ -145,6 +138,7 @@ returns-3 c =
     c.answer_on.ensures ∙ sym (past-4 k (named k) ∙ rw k.kind_in-kind.ensures)
 
 pub answer_sound_spec : {M : Type 1} → statement M
+unfolding ◌or◌
 answer_sound_spec =
     tie.close
     (tie.spec
@@ -157,6 +151,13 @@ answer_sound_spec =
     sub-count
     (λ c κs. search rules)
     answer-by-kind-requires
-    returns-2
+    (λ c.
+    let k = c.before.before.before in
+    let n = k.kind_in-kind.result in
+    let yes : (eqb n 6 or eqb n 7) ≡ true = search rules in
+    c.answer_by_kind.ensures ∙
+    sym (past-4 k (named k) ∙
+    making-number n (store_in (bytes (origin k))) (datagram_of (kind_of n) (sent (origin k))) (named k)
+    c.no_channel.result yes))
     answer-on-requires
     returns-3)

@@ -77,38 +77,35 @@ checked k =
 answer-requires : tie.Need-answer-number-requires
 answer-requires c κs = (checked c).0
 
-zero : (c : tie.Else-number-ne0) → let k = c in
-    let a = k.args in
+zero : (c : tie.After-accept-arg-1) →
+    let a = c.args in
     answer_to a.store.now a.output.now a.datagram.now ≡ 0
 unfolding answer_to
-zero c = sym c.answer-number.ensures ∙ c.if-number-ne0.false
-
-returns-2 : tie.Need-returns-then-number-ne0
-unfolding answer_to
-returns-2 c =
-    let k = c in
-    let a = k.args in
-    let call = c.answer-number in
-    refuses a.store.now a.output.now a.datagram.now call.result call.ensures c.if-number-ne0.true
+zero c =
+    let none : c.answer-number.result ≡ 0 = omega arith in
+    sym c.answer-number.ensures ∙ none
 
 accept-requires : tie.Need-accept-size-requires
-accept-requires c κs =
-    let test = c.before.before in
-    (zero test, (checked test.before.before).1)
+accept-requires c κs = (zero c.before, (checked c.before.before.before.before).1)
 
 returns-3 : tie.Need-returns
 returns-3 c =
     let call = c.before.before.before.before in
-    let test = call.before.before.before in
-    let k = c in
-    let a = k.args in
+    let a = c.args in
     let left = call.accept-size in
-    carries-out a.store.now a.output.now a.datagram.now (zero test) left.result left.new.store
+    carries-out a.store.now a.output.now a.datagram.now (zero call.before.before) left.result left.new.store
     left.new.output left.ensures.0 left.ensures.1.0 left.ensures.1.1
 
 pub handle_spec : {M : Type 1} → statement M
+unfolding answer_to
 handle_spec =
     tie.close
     (tie.spec
     (λ c κs. search rules) (λ c. search rules) (λ c. search rules) (λ c. search rules) returns answer-requires
-    (λ c. search rules) returns-2 accept-requires (λ c. search rules) (λ c. search rules) returns-3)
+    (λ c. search rules)
+    (λ c.
+    let a = c.args in
+    let call = c.answer-number in
+    let other : call.result ≡ 0 → ⊥ = search rules in
+    refuses a.store.now a.output.now a.datagram.now call.result call.ensures other)
+    accept-requires (λ c. search rules) (λ c. search rules) returns-3)

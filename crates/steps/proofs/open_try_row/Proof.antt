@@ -1,5 +1,6 @@
 -- The lines of an open try, one after another. Assumes nothing.
 use mathlib.Core.Path.{◌≡◌, sym, ap, ◌∙◌}
+use mathlib.Core.Bool.{true, false}
 use mathlib.Core.Option.{some}
 use Prim.Native.Nat.{ℕ}
 use borrow.Author.Rules.{rules}
@@ -31,10 +32,6 @@ Left n o =
     number_behind 7 (some open_try) (store_in o.args.store.now) d c ≡
     number_behind n (some open_try) (store_in o.args.store.now) d c
 
-returns : tie.Need-returns-then-lacks_connection
-unfolding number_behind behind table first_given only ◌or◌
-returns c = λ d e x o p v f w. rw (x, came c.lacks_connection.ensures c.if-lacks_connection.true)
-
 -- what line 14 gives, which does not look at the version
 number : (k : tie.After-end_difference-number) (d : Datagram) →
     Has k.before.before.before.before.before d →
@@ -45,21 +42,23 @@ number k d h =
     rw (h.0, h.1, h.2, h.3)
     (k.end_difference-number.ensures ∙ ap (first_end_difference a.v) k.needed_init-needed.ensures)
 
-past-8 : (e : tie.Else-lacks_connection) → Left 8 e.before.before.before
+past-8 : (e : tie.After-needed_init-needed) → Left 8 e.before.before.before.before
 unfolding number_behind behind table first_given only ◌or◌
-past-8 e d c h = rw (h.0, came e.lacks_connection.ensures e.if-lacks_connection.false)
+past-8 e d c h =
+    let no : e.lacks_connection.result ≡ false = search rules in
+    rw (h.0, came e.lacks_connection.ensures no)
 
 returns-2 : tie.Need-returns-then-number-ne0
 unfolding number_behind behind table first_given only ◌or◌
 returns-2 c =
     λ d e x o p v f w.
     let n = number c.before d (x, o, p, v) in
-    sym (past-8 c.before.before.before d e (x, o, p, v) ∙ rw (is-not-zero n c.if-number-ne0.true) (sym n))
+    sym (past-8 c.before.before d e (x, o, p, v) ∙ rw (is-not-zero n c.if-number-ne0.true) (sym n))
 
 past-14 : (e : tie.Else-number-ne0) → Left 14 e.before.before.before.before.before.before
 unfolding number_behind behind table first_given only ◌or◌
 past-14 e d c h =
-    past-8 e.before.before.before d c h ∙ rw (is_zero (number e.before d h) e.if-number-ne0.false)
+    past-8 e.before.before d c h ∙ rw (is_zero (number e.before d h) e.if-number-ne0.false)
 
 returns-3 : tie.Need-returns-then-is_full
 unfolding number_behind behind table first_given only ◌or◌
@@ -104,8 +103,13 @@ returns-6 c =
     sym (past-25 e4.before d e (x, o, p, v) ∙ rw (holds (sym f) e4.if-not-fits.false, holds same c.if-not-has_version.false))
 
 pub open_try_row_spec : {M : Type 1} → statement M
+unfolding number_behind behind table first_given only ◌or◌
 open_try_row_spec =
     tie.close
     (tie.spec
-    (λ c κs. search rules) returns (λ c κs. search rules) (λ c κs. search rules) returns-2
+    (λ c κs. search rules)
+    (λ c.
+    let yes : c.lacks_connection.result ≡ true = search rules in
+    λ d e x o p v f w. rw (x, came c.lacks_connection.ensures yes))
+    (λ c κs. search rules) (λ c κs. search rules) returns-2
     (λ c κs. search rules) returns-3 returns-4 (λ c κs. search rules) returns-5 returns-6)

@@ -3,8 +3,8 @@ use Rattle.std.proofs.Common.{◌≡◌, ◌-◌, true, length, drop, sym, refl,
 use Rattle.store.specs.Length.{length_for}
 use Rattle.trace.specs.Trace.{is_opening, length_of}
 use Rattle.trace.proofs.TraceLaws.{opening-room, opens-torn, opens-made}
-use Rattle.trace.proofs.records.open_store.Statement.{statement}
-use Rattle.trace.proofs.records.open_store.Tie as tie
+use Rattle.trace.proofs.trace_records.open_store.Statement.{statement}
+use Rattle.trace.proofs.trace_records.open_store.Tie as tie
 
 -- where the test let it pass
 opening : (c : tie.Else-not-is_opening) → is_opening c.args.first.now ≡ true

@@ -1,8 +1,8 @@
 -- The count, the answer and the line. Assumes nothing.
 use Rattle.std.proofs.Common.{rules}
 use Rattle.trace.specs.Trace.{answers}
-use Rattle.trace.proofs.records.answer_line.Statement.{statement}
-use Rattle.trace.proofs.records.answer_line.Tie as tie
+use Rattle.trace.proofs.trace_records.answer_line.Statement.{statement}
+use Rattle.trace.proofs.trace_records.answer_line.Tie as tie
 
 returns : tie.Need-returns
 unfolding answers

@@ -1,8 +1,8 @@
 -- The part that was lent comes back at the front. Assumes nothing.
 use Rattle.std.proofs.Common.{rules}
 use Rattle.trace.proofs.TraceLaws.{front-back}
-use Rattle.trace.proofs.records.make_store.Statement.{statement}
-use Rattle.trace.proofs.records.make_store.Tie as tie
+use Rattle.trace.proofs.trace_records.make_store.Statement.{statement}
+use Rattle.trace.proofs.trace_records.make_store.Tie as tie
 
 returns : tie.Need-returns
 returns c =

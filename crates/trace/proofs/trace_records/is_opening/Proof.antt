@@ -3,8 +3,8 @@ use Rattle.std.proofs.Common.{length, arith, rules, le-leb}
 use borrow.Author.Tests.{lt-leb}
 use Rattle.wire.specs.Choice.{◌and◌}
 use Rattle.trace.specs.Trace.{is_opening}
-use Rattle.trace.proofs.records.is_opening.Statement.{statement}
-use Rattle.trace.proofs.records.is_opening.Tie as tie
+use Rattle.trace.proofs.trace_records.is_opening.Statement.{statement}
+use Rattle.trace.proofs.trace_records.is_opening.Tie as tie
 
 returns : tie.Need-returns-then-bytes-lt8
 unfolding is_opening ◌and◌

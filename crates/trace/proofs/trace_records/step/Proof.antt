@@ -4,8 +4,8 @@ use Rattle.wire.specs.Bytes.{patch}
 use Rattle.trace.specs.declared.Phase.{Phase}
 use Rattle.trace.specs.Trace.{stepped_in}
 use Rattle.trace.specs.Stepped.{Leaves}
-use Rattle.trace.proofs.records.step.Statement.{statement}
-use Rattle.trace.proofs.records.step.Tie as tie
+use Rattle.trace.proofs.trace_records.step.Statement.{statement}
+use Rattle.trace.proofs.trace_records.step.Tie as tie
 
 returns : tie.Need-returns-in-Before
 returns c =

@@ -2,8 +2,8 @@
 use Rattle.std.proofs.Common.{ap, rules}
 use Rattle.rules.specs.declared.Told.{Told}
 use Rattle.trace.proofs.TraceLaws.{front-back}
-use Rattle.trace.proofs.records.answer_datagram.Statement.{statement}
-use Rattle.trace.proofs.records.answer_datagram.Tie as tie
+use Rattle.trace.proofs.trace_records.answer_datagram.Statement.{statement}
+use Rattle.trace.proofs.trace_records.answer_datagram.Tie as tie
 
 returns : tie.Need-returns
 returns c =

@@ -3,8 +3,8 @@ use Rattle.std.proofs.Common.{arith, rules}
 use Rattle.text.specs.Line.{line_of, open_word, end_word}
 use Rattle.text.proofs.LineLaws.{length-line, line-behind}
 use Rattle.trace.proofs.TraceLaws.{opened-zero, opened-refused}
-use Rattle.trace.proofs.records.told_opening.Statement.{statement}
-use Rattle.trace.proofs.records.told_opening.Tie as tie
+use Rattle.trace.proofs.trace_records.told_opening.Statement.{statement}
+use Rattle.trace.proofs.trace_records.told_opening.Tie as tie
 
 put-word-line-requires-2 : tie.Need-put_word_line-last-requires
 put-word-line-requires-2 c κs =
