@@ -1,7 +1,7 @@
 /* The packet handler of one ledger: a datagram goes in, a number and a record come out. The functions are those of the
  * static library libroute.a, which `rt lib` in crates/route writes. docs/FORMAT.md and docs/DATAGRAMS.md have the
  * layouts; docs/ANSWERS.md has what to do about each answer. Who opens or closes a channel reads docs/CHANNELS.md: it
- * has the order of steps in which a close strands no packet.
+ * has the order of steps in which a close strands no packet. Who keeps a store from filling reads docs/PRUNING.md.
  *
  * WHAT HOLDS FOR EVERY POINTER. It is valid for as many bytes as the length beside it says: to be read, and also to be
  * written where it is not const. The memory lent to one call does not overlap: not the store with the output, the
@@ -11,12 +11,12 @@
  * with different memory may run at the same time. Any bytes may stand in the memory: none makes a call fail in another
  * way than by its answer.
  *
- * WHAT HOLDS FOR THE STORE. Each call gets the bytes that the last accepted call on its ledger left, or the maker or
- * the converter. Nobody else changes them, and no older copy of them is put back, not even after a crash. An older copy
- * is a fit store too, so no answer tells; but it does not know what came after it, and a packet that was delivered or
+ * WHAT HOLDS FOR THE STORE. Each call gets the bytes that the last accepted call on its ledger left, or the maker or a
+ * converter. Nobody else changes them, and no older copy of them is put back, not even after a crash. An older copy is
+ * a fit store too, so no answer tells; but it does not know what came after it, and a packet that was delivered or
  * finished since would be delivered or finished again, and a channel number given out again. The proof is about lists
  * of calls, from the maker on, in which this holds. So the host saves the store before it hands on the emitted record,
- * and what the converter left before the next call. */
+ * and what a converter left before the next call. */
 
 #ifndef ROUTE_H
 #define ROUTE_H
@@ -32,12 +32,17 @@ extern "C" {
  * must have at least. */
 #define ROUTE_MAX_CHANNELS 16
 #define ROUTE_MAX_RECORDS 512
-#define ROUTE_MAX_VERSION 24
+#define ROUTE_MAX_VERSION 16
 #define ROUTE_OUTPUT_LENGTH 106
 
 /* The length of a store with `records` packet records, 1 to ROUTE_MAX_RECORDS, as a constant expression. For any other
  * number no store has that many: route_store_length then answers 0. */
 #define ROUTE_STORE_LENGTH(records) (1088 + 64 * (size_t)(records))
+
+/* The kind of a store, 2 bytes at offset 4 of it, and the kind that stores had before channel ends had a mark: see
+ * route_upgrade_store. */
+#define ROUTE_STORE_KIND 0x0402
+#define ROUTE_STORE_KIND_BEFORE 0x0401
 
 /* The length of one opening in a list of openings. */
 #define ROUTE_OPENING_LENGTH 20
@@ -45,7 +50,7 @@ extern "C" {
 /* The lengths of the datagrams, and of the emitted records. An open init and an open try have the version behind these
  * bytes. Every context ends with the client's latest time, at offset 38 of the datagram; the body begins at 46. A
  * datagram in the earlier layout, without it, is 8 bytes shorter and gets ROUTE_MALFORMED (docs/DATAGRAMS.md has an
- * exception). Stores did not change. */
+ * exception). */
 #define ROUTE_SEND_LENGTH 98
 #define ROUTE_RECEIVE_LENGTH 194
 #define ROUTE_WRITE_LENGTH 90
@@ -58,6 +63,7 @@ extern "C" {
 #define ROUTE_CLOSE_INIT_LENGTH 50
 #define ROUTE_CLOSE_CONFIRM_LENGTH 132
 #define ROUTE_TIME_OUT_ON_CLOSE_LENGTH 276
+#define ROUTE_PRUNE_LENGTH 218
 #define ROUTE_SENT_LENGTH 74
 #define ROUTE_DELIVERED_LENGTH 74
 #define ROUTE_WRITTEN_LENGTH 52
@@ -79,11 +85,14 @@ enum route_datagram {
     ROUTE_OPEN_CONFIRM = 9,
     ROUTE_CLOSE_INIT = 10,
     ROUTE_CLOSE_CONFIRM = 11,
-    ROUTE_TIME_OUT_ON_CLOSE = 12 /* packet, end verdict and verdict; emits ROUTE_TIMED_OUT */
+    ROUTE_TIME_OUT_ON_CLOSE = 12, /* packet, end verdict and verdict; emits ROUTE_TIMED_OUT */
+    ROUTE_PRUNE = 13 /* channel, sequence, a verdict with claim 7 and one with claim 8, of one block: frees the receipt
+                        and the acknowledgement of the sequence that is the mark of an OPEN unordered end, if they are
+                        there, and raises the mark by 1 */
 };
 
-/* Kinds of emitted records. ROUTE_OPEN_ACKNOWLEDGE, ROUTE_OPEN_CONFIRM, ROUTE_CLOSE_INIT and ROUTE_CLOSE_CONFIRM emit
- * none. */
+/* Kinds of emitted records. ROUTE_OPEN_ACKNOWLEDGE, ROUTE_OPEN_CONFIRM, ROUTE_CLOSE_INIT, ROUTE_CLOSE_CONFIRM and
+ * ROUTE_PRUNE emit none. */
 enum route_emitted {
     ROUTE_SENT = 0x0101,
     ROUTE_DELIVERED = 0x0102,
@@ -95,7 +104,8 @@ enum route_emitted {
     ROUTE_NEW_END = 0x0107 /* port and channel of the end that an open init or an open try made */
 };
 
-/* States of a channel end, at offset 2 of its record. The records stand from offset 64 of a store on, 64 bytes each. */
+/* States of a channel end, at offset 2 of its record. The records stand from offset 64 of a store on, 64 bytes each.
+ * The version is at 40 (ROUTE_MAX_VERSION bytes), the mark at 56 (8 bytes): below it all is pruned. */
 enum route_state {
     ROUTE_STATE_INIT = 1,    /* an open init made it; it waits for its open acknowledge */
     ROUTE_STATE_TRYOPEN = 2, /* an open try made it; it waits for its open confirm */
@@ -107,13 +117,15 @@ enum route_state {
  * offset 3. Both ends have the same one, and it never changes. */
 enum route_order {
     ROUTE_ORDERED = 1,              /* packets are received and acknowledged in order; a time-out closes the end */
-    ROUTE_UNORDERED = 2,            /* packets are received in any order; a receipt tells which were */
+    ROUTE_UNORDERED = 2,            /* packets are received in any order; a receipt tells which were, until it is
+                                       pruned: none below the mark is received any more */
     ROUTE_ORDERED_ALLOW_TIMEOUT = 3 /* packets are received in order; one that comes late lapses. They are acknowledged
                                        and timed out in order while the end is OPEN; a time-out closes nothing */
 };
 
 /* Kinds of packet records, at offset 0 of each. They stand behind the channel records, from offset 1088 of a store on,
- * 64 bytes each. Only commitments are freed again. */
+ * 64 bytes each. A commitment is freed when its packet is finished, a receipt or an acknowledgement on an unordered
+ * channel by ROUTE_PRUNE. Acknowledgements on orders 1 and 3 and timeout receipts are never freed. */
 enum route_record {
     ROUTE_RECORD_COMMITMENT = 1,
     ROUTE_RECORD_RECEIPT = 2,         /* on an unordered channel: the packet was delivered */
@@ -127,23 +139,26 @@ enum route_claim {
     ROUTE_CLAIM_ACKNOWLEDGEMENT_PRESENT = 2,
     ROUTE_CLAIM_RECEIPT_ABSENT = 3,
     ROUTE_CLAIM_NEXT_RECEIVE = 4,           /* next receive equals the verdict's sequence */
-    ROUTE_CLAIM_END_SHOWN = 5,              /* of an end verdict: the end has this record, its counters zero */
-    ROUTE_CLAIM_TIMEOUT_RECEIPT_PRESENT = 6 /* the packet lapsed: what kind 5 needs on order 3, and 12 may have */
+    ROUTE_CLAIM_END_SHOWN = 5,              /* of an end verdict: the end has this record, counters and mark zero */
+    ROUTE_CLAIM_TIMEOUT_RECEIPT_PRESENT = 6, /* the packet lapsed: what kind 5 needs on order 3, and 12 may have */
+    ROUTE_CLAIM_COMMITMENT_ABSENT = 7,      /* no commitment with this sequence: the first one that kind 13 needs */
+    ROUTE_CLAIM_NEXT_SEND = 8               /* next send equals the verdict's sequence: the second one */
 };
 
 /* Answers. Where several refusals apply, the first by place is given; none is given otherwise. The places are those of
  * this list: each refusal stands at its number, but 140 to 146 stand between 13 and 15. They tell the first part in
- * which a verdict is not the one needed. Of the two verdicts of kind 12 all parts of the end verdict come first, then
- * all parts of the packet's, then 146. Behind each answer stand the kinds of datagrams that can get it; no kind means
+ * which a verdict is not the one needed. Of the two verdicts of kinds 12 and 13 all parts of the first come first, then
+ * all parts of the second, then 146. Behind each answer stand the kinds of datagrams that can get it; no kind means
  * all. */
 enum route_answer {
     ROUTE_ACCEPTED = 0,
-    ROUTE_STORE_NOT_FIT = 1,         /* the store's bytes are not those of a fit store; see route_convert_store */
+    ROUTE_STORE_NOT_FIT = 1,         /* the store's bytes are not those of a fit store; see route_upgrade_store and
+                                        route_convert_store */
     ROUTE_OUTPUT_SHORT = 2,          /* the output is shorter than ROUTE_OUTPUT_LENGTH */
     ROUTE_MALFORMED = 3,             /* the datagram is malformed */
     ROUTE_GOES_BACK = 4,             /* height or time is below the last, or the same height has another time */
     ROUTE_NO_CHANNEL = 5,            /* all but 6, 7: the channel is not in the store */
-    ROUTE_NOT_OPEN = 6,              /* 1, 2, 3, 4: the channel is not OPEN */
+    ROUTE_NOT_OPEN = 6,              /* 1, 2, 3, 4, 13: the channel is not OPEN */
     ROUTE_NOT_OWNER = 7,             /* all but 6, 7: the caller's port is not the channel's port */
     ROUTE_NO_CONNECTION = 8,         /* 2, 4, 7 to 11: the connection is not open */
     ROUTE_WRONG_END = 9,             /* 2, 4, 5, 12: the packet's ports and other channel do not fit this end */
@@ -153,17 +168,19 @@ enum route_answer {
                                         lapses */
     ROUTE_TIMEOUT_NOT_PASSED = 12,   /* 5: neither the verdict's height nor its time is at or above the timeout */
     ROUTE_NO_COMMITMENT = 13,        /* 4, 5, 12: no commitment with this sequence, timeouts and digest */
-    ROUTE_VERDICT_CLAIM = 140,       /* 2, 4, 5, 7, 8, 9, 11, 12: the verdict has another claim */
-    ROUTE_VERDICT_PORT = 141,        /* 2, 4, 5, 12: the verdict has another port */
-    ROUTE_VERDICT_CHANNEL = 142,     /* 2, 4, 5, 12: the verdict has another channel */
-    ROUTE_VERDICT_SEQUENCE = 143,    /* 2, 4; 5 and 12 except with claim 4: the verdict has another sequence */
-    ROUTE_VERDICT_TIMEOUTS = 144,    /* 2, 4, 5, 12: the verdict has another timeout height or timeout time */
-    ROUTE_VERDICT_DIGEST = 145,      /* 2, 4, 5, 12: the verdict has another digest;
+    ROUTE_VERDICT_CLAIM = 140,       /* 2, 4, 5, 7, 8, 9, 11, 12, 13: the verdict has another claim */
+    ROUTE_VERDICT_PORT = 141,        /* 2, 4, 5, 12, 13: the verdict has another port */
+    ROUTE_VERDICT_CHANNEL = 142,     /* 2, 4, 5, 12, 13: the verdict has another channel */
+    ROUTE_VERDICT_SEQUENCE = 143,    /* 2, 4, 13; 5 and 12 except with claim 4: the verdict has another sequence;
+                                        13: with claim 8 the next send is not above the sequence */
+    ROUTE_VERDICT_TIMEOUTS = 144,    /* 2, 4, 5, 12, 13: the verdict has another timeout height or timeout time */
+    ROUTE_VERDICT_DIGEST = 145,      /* 2, 4, 5, 12, 13: the verdict has another digest;
                                         7, 8, 9, 11, 12: the end verdict has another record, its version left out */
-    ROUTE_VERDICT_BLOCKS = 146,      /* 12: the two verdicts are of different blocks, by height or time */
+    ROUTE_VERDICT_BLOCKS = 146,      /* 12, 13: the two verdicts are of different blocks, by height or time */
     ROUTE_OUT_OF_ORDER = 15,         /* on orders 1 and 3, 2, 4: another packet's turn; 5, 12: by claim 4 it was
                                         received or lapsed, or, on an OPEN end of order 3, another packet's turn */
-    ROUTE_ALREADY_THERE = 16,        /* 2 on an unordered channel: the receipt; 3: the acknowledgement */
+    ROUTE_ALREADY_THERE = 16,        /* 2 on an unordered channel: the receipt; 3: the acknowledgement; 2, 3: the
+                                        sequence is below the mark, and what was there is pruned */
     ROUTE_NOT_RECEIVED = 17,         /* 3: the packet was not received: it has not come, or it lapsed */
     ROUTE_EMPTY_ACKNOWLEDGEMENT = 18, /* 3: the digest is all zero */
     ROUTE_COUNTER_AT_END = 19,       /* 1; 2 and 4 on orders 1 and 3; 5 and 12 on an OPEN end of order 3: the counter
@@ -176,21 +193,23 @@ enum route_answer {
     ROUTE_CHANNEL_TWICE = 24,        /* maker: a channel number stands in two openings */
     ROUTE_NO_FREE_CHANNEL = 25,      /* 6, 7: all channel records are in use, or all channel numbers given out */
     ROUTE_WRONG_STATE = 26,          /* 8: the end is not INIT; 9: it is not TRYOPEN; 10, 11: it is not OPEN */
-    ROUTE_WRONG_VERSION = 27         /* 6, 7: the version is longer than ROUTE_MAX_VERSION or has a zero byte;
+    ROUTE_WRONG_VERSION = 27,        /* 6, 7: the version is longer than ROUTE_MAX_VERSION or has a zero byte;
                                         7, 8, 9, 11, 12: it is not the one in the verdict */
+    ROUTE_NOT_THE_MARK = 28,         /* 13: the sequence is not the end's mark: it is pruned already, or not yet next */
+    ROUTE_NOT_UNORDERED = 29         /* 13: the channel is not unordered: nothing is pruned there */
 };
 
-/* Answers one datagram and carries it out. Answers 0 to 13, 15 to 20, 25 to 27 and 140 to 146.
+/* Answers one datagram and carries it out. Answers 0 to 13, 15 to 20, 25 to 29 and 140 to 146.
  *
- * store, store_len         the ledger's store, as the maker, the converter or the last accepted call left it
+ * store, store_len         the ledger's store, as the maker, a converter or the last accepted call left it
  * output, output_len       takes the emitted record; at least ROUTE_OUTPUT_LENGTH bytes, whatever the kind
  * datagram, datagram_len   the datagram; its bytes are not changed
  * size                     takes the length of the emitted record, 0 where none is emitted; never NULL
  *
  * With ROUTE_ACCEPTED the store is changed, the emitted record stands at the front of the output, *size is its length,
- * and the bytes of the output behind it are as they were. Kinds 8 to 11 emit nothing: *size is 0, and no byte of the
- * output has changed. With any other answer no byte of store or output has changed. *size is written in every case, and
- * what it was before has no effect.
+ * and the bytes of the output behind it are as they were. Kinds 8 to 11 and 13 emit nothing: *size is 0, and no byte of
+ * the output has changed. With any other answer no byte of store or output has changed. *size is written in every case,
+ * and what it was before has no effect.
  *
  * An accepted receive does not always deliver. On a channel of order 3 a packet that comes late is accepted and lapses:
  * the record's kind is then ROUTE_LAPSED and not ROUTE_DELIVERED. So the host looks at the kind before it hands the
@@ -208,16 +227,28 @@ uint8_t route_handle(uint8_t *store, size_t store_len, uint8_t *output, size_t o
 uint8_t route_make_store(uint8_t *store, size_t store_len, const uint8_t *openings, size_t openings_len);
 
 /* Puts the packet records of a store in order: those in use at the front, rising by channel, then kind, then sequence,
- * and the free ones behind. Every call asks for this order; stores that were kept before it was asked for may lack it.
- * Answers 0 or 1.
+ * and the free ones behind. Every call asks for this order. Answers 0 or 1.
  *
- * store, store_len         the bytes that the last accepted call left: a store that is fit, but perhaps for the order
- *                          of its packet records
+ * store, store_len         a store of kind ROUTE_STORE_KIND that is fit, but perhaps for the order of its packet
+ *                          records; one of an older kind is not taken
  *
  * With ROUTE_ACCEPTED the store is fit. It has the same packet records, and every byte before them is as it was. One
  * that was in order already has not changed at all. With ROUTE_STORE_NOT_FIT no byte has changed: something else is
  * unfit, or two records have the same kind, channel and sequence. No memory beside the store is used. */
 uint8_t route_convert_store(uint8_t *store, size_t store_len);
+
+/* Takes a store that was kept before channel ends had a mark over to the kind of now. Such a store answers
+ * ROUTE_STORE_NOT_FIT to every call until then. Answers 0 or 1.
+ *
+ * store, store_len         the bytes that the last accepted call left: a store of kind ROUTE_STORE_KIND_BEFORE that is
+ *                          fit by the rules of before, its packet records in order
+ *
+ * With ROUTE_ACCEPTED the store is fit: its kind is ROUTE_STORE_KIND, each of its channel ends has the mark 1, and all
+ * else is as it was. With ROUTE_STORE_NOT_FIT no byte has changed: the store is of another kind, also of the kind of
+ * now, or it is not fit, or a version has more than ROUTE_MAX_VERSION bytes, for which the kind of now has no room. One
+ * whose records are out of order is first put in order by the library from before. No memory beside the store is
+ * used. */
+uint8_t route_upgrade_store(uint8_t *store, size_t store_len);
 
 /* The length of a store with so many packet records: ROUTE_STORE_LENGTH(records) for 1 to ROUTE_MAX_RECORDS, and 0 for
  * every other number, as no store has that many. */

@@ -25,7 +25,7 @@ close-init 1
 close-confirm 2
 """
 PROOF = "0500 3200000000000000 8403000000000000"
-BEHIND = "00" * 24 + "7631" + "00" * 22  # counters, which are zero, and version
+BEHIND = "00" * 24 + "7631" + "00" * 22  # counters, which are zero, version, and mark, which is zero too
 STEP_BYTES = [
     "33000000 0600" + CONTEXT + "0600 01 7631",
     "89000000 0700" + CONTEXT + "0600 04000000 02" + PROOF + "0100 01 02 04000000 0600 0500 00000000" + BEHIND + "7631",
@@ -60,10 +60,11 @@ class Bytes(unittest.TestCase):
         self.assertEqual(run(text).stdout, expected)
 
     def test_lengths(self):
-        lines = "send 7\nreceive 7\nwrite 7\nacknowledge 7\ntimeout 7\ntimeout-on-close 7\nraw 0600 0000 0900\n"
+        lines = "send 7\nreceive 7\nwrite 7\nacknowledge 7\ntimeout 7\ntimeout-on-close 7\nprune 7\n"
+        lines += "raw 0600 0000 0900\n"
         made = records(OPEN + lines)
-        self.assertEqual([len(record) for record in made], [98, 194, 90, 226, 194, 276, 6])
-        self.assertEqual([record[4] for record in made], [1, 2, 3, 4, 5, 12, 9])
+        self.assertEqual([len(record) for record in made], [98, 194, 90, 226, 194, 276, 218, 6])
+        self.assertEqual([record[4] for record in made], [1, 2, 3, 4, 5, 12, 13, 9])
 
     def test_needed_verdicts(self):
         lines = "receive 7 height 60\nacknowledge 7 height 60\ntimeout 7 sequence 4 height 60\ntimeout 8 height 60\n"
@@ -112,13 +113,14 @@ class Bytes(unittest.TestCase):
         ])
 
     def test_every_part_of_an_end_verdict_can_be_told(self):
-        told = " verdict claim 1 at 10/11 on 12/13 to 14/15 state closed order ordered version 0x6100"
+        told = " verdict claim 1 at 10/11 on 12/13 to 14/15 state closed order ordered version 0x6100 mark 2"
         steps = [("try 1 port 5 ordered-allow-timeout to 6/9", 53), ("open-acknowledge 8 to 9", 54)]
         steps += [("open-confirm 8", 50), ("close-confirm 8", 50), ("timeout-on-close 8", 114)]
         for line, at in steps:
             (record,) = records(OPEN + line + (told if at != 114 else told.replace("verdict", "end-verdict")))
             expected = "0100 0a00000000000000 0b00000000000000 0100 04 01 0d000000 0c00 0e00 0f000000"
-            self.assertEqual(record[at : at + 82].hex(), bytes.fromhex(expected + "00" * 24 + "61" + "00" * 23).hex())
+            expected += "00" * 24 + "61" + "00" * 15 + "02" + "00" * 7
+            self.assertEqual(record[at : at + 82].hex(), bytes.fromhex(expected).hex())
 
     def test_orders(self):
         for number, order in enumerate(["ordered", "unordered", "ordered-allow-timeout"], 1):
@@ -132,7 +134,37 @@ class Bytes(unittest.TestCase):
         lines += "try 1 port 5 ordered to 6/9 version " + "v" * 25
         empty, inside, long = records(OPEN + lines)
         self.assertEqual((len(empty), inside[49:]), (49, b"a\0b"))
-        self.assertEqual((long[111:135], long[135:]), (b"v" * 24, b"v" * 25))
+        self.assertEqual((long[111:135], long[135:]), (b"v" * 16 + bytes(8), b"v" * 25))
+
+    def test_prune(self):
+        """Channel and sequence, then the two verdicts that it needs, or what is told of them."""
+        lines = "at client 50/9\nprune 8 sequence 3\nprune 8 sequence 18446744073709551615\nprune 8 sequence 3"
+        first = " absent-verdict claim 1 at 51 on 4/5 sequence 6 height 7 time 8 digest 09"
+        second = " next-send-verdict claim 2 at 52/10 on 11/12 sequence 13 height 14 time 15 digest 10"
+        needed, top, told = records(OPEN + lines + first + second)
+        end = "3200000000000000 0900000000000000 0600 0a000000"
+        verdicts = f"0700 {end} 0300000000000000" + "00" * 48 + f"0800 {end} 0400000000000000" + "00" * 48
+        self.assertEqual(needed[46:].hex(), bytes.fromhex("08000000 0300000000000000" + verdicts).hex())
+        # No number is above the greatest one.
+        self.assertEqual((top[50:58], top[82:90], top[162:170]), (b"\xff" * 8,) * 3)
+        numbers = [(46, 4, 8), (50, 8, 3), (58, 2, 1), (60, 8, 51), (68, 8, 9), (76, 2, 4), (78, 4, 5), (82, 8, 6)]
+        numbers += [(90, 8, 7), (98, 8, 8), (106, 1, 9), (138, 2, 2), (140, 8, 52), (148, 8, 10), (156, 2, 11)]
+        numbers += [(158, 4, 12), (162, 8, 13), (170, 8, 14), (178, 8, 15), (186, 1, 16)]
+        for at, width, value in numbers:
+            self.assertEqual(int.from_bytes(told[at : at + width], "little"), value, at)
+
+    def test_mark(self):
+        """What is left out is the mark: one more behind each line that is to be accepted, and no more behind others."""
+        refused = ["absent-verdict claim 1", "absent-verdict on 6/9", "absent-verdict sequence 9", "sequence 7"]
+        refused += ["next-send-verdict claim 1", "next-send-verdict sequence 2", "next-send-verdict digest 09"]
+        refused += ["absent-verdict at 51", "next-send-verdict at 51"]
+        accepted = ["", "sequence 3", "next-send-verdict sequence 9", "absent-verdict at 51 next-send-verdict at 51"]
+        lines = "at client 50/9\nprune 8\n" + "".join(f"prune 8 {words}\n" for words in refused)
+        lines += "at caller 6\nprune 8\nat caller owner\nprune 7\nprune 7\n"
+        lines += "".join(f"prune 8 {words}\n" for words in accepted) + "prune 8\n"
+        sequences = [int.from_bytes(record[50:58], "little") for record in records(OPEN + lines)]
+        expected = [1, *(7 if words == "sequence 7" else 2 for words in refused), 2, 1, 1, 2, 3, 4, 5, 6]
+        self.assertEqual(sequences, expected)
 
     def test_opened_end_is_known(self):
         lines = "open-acknowledge 1 to 9\nat caller 7\ninit 2 port 5 unordered to 6\nat caller owner\n"
@@ -159,35 +191,6 @@ class Bytes(unittest.TestCase):
             told.append([int.from_bytes(number, "little") for number in blocks])
         expected = [[0, 0, 0, 0], [3, 0, 3, 0], [4, 5, 4, 5], [6, 5, 6, 5], [6, 5, 8, 5], [6, 5, 8, 2]]
         self.assertEqual(told, expected)
-
-
-class Beside(unittest.TestCase):
-    def beside(self, transcript, text):
-        with tempfile.NamedTemporaryFile("w", suffix=".txt") as file:
-            file.write(transcript)
-            file.flush()
-            done = run(text, "--beside", file.name)
-        self.assertEqual(done.returncode, 0)
-        return done.stdout.decode().splitlines()
-
-    def test_each_answer_has_its_words(self):
-        given = [*range(28), *range(140, 147)]
-        given.remove(14)
-        lines = self.beside("".join(f"1 {number}\n" for number in range(256)), OPEN + "send 7 # a comment\n")
-        words = {number: line[10:44] for number, line in enumerate(lines) if number in given}
-        self.assertEqual((len(lines), len(set(words.values()))), (256, len(given)))
-        for number, line in enumerate(lines):
-            self.assertEqual(line[:10].split(), ["1", str(number)])
-            self.assertEqual(line[44:], "send 7")
-            # A space is between the words and the line of the text.
-            self.assertEqual((line[10:44].strip() != "", line[43]), (number in given, " "))
-        self.assertIn("sequence", words[143])
-        self.assertIn("out of order", words[15])
-
-    def test_other_lines(self):
-        lines = self.beside("open 0\n1 140\n2 0\nend 15\n", OPEN + "send 7\n")
-        self.assertEqual(lines[0], "open 0    accepted")
-        self.assertEqual(lines[2:], ["2 0       accepted", "end 15"])
 
 
 # Lines that are no good, each with words of what is told.
@@ -231,6 +234,11 @@ BAD_LINES = [
     ("timeout-on-close 7 end-verdict sequence 1", "'sequence' is no part of an end verdict"),
     ("timeout-on-close 7 verdict state closed", "'state' is no part of a verdict"),
     ("timeout-on-close 7 verdict claim 3 end-verdict claim 5", "'end-verdict' is no part of a verdict"),
+    ("prune 8 verdict claim 7", "'prune' carries no verdict, but: absent-verdict, next-send-verdict"),
+    ("prune 8 next-send-verdict claim 8 absent-verdict claim 7", "'absent-verdict' is no part of a verdict"),
+    ("prune 8 height 60", "'height' is no part of prune, which has: sequence"),
+    ("receive 8 absent-verdict claim 7", "'receive' carries no absent-verdict, but: verdict"),
+    ("open-confirm 7 verdict mark x", "'x' is not a number"),
 ]
 
 

@@ -4,6 +4,7 @@ ORDERS = {"ordered": 1, "unordered": 2, "ordered-allow-timeout": 3}
 # Those that open and close a channel; the others are about packets.
 STEPS = {"init": 6, "try": 7, "open-acknowledge": 8, "open-confirm": 9, "close-init": 10, "close-confirm": 11}
 KINDS = {"send": 1, "receive": 2, "write": 3, "acknowledge": 4, "timeout": 5, **STEPS, "timeout-on-close": 12}
+KINDS |= {"prune": 13}
 STATES = {"init": 1, "tryopen": 2, "open": 3, "closed": 4}
 # The state of the other end that an end verdict has to show.
 STATES_SHOWN = {"try": "init", "open-acknowledge": "tryopen", "open-confirm": "open"}
@@ -17,9 +18,10 @@ ANSWERS = {
     "timeout passed|timeout not passed|no such commitment",
     140: "wrong claim in verdict|wrong port in verdict|wrong channel in verdict|wrong sequence in verdict|"
     "wrong timeouts in verdict|wrong digest or record in verdict|verdicts of different blocks",
-    15: "out of order|already there|packet not received|acknowledgement empty|counter at its end|no free record|"
-    "length unfit|openings malformed|more than 16 openings|a channel twice|no free channel record or number|"
-    "end not in the state before|version unfit, or another one",
+    15: "out of order|already there, or pruned|packet not received|acknowledgement empty|counter at its end|"
+    "no free record|length unfit|openings malformed|more than 16 openings|a channel twice|"
+    "no free channel record or number|end not in the state before|version unfit, or another one|"
+    "sequence is not the mark|channel not unordered",
 }
 MEANINGS = {number: words for first, run in ANSWERS.items() for number, words in enumerate(run.split("|"), first)}
 
@@ -103,14 +105,17 @@ PARTS = {
     "close-init": {},
     "close-confirm": {},
     "timeout-on-close": PACKET,
+    "prune": {"sequence": wide(64)},
 }
 PROOF = {"claim": wide(16), "at": block, "on": end}
 VERDICT = {**PROOF, "sequence": wide(64), **TIMEOUTS, "digest": digest}
 END_VERDICT = {**PROOF, "to": end, "state": choice(**STATES), "order": choice(**ORDERS), "version": version}
+END_VERDICT |= {"mark": wide(64)}
 # The verdicts that a line can carry, in the order of the datagram: the word before each, and its parts.
 VERDICTS = {name: {"verdict": VERDICT} for name in ("receive", "acknowledge", "timeout")}
 VERDICTS |= {name: {"verdict": END_VERDICT} for name in ("try", "open-acknowledge", "open-confirm", "close-confirm")}
 VERDICTS |= {"timeout-on-close": {"end-verdict": END_VERDICT, "verdict": VERDICT}}
+VERDICTS |= {"prune": {"absent-verdict": VERDICT, "next-send-verdict": VERDICT}}
 
 
 def take(words, what):
@@ -136,9 +141,10 @@ def take_parts(words, table, of):
 def take_verdicts(words, name):
     """Cuts the verdicts off the words of a line. Their parts, for each verdict in the order of the datagram."""
     verdicts = VERDICTS.get(name, {})
-    for word in ("end-verdict", "verdict"):
-        if word in words and word not in verdicts:
-            raise BadLine(f"'{name}' carries no {word}")
+    for word in words:
+        if any(word in others for others in VERDICTS.values()) and word not in verdicts:
+            but = f", but: {', '.join(verdicts)}" if verdicts else ""
+            raise BadLine(f"'{name}' carries no {word}{but}")
     told = []
     for word in reversed(verdicts):
         at = words.index(word) if word in words else len(words)

@@ -170,6 +170,21 @@ static void make_close_confirm(uint8_t *datagram, uint8_t state, const char *ver
     put_end_verdict(datagram + 50, state, 7, version);
 }
 
+/* What both verdicts of a prune say, at height 50: channel 9 of port 6 has no commitment of the sequence, and its next
+ * send is the number. */
+static void make_prune(uint8_t *datagram, uint64_t sequence, uint64_t next_send)
+{
+    start(datagram, ROUTE_PRUNE_LENGTH, ROUTE_PRUNE);
+    put(datagram + 46, 7, 4);
+    put(datagram + 50, sequence, 8);
+    put_not_received(datagram + 58, 50);
+    put(datagram + 58, ROUTE_CLAIM_COMMITMENT_ABSENT, 2);
+    put(datagram + 82, sequence, 8);
+    put_not_received(datagram + 138, 50);
+    put(datagram + 138, ROUTE_CLAIM_NEXT_SEND, 2);
+    put(datagram + 162, next_send, 8);
+}
+
 static void make_time_out_on_close(uint8_t *datagram, uint64_t sequence, uint8_t state, uint64_t proof_height)
 {
     start(datagram, ROUTE_TIME_OUT_ON_CLOSE_LENGTH, ROUTE_TIME_OUT_ON_CLOSE);

@@ -1,10 +1,12 @@
 /* The library through its header, from C: a fresh store, sends, a receive, a time-out, the steps that open and close a
- * channel, a time-out on close, packets that lapse (lapsing.h), packet records put in order, refusals, lengths that are
- * wrong. */
+ * channel, a time-out on close, packets that lapse (lapsing.h), sequences that are pruned (pruning.h), stores that are
+ * put in order or upgraded (converting.h), refusals, lengths that are wrong. */
 
 #include "calls.h"
+#include "converting.h"
 #include "datagrams.h"
 #include "lapsing.h"
+#include "pruning.h"
 #include "route.h"
 
 #include <stdio.h>
@@ -13,12 +15,14 @@
 static void test_make(void)
 {
     fresh();
-    static const uint8_t header[29] = {0xc0, 4, 0, 0, 1, 4, 16, 0, 0, 0, 0, 0, 0, 0, 0,
+    static const uint8_t header[29] = {0xc0, 4, 0, 0, 2, 4, 16, 0, 0, 0, 0, 0, 0, 0, 0,
                                        0,    0, 0, 0, 0, 0, 0,  0, 0, 2, 0, 0, 0, 8};
     static const uint8_t end[33] = {1, 0, 3, 1, 7, 0, 0, 0, 5, 0, 6, 0, 9, 0, 0, 0, 1,
                                     0, 0, 0, 0, 0, 0, 0, 1, 0, 0, 0, 0, 0, 0, 0, 1};
     EXPECT(memcmp(store, header, sizeof header) == 0 && all_are(store + 29, 35, 0));
-    EXPECT(memcmp(store + 64, end, sizeof end) == 0 && all_are(store + 97, STORE - 97, 0));
+    EXPECT(memcmp(store + 64, end, sizeof end) == 0 && all_are(store + 97, 23, 0));
+    EXPECT(store[120] == 1 && all_are(store + 121, STORE - 121, 0)); /* the mark */
+    EXPECT(store[4] + 256 * store[5] == ROUTE_STORE_KIND);
     memset(store, FILL, STORE);
     EXPECT(route_make_store(store, STORE - 1, OPENING, sizeof OPENING) == ROUTE_LENGTH_UNFIT);
     EXPECT(route_make_store(store, STORE, OPENING, sizeof OPENING - 1) == ROUTE_OPENINGS_MALFORMED);
@@ -240,34 +244,6 @@ static void test_time_out_on_close(void)
     EXPECT(all_are(store + 1088, 128, 0));
 }
 
-/* Two records that stand the wrong way round, a free one before one in use, and two of one kind, channel and sequence,
- * which no order makes fit. */
-static void test_convert(void)
-{
-    uint8_t send[ROUTE_SEND_LENGTH], in_order[STORE];
-    fresh();
-    make_send(send, 60);
-    EXPECT(call(send, sizeof send) == ROUTE_ACCEPTED);
-    EXPECT(call(send, sizeof send) == ROUTE_ACCEPTED);
-    memcpy(in_order, store, STORE);
-    EXPECT(route_convert_store(store, STORE) == ROUTE_ACCEPTED && memcmp(store, in_order, STORE) == 0);
-    memcpy(store + 1088, in_order + 1152, 64);
-    memcpy(store + 1152, in_order + 1088, 64);
-    EXPECT(call(send, sizeof send) == ROUTE_STORE_NOT_FIT);
-    EXPECT(route_convert_store(store, STORE) == ROUTE_ACCEPTED && memcmp(store, in_order, STORE) == 0);
-    EXPECT(call(send, sizeof send) == ROUTE_NO_FREE_RECORD);
-    memset(store + 1088, 0, 64);
-    EXPECT(call(send, sizeof send) == ROUTE_STORE_NOT_FIT);
-    EXPECT(route_convert_store(store, STORE) == ROUTE_ACCEPTED && memcmp(store, in_order, 1088) == 0);
-    EXPECT(memcmp(store + 1088, in_order + 1152, 64) == 0 && all_are(store + 1152, 64, 0));
-    memcpy(store + 1152, store + 1088, 64);
-    store[1215] = 1; /* the digest is another */
-    memcpy(in_order, store, STORE);
-    EXPECT(route_convert_store(store, STORE) == ROUTE_STORE_NOT_FIT && memcmp(store, in_order, STORE) == 0);
-    EXPECT(route_convert_store(store, STORE - 1) == ROUTE_STORE_NOT_FIT);
-    EXPECT(route_convert_store(NULL, 0) == ROUTE_STORE_NOT_FIT);
-}
-
 static void test_lengths(void)
 {
     EXPECT(route_store_length(0) == 0 && route_store_length(ROUTE_MAX_RECORDS + 1) == 0);
@@ -291,7 +267,10 @@ int main(void)
     test_time_out_on_close();
     test_lapsing();
     test_time_out_of_lapsed();
+    test_prune();
+    test_prune_refused();
     test_convert();
+    test_upgrade();
     test_lengths();
     printf(failed ? "%d of the C test's expectations failed\n" : "the C test passed\n", failed);
     return failed != 0;

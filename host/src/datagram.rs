@@ -126,6 +126,18 @@ impl Datagram {
         Datagram::new(12, context, 148 + EndVerdict::LENGTH, body)
     }
 
+    /// Frees the receipt and the acknowledgement of this sequence on a channel of this ledger, each if it is there, and
+    /// raises the end's [mark](crate::Channel::mark) by 1. The end has to be [`Open`](crate::State::Open) and
+    /// unordered, and the sequence its mark. Two verdicts of one block are needed, about the end that it names, which
+    /// sent the packet: [`Verdict::commitment_absent`] with this sequence, and [`Verdict::next_send`] with a number
+    /// above it. Below the mark nothing is received any more, so an old proof of the packet is refused as before.
+    ///
+    /// [`Store::next_prune`](crate::Store::next_prune) tells the sequence, and makes this datagram.
+    pub fn prune(context: &Context, channel: u32, sequence: u64, absent: &Verdict, next_send: &Verdict) -> Datagram {
+        let body = |to: Writer| next_send.write(absent.write(to.u32(channel).u64(sequence)));
+        Datagram::new(13, context, 172, body)
+    }
+
     /// Its bytes.
     pub fn as_bytes(&self) -> &[u8] {
         &self.0

@@ -5,7 +5,7 @@ use std::fmt;
 use crate::bytes::Reader;
 use crate::{Digest, End, Packet};
 
-/// What an accepted datagram emits. An open acknowledge, an open confirm and both closes emit nothing.
+/// What an accepted datagram emits. An open acknowledge, an open confirm, both closes and a prune emit nothing.
 #[derive(Clone, Copy, Debug, PartialEq, Eq, Hash)]
 #[non_exhaustive]
 pub enum Emitted {

@@ -1,4 +1,4 @@
-//! The static library's four functions, as `include/route.h` tells them to C.
+//! The static library's five functions, as `include/route.h` tells them to C.
 //!
 //! [`Store`](crate::Store) is the safe way to call them.
 
@@ -37,6 +37,14 @@ extern "C" {
     /// the length 0 it may be null.
     pub fn route_convert_store(store: *mut u8, store_len: usize) -> u8;
 
+    /// Takes a store that was kept before channel ends had a mark over to the kind of now: 0, or 1 where it is not a
+    /// fit one of the kind of before, its records in order and its versions of at most 16 bytes.
+    ///
+    /// # Safety
+    ///
+    /// As for [`route_convert_store`].
+    pub fn route_upgrade_store(store: *mut u8, store_len: usize) -> u8;
+
     /// The length of a store with so many packet records, 0 where no store has so many.
     ///
     /// # Safety
@@ -74,6 +82,12 @@ pub(crate) fn make_store(store: &mut [u8], openings: &[u8]) -> u8 {
 pub(crate) fn convert_store(store: &mut [u8]) -> u8 {
     // SAFETY: the pointer is that of a slice, with its length, and it is exclusive.
     unsafe { route_convert_store(store.as_mut_ptr(), store.len()) }
+}
+
+/// [`route_upgrade_store`] on a slice.
+pub(crate) fn upgrade_store(store: &mut [u8]) -> u8 {
+    // SAFETY: the pointer is that of a slice, with its length, and it is exclusive.
+    unsafe { route_upgrade_store(store.as_mut_ptr(), store.len()) }
 }
 
 /// [`route_store_length`].

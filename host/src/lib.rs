@@ -18,15 +18,19 @@
 //! - [`Datagram::close_init`] closes a channel end, [`close_confirm`](Datagram::close_confirm) the other end of the
 //!   channel, and [`time_out_on_close`](Datagram::time_out_on_close) finishes a packet that a closed end has not
 //!   received.
+//! - [`Datagram::prune`] frees the receipt and the acknowledgement of a packet that its sender has finished, on an
+//!   unordered channel; [`Store::next_prune`] tells which sequence is next. Without it a store fills.
 //!
-//! A receive, an acknowledge and a time-out carry a [`Verdict`], all steps of opening but the first and a close confirm
-//! an [`EndVerdict`], and a time-out on close one of each: what the host's light client found about the other ledger.
+//! A receive, an acknowledge and a time-out carry a [`Verdict`], a prune two, all steps of opening but the first and a
+//! close confirm an [`EndVerdict`], and a time-out on close one of each: what the host's light client found about the
+//! other ledger.
 //! That verdicts are true is the host's part. So is it that each call gets the store that the last accepted call on its
 //! ledger left: nobody else changes the bytes, and no older copy is put back. An older copy is fit too, so no refusal
 //! tells; but a packet that was delivered or finished since would be delivered or finished again. The proof is about
 //! lists of calls in which this holds. So a host saves [`Store::as_bytes`] before it hands on the emitted record.
 //!
-//! Packet records stand in order. Bytes that were kept before this was asked for are taken by [`Store::convert`].
+//! Bytes that were kept before channel ends had a mark are taken by [`Store::upgrade`], and bytes whose packet records
+//! are out of order by [`Store::convert`].
 //!
 //! `examples/two_ledgers/` has two ledgers in one program.
 
@@ -40,6 +44,7 @@ mod emitted;
 pub mod ffi;
 mod height;
 mod packet;
+mod prune;
 mod refusal;
 mod store;
 mod verdict;
@@ -51,6 +56,7 @@ pub use datagram::Datagram;
 pub use emitted::Emitted;
 pub use height::{Block, OtherHeight, OtherTime, OwnHeight, OwnTime, Timeout};
 pub use packet::{Digest, End, Order, Packet};
+pub use prune::{NextPrune, NotPrunable};
 pub use refusal::{NotARefusal, Refusal, VerdictPart};
 pub use store::{Opening, Store};
 pub use verdict::{Claim, EndVerdict, Verdict};

@@ -7,28 +7,29 @@ use std::fmt;
 /// the first one that differs is told. An [`EndVerdict`](crate::EndVerdict) has two parts that are told here, its claim
 /// and its record; its version is compared behind all others ([`Refusal::WrongVersion`]).
 ///
-/// A time-out on close has two verdicts. All parts of the end verdict are compared first, then those of the packet's
-/// verdict, and last their blocks.
+/// A time-out on close has two verdicts, and so has a prune. All parts of the first one are compared first, then those
+/// of the second, and last their blocks. The first is the end verdict, and at a prune the one about the commitment.
 #[derive(Clone, Copy, Debug, PartialEq, Eq, PartialOrd, Ord, Hash)]
 #[repr(u8)]
 #[non_exhaustive]
 pub enum VerdictPart {
     /// The claim: at every datagram with a verdict.
     Claim = 140,
-    /// The port: at a receive, an acknowledge and both time-outs.
+    /// The port: at a receive, an acknowledge, both time-outs and a prune.
     Port = 141,
     /// The channel: at the same ones.
     Channel = 142,
-    /// The sequence: at a receive, an acknowledge and both time-outs. But in [`Claim::NextReceive`](crate::Claim) it is
-    /// the other end's next receive, which may be any number; above the packet's sequence it is
-    /// [`Refusal::OutOfOrder`].
+    /// The sequence: at the same ones. But in [`Claim::NextReceive`](crate::Claim) it is the other end's next receive,
+    /// which may be any number; above the packet's sequence it is [`Refusal::OutOfOrder`]. In
+    /// [`Claim::NextSend`](crate::Claim) it is the other end's next send, which has to be above the sequence that is
+    /// pruned: the caller waits until the packet has been sent.
     Sequence = 143,
-    /// The timeout height or the timeout time: at a receive, an acknowledge and both time-outs.
+    /// The timeout height or the timeout time: at the same ones.
     Timeouts = 144,
     /// The digest, at the same ones; or anything in the record of an end verdict but its version, at all steps of
     /// opening but the first, a close confirm and a time-out on close.
     Digest = 145,
-    /// The two verdicts of a time-out on close are of different blocks: the heights differ, or the times.
+    /// The two verdicts of a time-out on close or of a prune are of different blocks: the heights differ, or the times.
     Blocks = 146,
 }
 
@@ -63,7 +64,8 @@ impl VerdictPart {
 #[derive(Clone, Copy, Debug, PartialEq, Eq, PartialOrd, Ord, Hash)]
 #[non_exhaustive]
 pub enum Refusal {
-    /// The bytes are not those of a fit store. Where only the order of the packet records is wrong,
+    /// The bytes are not those of a fit store. Those of a store from before channel ends had a mark are taken by
+    /// [`Store::upgrade`](crate::Store::upgrade). Where only the order of the packet records is wrong,
     /// [`Store::convert`](crate::Store::convert) takes them.
     StoreNotFit,
     /// The output is shorter than 106 bytes.
@@ -97,7 +99,8 @@ pub enum Refusal {
     /// It is another packet's turn on this channel, which is not unordered; or, at either time-out with
     /// [`Claim::NextReceive`](crate::Claim), the packet was received or lapsed.
     OutOfOrder,
-    /// The receipt, or the acknowledgement, is already there.
+    /// The receipt, or the acknowledgement, is already there; or the sequence is below the end's
+    /// [mark](crate::Channel::mark), and what was there is pruned. There is nothing to do.
     AlreadyThere,
     /// The packet was not received: it has not come, or it lapsed.
     NotReceived,
@@ -105,7 +108,8 @@ pub enum Refusal {
     EmptyAcknowledgement,
     /// The counter to be raised is at its largest value.
     CounterAtEnd,
-    /// All packet records are in use.
+    /// All packet records are in use. Finishing packets frees commitments, and [`Datagram::prune`](crate::Datagram)
+    /// frees receipts and acknowledgements on unordered channels.
     NoFreeRecord,
     /// No store has this length, or so many packet records.
     LengthUnfit,
@@ -119,8 +123,15 @@ pub enum Refusal {
     NoFreeChannel,
     /// The end is not in the state before this step of opening or closing a channel.
     WrongState,
-    /// The version has more than 24 bytes or a zero byte, or it is not the one of the other end.
+    /// The version has more than 16 bytes or a zero byte, or it is not the one of the other end.
     WrongVersion,
+    /// The sequence that is to be pruned is not the end's [mark](crate::Channel::mark). Below it the sequence is pruned
+    /// already, and there is nothing to do; above it the caller prunes the mark first, one sequence after the other.
+    /// [`Store::next_prune`](crate::Store::next_prune) tells which one is next.
+    NotTheMark,
+    /// The channel is not unordered, so nothing is pruned on it. Its acknowledgements and timeout receipts stay: the
+    /// caller leaves it, and the operator keeps enough packet records for them.
+    NotUnordered,
 }
 
 impl Refusal {
@@ -159,9 +170,11 @@ impl Refusal {
         Refusal::NoFreeChannel,
         Refusal::WrongState,
         Refusal::WrongVersion,
+        Refusal::NotTheMark,
+        Refusal::NotUnordered,
     ];
 
-    /// Its number: 1 to 13, 15 to 27, or 140 to 146.
+    /// Its number: 1 to 13, 15 to 29, or 140 to 146.
     pub fn number(self) -> u8 {
         self.told().0
     }
@@ -184,7 +197,7 @@ impl Refusal {
             Refusal::NoCommitment => (13, "no such commitment"),
             Refusal::Verdict(part) => (part as u8, part.meaning()),
             Refusal::OutOfOrder => (15, "out of order"),
-            Refusal::AlreadyThere => (16, "already there"),
+            Refusal::AlreadyThere => (16, "already there, or pruned"),
             Refusal::NotReceived => (17, "packet not received"),
             Refusal::EmptyAcknowledgement => (18, "acknowledgement empty"),
             Refusal::CounterAtEnd => (19, "counter at its largest value"),
@@ -196,6 +209,8 @@ impl Refusal {
             Refusal::NoFreeChannel => (25, "no free channel record or number"),
             Refusal::WrongState => (26, "channel end not in the state before this step"),
             Refusal::WrongVersion => (27, "version unfit, or unlike the other end's"),
+            Refusal::NotTheMark => (28, "sequence to prune is not the channel's mark"),
+            Refusal::NotUnordered => (29, "channel to prune is not unordered"),
         }
     }
 }
@@ -242,7 +257,7 @@ mod tests {
     #[test]
     fn numbers_go_both_ways() {
         for number in 0..=u8::MAX {
-            let is_given = matches!(number, 1..=13 | 15..=27 | 140..=146);
+            let is_given = matches!(number, 1..=13 | 15..=29 | 140..=146);
             match Refusal::try_from(number) {
                 Ok(refusal) => assert_eq!((refusal.number(), u8::from(refusal), is_given), (number, number, true)),
                 Err(error) => assert_eq!((error, is_given), (NotARefusal(number), false)),
@@ -254,7 +269,7 @@ mod tests {
     fn all_stand_by_place() {
         assert!(Refusal::ALL.windows(2).all(|pair| pair[0] < pair[1]));
         let numbers: Vec<u8> = Refusal::ALL.iter().map(|refusal| refusal.number()).collect();
-        assert_eq!(numbers, (1..=13).chain(140..=146).chain(15..=27).collect::<Vec<u8>>());
+        assert_eq!(numbers, (1..=13).chain(140..=146).chain(15..=29).collect::<Vec<u8>>());
     }
 
     #[test]

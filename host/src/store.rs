@@ -1,9 +1,7 @@
 //! One ledger's store and the calls on it.
 
 use crate::bytes::{Reader, Writer};
-use crate::{
-    ffi, Channel, Claim, Emitted, End, EndVerdict, Order, OwnHeight, OwnTime, Record, RecordKind, Refusal, Verdict,
-};
+use crate::{ffi, Channel, Emitted, End, Order, OwnHeight, OwnTime, Record, RecordKind, Refusal};
 
 /// A channel end to be opened when a store is made.
 #[derive(Clone, Copy, Debug, PartialEq, Eq, Hash)]
@@ -29,7 +27,8 @@ impl Opening {
 
 /// One ledger's channel ends and packet records, in the bytes that the library works on.
 ///
-/// A `Store` is always fit: it was made, tested or converted by the library, and no call makes a fit store unfit.
+/// A `Store` is always fit: it was made, tested, upgraded or converted by the library, and no call makes a fit store
+/// unfit.
 ///
 /// ```
 /// use route::{Block, Context, Datagram, OtherHeight, OtherTime, OwnHeight, OwnTime, Timeout};
@@ -103,8 +102,9 @@ impl Store {
     ///
     /// # Errors
     ///
-    /// [`Refusal::StoreNotFit`] if they are not those of a fit store. Where only the order of their packet records is
-    /// wrong, [`convert`](Store::convert) takes them.
+    /// [`Refusal::StoreNotFit`] if they are not those of a fit store. Those of a store from before channel ends had a
+    /// mark are taken by [`upgrade`](Store::upgrade). Where only the order of their packet records is wrong,
+    /// [`convert`](Store::convert) takes them.
     pub fn from_bytes(bytes: impl Into<Vec<u8>>) -> Result<Store, Refusal> {
         let mut bytes = bytes.into();
         // With an empty output every call is refused, and changes nothing: an unfit store with 1, a fit one with 2.
@@ -114,10 +114,10 @@ impl Store {
         }
     }
 
-    /// The store in these bytes, with its packet records put in order, as [`records`](Store::records) lists them. This
-    /// is for bytes that were kept before this order was part of a fit store. They are those of the last accepted call
-    /// on this ledger, as for [`from_bytes`](Store::from_bytes). The store has the same packet records, and every byte
-    /// before them is kept; one that was in order is taken as it is.
+    /// The store in these bytes, with its packet records put in order, as [`records`](Store::records) lists them. The
+    /// bytes are those of the last accepted call on this ledger, as for [`from_bytes`](Store::from_bytes), and of the
+    /// kind of now. The store has the same packet records, and every byte before them is kept; one that was in order is
+    /// taken as it is.
     ///
     /// A vector is converted in place. A slice is copied and keeps its bytes.
     ///
@@ -150,6 +150,37 @@ impl Store {
         }
     }
 
+    /// The store in these bytes, which were kept before channel ends had a [mark](Channel::mark): each end gets the
+    /// mark 1, and all else is as it was. They are those of the last accepted call on this ledger, as for
+    /// [`from_bytes`](Store::from_bytes). A store is upgraded once, and saved before the next call. One whose packet
+    /// records are out of order is first put in order by the library from before.
+    ///
+    /// A vector is upgraded in place. A slice is copied and keeps its bytes.
+    ///
+    /// ```
+    /// # use route::{End, Opening, Order, Refusal, Store};
+    /// # let (own, counterparty) = (End { port: 5, channel: 7 }, End { port: 6, channel: 9 });
+    /// # let store = Store::make(2, &[Opening { own, counterparty, order: Order::Unordered }])?;
+    /// let mut kept = store.as_bytes().to_vec();
+    /// kept[4] = 1; // the kind was 0x0401
+    /// kept[120] = 0; // and where the mark of the first channel end stands there were zeros
+    /// assert_eq!(Store::from_bytes(kept.as_slice()), Err(Refusal::StoreNotFit));
+    /// assert_eq!(Store::upgrade(kept)?, store);
+    /// # Ok::<(), Refusal>(())
+    /// ```
+    ///
+    /// # Errors
+    ///
+    /// [`Refusal::StoreNotFit`] if they are not those of a store of the kind of before that was fit then, its packet
+    /// records in order: also where a version has more than 16 bytes, and for a store of the kind of now.
+    pub fn upgrade(bytes: impl Into<Vec<u8>>) -> Result<Store, Refusal> {
+        let mut bytes = bytes.into();
+        match ffi::upgrade_store(&mut bytes) {
+            0 => Ok(Store { bytes }),
+            number => Err(refusal(number)),
+        }
+    }
+
     /// The store's bytes, to be kept.
     pub fn as_bytes(&self) -> &[u8] {
         &self.bytes
@@ -161,7 +192,7 @@ impl Store {
     }
 
     /// Answers a datagram and carries it out: a [`Datagram`](crate::Datagram), or any bytes. Gives what is emitted; an
-    /// open acknowledge, an open confirm and both closes emit nothing.
+    /// open acknowledge, an open confirm, both closes and a prune emit nothing.
     ///
     /// An accepted receive is not always a delivery: with [`Order::OrderedAllowTimeout`] it gives [`Emitted::Lapsed`]
     /// for a packet that comes late, on which the application must not act.
@@ -233,35 +264,6 @@ impl Store {
     /// The packet record of this kind, channel and sequence, if it is there.
     pub fn record(&self, kind: RecordKind, channel: u32, sequence: u64) -> Option<Record> {
         self.records().find(|record| (record.kind, record.channel, record.sequence) == (kind, channel, sequence))
-    }
-
-    /// Whether what the verdict says of this ledger is so now. The verdict's block is not looked at: what is so now is
-    /// true of that block only if no accepted call of its height, or of a lower one, follows.
-    pub fn holds(&self, verdict: &Verdict) -> bool {
-        let Some(end) = self.channel(verdict.end.channel).filter(|end| end.own == verdict.end) else {
-            return false;
-        };
-        let has = |kind| {
-            let record = self.record(kind, verdict.end.channel, verdict.sequence);
-            record.is_some_and(|record| (record.timeout, record.digest) == (verdict.timeout, verdict.digest))
-        };
-        match verdict.claim {
-            Claim::CommitmentPresent => has(RecordKind::Commitment),
-            Claim::AcknowledgementPresent => has(RecordKind::Acknowledgement),
-            Claim::ReceiptAbsent => self.record(RecordKind::Receipt, verdict.end.channel, verdict.sequence).is_none(),
-            Claim::NextReceive => end.next_receive == verdict.sequence,
-            Claim::TimeoutReceiptPresent => {
-                self.record(RecordKind::TimeoutReceipt, verdict.end.channel, verdict.sequence).is_some()
-            }
-            Claim::EndShown => false,
-        }
-    }
-
-    /// Whether the channel end stands here now as the verdict shows it: with this whole record, once its counters are
-    /// set to zero. The verdict's block is not looked at, as in [`holds`](Store::holds).
-    pub fn shows(&self, verdict: &EndVerdict) -> bool {
-        let end = self.channel(verdict.end.own.channel);
-        verdict.claim == Claim::EndShown && end.is_some_and(|end| end.shown() == verdict.end)
     }
 }
 

@@ -4,7 +4,7 @@ use std::fmt;
 
 use crate::Refusal;
 
-/// What the applications at the two ends agree to speak: 0 to 24 bytes, none of them 0.
+/// What the applications at the two ends agree to speak: 0 to 16 bytes, none of them 0.
 ///
 /// The datagrams that open a channel take any bytes as a version, and the library refuses the unfit ones.
 ///
@@ -12,7 +12,7 @@ use crate::Refusal;
 /// use route::{Refusal, Version};
 /// let version = Version::new("receipts-1")?;
 /// assert_eq!(version.as_bytes(), b"receipts-1");
-/// assert_eq!(Version::new([1; 25]), Err(Refusal::WrongVersion));
+/// assert_eq!(Version::new([1; 17]), Err(Refusal::WrongVersion));
 /// assert_eq!(Version::new("a\0"), Err(Refusal::WrongVersion));
 /// # Ok::<(), Refusal>(())
 /// ```
@@ -21,7 +21,7 @@ pub struct Version([u8; Version::MAX_LENGTH]);
 
 impl Version {
     /// The bytes that a version can have.
-    pub const MAX_LENGTH: usize = 24;
+    pub const MAX_LENGTH: usize = 16;
     /// The version of no bytes, which the ends of a fresh store have.
     pub const EMPTY: Version = Version([0; Version::MAX_LENGTH]);
 
@@ -29,7 +29,7 @@ impl Version {
     ///
     /// # Errors
     ///
-    /// [`Refusal::WrongVersion`] if there are more than 24, or one of them is 0.
+    /// [`Refusal::WrongVersion`] if there are more than 16, or one of them is 0.
     pub fn new(bytes: impl AsRef<[u8]>) -> Result<Version, Refusal> {
         let bytes = bytes.as_ref();
         if bytes.len() > Version::MAX_LENGTH || bytes.contains(&0) {

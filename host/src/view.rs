@@ -58,6 +58,9 @@ pub struct Channel {
     pub next_acknowledge: u64,
     /// The version, which never changes. Both ends of an open channel have the same one.
     pub version: Version,
+    /// The lowest sequence that is not pruned, from 1. Below it there are no receipts and no acknowledgements, and no
+    /// packet is received or answered any more. It stays 1 where the order is not [`Order::Unordered`].
+    pub mark: u64,
 }
 
 impl Channel {
@@ -74,7 +77,8 @@ impl Channel {
         let counterparty = End { port: from.u16(), channel: from.u32() };
         let (next_send, next_receive, next_acknowledge) = (from.u64(), from.u64(), from.u64());
         let version = Version::from_padded(from.take());
-        Some(Channel { state, order, own, counterparty, next_send, next_receive, next_acknowledge, version })
+        let mark = from.u64();
+        Some(Channel { state, order, own, counterparty, next_send, next_receive, next_acknowledge, version, mark })
     }
 
     /// The 64 bytes of its record.
@@ -90,15 +94,18 @@ impl Channel {
             .u64(self.next_receive)
             .u64(self.next_acknowledge)
             .bytes(self.version.padded())
+            .u64(self.mark)
     }
 
-    /// The end as an [`EndVerdict`](crate::EndVerdict) shows it: with its counters zero.
+    /// The end as an [`EndVerdict`](crate::EndVerdict) shows it: with its counters and its mark zero.
     pub fn shown(&self) -> Channel {
-        Channel { next_send: 0, next_receive: 0, next_acknowledge: 0, ..*self }
+        Channel { next_send: 0, next_receive: 0, next_acknowledge: 0, mark: 0, ..*self }
     }
 }
 
-/// What a packet record is. A channel's records stand in the order of their kinds. Only commitments are freed again.
+/// What a packet record is. A channel's records stand in the order of their kinds. A commitment is freed when its
+/// packet is finished, a receipt or an acknowledgement on an unordered channel by a [prune](crate::Datagram::prune).
+/// Timeout receipts, and acknowledgements where the order is not [`Order::Unordered`], are never freed.
 #[derive(Clone, Copy, Debug, PartialEq, Eq, PartialOrd, Ord, Hash)]
 #[non_exhaustive]
 pub enum RecordKind {

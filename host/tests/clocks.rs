@@ -31,7 +31,7 @@ fn accepted(timeout: Timeout) -> Answer {
 const VERSION: &str = "receipts-1";
 
 /// One of each kind.
-fn of_each_kind(context: &Context) -> [Datagram; 12] {
+fn of_each_kind(context: &Context) -> [Datagram; 13] {
     let (packet, end) = (sent(), shown(closed_across(ORDERED)));
     let verdict = not_taken(Order::Ordered, &packet, 1);
     [
@@ -47,6 +47,7 @@ fn of_each_kind(context: &Context) -> [Datagram; 12] {
         Datagram::close_init(context, 7),
         Datagram::close_confirm(context, 7, &end),
         Datagram::time_out_on_close(context, &packet, &end, &verdict),
+        Datagram::prune(context, 7, 1, &verdict, &verdict),
     ]
 }
 
@@ -54,7 +55,7 @@ fn of_each_kind(context: &Context) -> [Datagram; 12] {
 fn lengths_and_places() {
     let [height, own, client] = [100_u64, 1000, 50].map(u64::to_le_bytes);
     let context = [&height, &own, &client, [5, 0, 1, 0, 0, 0, 0, 0].as_slice(), &900_u64.to_le_bytes()].concat();
-    let lengths = [98, 194, 90, 226, 194, 59, 145, 136, 132, 50, 132, 276];
+    let lengths = [98, 194, 90, 226, 194, 59, 145, 136, 132, 50, 132, 276, 218];
     for (datagram, length) in of_each_kind(&APART).iter().zip(lengths) {
         let bytes = datagram.as_bytes();
         assert_eq!((bytes.len(), &bytes[6..46]), (length, context.as_slice()));

@@ -73,7 +73,7 @@ fn malformed() {
     let good = Datagram::time_out_on_close(&CONTEXT, &sent(), &end, &verdict);
     let confirm = Datagram::close_confirm(&CONTEXT, 7, &end);
     // Sequence 0, an unknown claim in either verdict, a connection that is neither open nor closed.
-    let claims = [0, 7].map(|claim| [(&good, 114, claim), (&good, 196, claim), (&confirm, 50, claim)]);
+    let claims = [0, 9].map(|claim| [(&good, 114, claim), (&good, 196, claim), (&confirm, 50, claim)]);
     for (datagram, at, value) in claims.into_iter().flatten().chain([(&good, 46, 0), (&confirm, 32, 2)]) {
         let mut bytes = datagram.as_bytes().to_vec();
         bytes[at] = value;

@@ -30,6 +30,7 @@ fn made(state: State, own: End, counterparty: End) -> Channel {
         next_receive: 1,
         next_acknowledge: 1,
         version: Version::new("v1").unwrap(),
+        mark: 1,
     }
 }
 
@@ -78,7 +79,7 @@ fn four_steps() {
     assert_eq!((packet.source, packet.destination), (here, there));
     let receive = Datagram::receive(&SOUTH, &packet, &Verdict::commitment_present(&packet, block(50)));
     assert_eq!(south.handle(receive), emits(Emitted::Delivered(packet)));
-    // A verdict shows an end whatever its counters are.
+    // A verdict shows an end whatever its counters and its mark are.
     assert_eq!(north.channel(1).unwrap().next_send, 2);
     assert!(north.shows(&shown(made(State::Open, here, there))));
 }
@@ -92,7 +93,9 @@ fn bytes_of_an_init() {
     let bytes = store.as_bytes();
     assert_eq!(bytes[28..64], [[2].as_slice(), &[0; 35]].concat());
     let counters = [1, 0, 0, 0, 0, 0, 0, 0].repeat(3);
-    let record = [&[1, 0, 1, 1, 1, 0, 0, 0, 5, 0, 6, 0, 0, 0, 0, 0], counters.as_slice(), b"v1", &[0; 22]].concat();
+    let version = [b"v1".as_slice(), &[0; 14]].concat();
+    let mark = [1, 0, 0, 0, 0, 0, 0, 0];
+    let record = [&[1, 0, 1, 1, 1, 0, 0, 0, 5, 0, 6, 0, 0, 0, 0, 0], counters.as_slice(), &version, &mark].concat();
     assert_eq!(bytes[64..128], record);
 }
 
@@ -107,10 +110,10 @@ fn a_step_that_emits_nothing_leaves_the_output() {
 #[test]
 fn open_init_refused() {
     let version = |bytes: &[u8]| Datagram::open_init(&NORTH, 6, Order::Ordered, bytes);
-    assert_eq!(empty().handle(version(&[b'v'; 25])), Err(Refusal::WrongVersion));
+    assert_eq!(empty().handle(version(&[b'v'; 17])), Err(Refusal::WrongVersion));
     assert_eq!(empty().handle(version(b"v1\0")), Err(Refusal::WrongVersion));
     assert_eq!(empty().handle(version(b"")), new_end(5, 1));
-    assert_eq!(empty().handle(version(&[b'v'; 24])), new_end(5, 1));
+    assert_eq!(empty().handle(version(&[b'v'; 16])), new_end(5, 1));
     // The connection is not asked for.
     let unconnected = Context { connected: false, ..NORTH };
     assert_eq!(empty().handle(Datagram::open_init(&unconnected, 6, Order::Ordered, "v1")), new_end(5, 1));
@@ -141,7 +144,7 @@ fn open_try_refused() {
     assert_eq!(call(&Context { connected: false, ..SOUTH }, &needed, b"v1"), Err(Refusal::NoConnection));
     // The end that it answers is for port 6.
     assert_eq!(call(&Context { port: 7, ..SOUTH }, &needed, b"v1"), refused(VerdictPart::Digest));
-    for version in [b"v2".as_slice(), b"v1\0", b"", &[b'v'; 25]] {
+    for version in [b"v2".as_slice(), b"v1\0", b"", &[b'v'; 17]] {
         assert_eq!(call(&SOUTH, &needed, version), Err(Refusal::WrongVersion), "{version:?}");
     }
 }

@@ -34,6 +34,7 @@ fn fresh_store_is_read() {
         next_receive: 1,
         next_acknowledge: 1,
         version: Version::EMPTY,
+        mark: 1,
     };
     assert_eq!(store.channel(8), Some(end));
     assert_eq!((store.channel(9), store.next_channel()), (None, 9));
@@ -217,9 +218,9 @@ fn unfit_is_not_converted() {
     let same_twice = with_records(&store, [3, 2, 1, 0, 0]);
     let mut twice = same_twice.clone();
     twice[1407] = 9;
-    // The store's kind, a zero byte, an order, a channel number, a record's kind that is not for its channel or not
+    // The kind of before, a zero byte, an order, a channel number, a record's kind that is not for its channel or not
     // known, sequence 0, a receipt that is not there.
-    let changed = [(4, 2), (63, 1), (67, 4), (68, 8), (1088, 4), (1088, 5), (1096, 0), (1096, 5)];
+    let changed = [(4, 1), (63, 1), (67, 4), (68, 8), (1088, 4), (1088, 5), (1096, 0), (1096, 5)];
     let changed = changed.map(|(at, byte)| with(at, byte));
     let short = with_records(&store, [1, 0, 2, 3]);
     for bytes in changed.into_iter().chain([twice, same_twice, short, vec![0; 1408], vec![]]) {

@@ -19,13 +19,15 @@ fn parts_of(needed: Verdict) -> &'static [Part] {
     }
 }
 
-const CLAIMS: [Claim; 6] = [
+const CLAIMS: [Claim; 8] = [
     Claim::CommitmentPresent,
     Claim::AcknowledgementPresent,
     Claim::ReceiptAbsent,
     Claim::NextReceive,
     Claim::EndShown,
     Claim::TimeoutReceiptPresent,
+    Claim::CommitmentAbsent,
+    Claim::NextSend,
 ];
 
 /// The verdicts that differ from this one in this part alone.
@@ -43,6 +45,8 @@ fn differing(from: Verdict, part: Part) -> Vec<Verdict> {
         }
         Part::Port => vec![end(port + 1, channel)],
         Part::Channel => vec![end(port, channel + 1)],
+        // A next send is to be above the sequence, by however much.
+        Part::Sequence if from.claim == Claim::NextSend => vec![Verdict { sequence: from.sequence - 1, ..from }],
         Part::Sequence => vec![Verdict { sequence: from.sequence + 1, ..from }],
         Part::Timeouts => vec![timeout(late + 1, 0), timeout(late, 1)],
         Part::Digest => vec![Verdict { digest: [7; 32], ..from }],
@@ -137,6 +141,37 @@ fn time_out_on_close() {
     }
 }
 
+/// All parts of the first verdict come before those of the second, and these before the blocks.
+#[test]
+fn prune() {
+    let (_, south) = ledgers();
+    let sender = UNORDERED.own;
+    let absent = Verdict::commitment_absent(sender, 1, block(50));
+    let next = Verdict::next_send(sender, 2, block(50));
+    let call = |absent: &Verdict, next: &Verdict| {
+        south.clone().handle(Datagram::prune(&SOUTH, UNORDERED.counterparty.channel, 1, absent, next))
+    };
+    let parts = [PARTS.as_slice(), &[Part::Blocks]].concat();
+    first_is_told(absent, &parts, Ok(None), |absent| call(absent, &next));
+    first_is_told(next, &parts, Ok(None), |next| call(&absent, next));
+    for (first, second) in PARTS.iter().flat_map(|first| parts.iter().map(move |second| (*first, *second))) {
+        for absent in differing(absent, first) {
+            for next in differing(next, second) {
+                assert_eq!(call(&absent, &next), refused(first), "{absent:?}, {next:?}");
+            }
+        }
+    }
+    for above in [3, u64::MAX] {
+        assert_eq!(call(&absent, &Verdict { sequence: above, ..next }), Ok(None));
+    }
+    for not_above in [0, 1] {
+        assert_eq!(call(&absent, &Verdict { sequence: not_above, ..next }), refused(Part::Sequence));
+    }
+    // Of one block, whichever it is.
+    let later = |verdict| Verdict { block: block(51), ..verdict };
+    assert_eq!(call(&later(absent), &later(next)), Ok(None));
+}
+
 /// Where timeouts are allowed, the verdict's own claim says which of two is meant: that the packet lapsed, or else the
 /// other end's next receive. So each is compared as the one needed, and every other claim is refused.
 #[test]
@@ -202,11 +237,12 @@ fn claim_record_version() {
         let version = Channel { version: Version::new("v2").unwrap(), ..record };
         assert_eq!(call(EndVerdict { end: version, ..needed }), refused(Part::Digest), "{record:?}");
     }
-    // The record stands from offset 68 on, and its last 24 bytes are the version.
+    // The record stands from offset 68 on. Its version is 16 bytes from 108 on, and its mark the 8 behind them.
     for at in 68..132 {
         let mut bytes = Datagram::close_confirm(&CONTEXT, 7, &needed).into_bytes();
         bytes[at] ^= 0x40;
-        let refusal = if at < 108 { Refusal::Verdict(Part::Digest) } else { Refusal::WrongVersion };
+        let is_version = (108..124).contains(&at);
+        let refusal = if is_version { Refusal::WrongVersion } else { Refusal::Verdict(Part::Digest) };
         assert_eq!(fresh().handle(bytes), Err(refusal), "{at}");
     }
 }

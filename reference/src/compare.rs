@@ -1,6 +1,7 @@
 //! Random calls given to the reference implementation and to the one under test; whatever they leave is compared whole.
 
 mod converter;
+mod upgrader;
 
 use crate::coverage::Coverage;
 use crate::fit::direct::fit_directly;
@@ -57,6 +58,9 @@ fn compare_call(subject: &Subject, call: &Call, index: u64, report: &mut Report)
         Task::Convert { store, datagram } => {
             return converter::compare_call(subject, call, store, datagram, index, report);
         }
+        Task::Upgrade { store, datagram } => {
+            return upgrader::compare_call(subject, call, store, datagram, index, report);
+        }
         Task::StoreLength(records) => {
             let (expected, given) = (crate::store_length(*records), subject.store_length(*records));
             report.coverage.count_length();
@@ -93,7 +97,9 @@ fn note(report: &mut Report, call: &Call, index: u64, found: Vec<String>) {
                 format!("store of {}, output of {}, datagram {}", store.len(), output.len(), hex(datagram))
             }
             Task::Make { store, openings } => format!("store of {}, openings {}", store.len(), hex(openings)),
-            Task::Convert { store, datagram } => format!("store of {}, datagram {}", store.len(), hex(datagram)),
+            Task::Convert { store, datagram } | Task::Upgrade { store, datagram } => {
+                format!("store of {}, datagram {}", store.len(), hex(datagram))
+            }
             Task::StoreLength(_) => String::new(),
         };
         report.differences.push(format!("call {index}, {:?}: {}; {bytes}", call.origin, found.join(", ")));

@@ -1,4 +1,4 @@
-//! The converter of a store that is fit but perhaps for the order of its packet records.
+//! The converter of a store that is fit but perhaps for the order of its packet records. It takes today's kind alone.
 
 use crate::fit::direct::fit_in_any_order;
 use crate::refusal::STORE_NOT_FIT;

@@ -5,10 +5,12 @@ pub mod cell;
 mod clocks;
 mod closing;
 mod converter;
+mod mark;
 mod place;
 mod possible;
 mod standing;
 mod step;
+mod upgrader;
 
 use std::collections::BTreeMap;
 use std::fmt;
@@ -24,10 +26,11 @@ use crate::subject::Left;
 use crate::table::own_channel;
 use cell::{Cell, KINDS, SORTS};
 
-const COLUMNS: usize = KINDS.len() + 3;
+const COLUMNS: usize = KINDS.len() + 4;
 const OTHER: usize = KINDS.len();
 const MAKER: usize = KINDS.len() + 1;
 const CONVERTER: usize = KINDS.len() + 2;
+const UPGRADER: usize = KINDS.len() + 3;
 
 /// A count for each answer, by its place and number, and each kind of datagram.
 #[derive(Default)]
@@ -46,7 +49,7 @@ impl Table {
 impl fmt::Display for Table {
     fn fmt(&self, out: &mut fmt::Formatter) -> fmt::Result {
         write!(out, "{:>6}", "No.")?;
-        KINDS.iter().chain(&["other", "maker", "convert"]).try_for_each(|name| write!(out, "{name:>10}"))?;
+        KINDS.iter().chain(&["other", "maker", "convert", "upgrade"]).try_for_each(|name| write!(out, "{name:>10}"))?;
         writeln!(out)?;
         for ((_, number), row) in &self.0 {
             write!(out, "{number:>6}")?;
@@ -65,7 +68,7 @@ impl fmt::Display for Table {
 fn in_table(column: usize, number: u8) -> bool {
     match column {
         OTHER => (STORE_NOT_FIT..=MALFORMED).contains(&number),
-        CONVERTER => number <= STORE_NOT_FIT,
+        CONVERTER | UPGRADER => number <= STORE_NOT_FIT,
         MAKER => number == 0 || (STORE_LENGTH_UNFIT..=CHANNEL_TWICE).contains(&number),
         _ => possible::answers(column as u16 + 1).contains(&number),
     }
@@ -135,6 +138,13 @@ impl Coverage {
         }
     }
 
+    /// The same for the converter of stores of the kind before.
+    pub fn count_upgrader(&mut self, origin: Origin, store: &[u8], [before, converted, after]: &[Left; 3]) {
+        self.answers.add(UPGRADER, converted.number);
+        let answers = [before, converted, after].map(|left| left.number);
+        upgrader::reached(origin, store, answers).into_iter().for_each(|cell| self.reach(cell));
+    }
+
     pub fn count_length(&mut self) {
         self.reach(Cell::Length);
     }
@@ -180,6 +190,7 @@ fn cells_of_store(store: &[u8], bytes: &[u8], applying: &[Line]) -> Vec<Cell> {
         let sequence = match &datagram.body {
             Body::Acknowledge { packet, .. } => packet.sequence,
             Body::TimeOut { packet, .. } | Body::TimeOutOnClose { packet, .. } => packet.sequence,
+            Body::Prune { sequence, .. } => *sequence,
             _ => 0,
         };
         let met = end.map_or(Vec::new(), |end| although::met(row, store, &end, sequence));
@@ -189,6 +200,7 @@ fn cells_of_store(store: &[u8], bytes: &[u8], applying: &[Line]) -> Vec<Cell> {
     cells.extend(end.filter(|_| applying.is_empty()).and_then(|end| closing::reached(&end, &datagram)));
     cells.extend(end.iter().flat_map(|end| allow_timeout::reached(end, &datagram, applying)));
     cells.extend(end.iter().flat_map(|end| clocks::reached(end, &datagram, applying)));
+    cells.extend(mark::reached(store, end.as_ref(), &datagram, applying));
     cells
 }
 
@@ -239,8 +251,8 @@ impl fmt::Display for Coverage {
             let rarest = rarest.map_or(String::new(), |(cell, count)| format!(", the rarest {count} times ({cell})"));
             writeln!(out, "{name:>20}  {reached} of {possible}{rarest}")?;
         }
-        for (cell, reason) in possible::impossible() {
-            writeln!(out, "{:>20}  {cell}, as {reason}", "cannot be met")?;
+        for (text, reason) in possible::impossible_by_row() {
+            writeln!(out, "{:>20}  {text}, as {reason}", "cannot be met")?;
         }
         Ok(())
     }

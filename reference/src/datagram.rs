@@ -2,7 +2,7 @@
 
 use crate::bytes::*;
 use crate::places::{
-    close_init, confirm, context, frame, open_acknowledge, open_init, open_try, packet, send, time_out_on_close,
+    close_init, confirm, context, frame, open_acknowledge, open_init, open_try, packet, prune, send, time_out_on_close,
     verdict, write,
 };
 use crate::store::ORDERS;
@@ -20,13 +20,14 @@ pub const OPEN_CONFIRM: u16 = 9;
 pub const CLOSE_INIT: u16 = 10;
 pub const CLOSE_CONFIRM: u16 = 11;
 pub const TIME_OUT_ON_CLOSE: u16 = 12;
+pub const PRUNE: u16 = 13;
 
-/// The five kinds that are about packets on channels in use, the four steps of the opening handshake, and closing: its
-/// two steps and the time-out on close.
+/// The five kinds that are about packets on channels in use, the four steps of the opening handshake, closing: its two
+/// steps and the time-out on close; and the prune.
 pub const PACKET_KINDS: [u16; 5] = [SEND, RECEIVE, WRITE, ACKNOWLEDGE, TIME_OUT];
 pub const HANDSHAKE_KINDS: [u16; 4] = [OPEN_INIT, OPEN_TRY, OPEN_ACKNOWLEDGE, OPEN_CONFIRM];
 pub const CLOSING_KINDS: [u16; 3] = [CLOSE_INIT, CLOSE_CONFIRM, TIME_OUT_ON_CLOSE];
-pub const ALL_KINDS: [u16; 12] = [
+pub const ALL_KINDS: [u16; 13] = [
     SEND,
     RECEIVE,
     WRITE,
@@ -39,6 +40,7 @@ pub const ALL_KINDS: [u16; 12] = [
     CLOSE_INIT,
     CLOSE_CONFIRM,
     TIME_OUT_ON_CLOSE,
+    PRUNE,
 ];
 
 /// What the host says about the moment of the call. The two ledgers have clocks of their own: a height or time of the
@@ -67,7 +69,8 @@ pub struct Packet {
     pub digest: Digest,
 }
 
-/// The version in a step may have any length and any bytes: whether it is one is not a matter of form.
+/// The version in a step may have any length and any bytes: whether it is one is not a matter of form. The first
+/// verdict of a prune says that no commitment stands, the second what the next send is.
 #[derive(Clone, Copy, Debug, PartialEq, Eq)]
 pub enum Body<'a> {
     Send { channel: u32, timeout_height: u64, timeout_timestamp: u64, digest: Digest },
@@ -82,6 +85,7 @@ pub enum Body<'a> {
     CloseInit { channel: u32 },
     CloseConfirm { channel: u32, verdict: EndVerdict },
     TimeOutOnClose { packet: Packet, end_verdict: EndVerdict, verdict: Verdict },
+    Prune { channel: u32, sequence: u64, absent: Verdict, next: Verdict },
 }
 
 #[derive(Clone, Copy, Debug, PartialEq, Eq)]
@@ -103,6 +107,7 @@ pub fn length_of(kind: u16) -> Option<usize> {
         OPEN_CONFIRM | CLOSE_CONFIRM => confirm::LENGTH,
         CLOSE_INIT => close_init::LENGTH,
         TIME_OUT_ON_CLOSE => time_out_on_close::LENGTH,
+        PRUNE => prune::LENGTH,
         _ => return None,
     };
     Some(frame::BODY + context::LENGTH + behind)
@@ -173,6 +178,7 @@ fn read_body(kind: u16, bytes: &[u8]) -> Option<Body<'_>> {
             Some(Body::TimeOut { packet: read_packet(bytes)?, verdict: Verdict::read(&bytes[packet::LENGTH..])? })
         }
         CLOSE_INIT | CLOSE_CONFIRM | TIME_OUT_ON_CLOSE => read_closing(kind, bytes),
+        PRUNE => read_prune(bytes),
         _ => read_step(kind, bytes),
     }
 }
@@ -227,6 +233,17 @@ fn known_order(order: u8) -> Option<u8> {
 fn read_write(bytes: &[u8]) -> Option<Body<'_>> {
     let sequence = get_u64(bytes, write::SEQUENCE);
     let body = Body::Write { channel: get_u32(bytes, write::CHANNEL), sequence, digest: get(bytes, write::DIGEST) };
+    (sequence != 0).then_some(body)
+}
+
+fn read_prune(bytes: &[u8]) -> Option<Body<'_>> {
+    let sequence = get_u64(bytes, prune::SEQUENCE);
+    let body = Body::Prune {
+        channel: get_u32(bytes, prune::CHANNEL),
+        sequence,
+        absent: Verdict::read(&bytes[prune::ABSENT..])?,
+        next: Verdict::read(&bytes[prune::NEXT..])?,
+    };
     (sequence != 0).then_some(body)
 }
 

@@ -81,6 +81,8 @@ pub enum Change {
     Insert { index: usize, record: Record, used: usize },
     /// The one of this index goes.
     Remove { index: usize, used: usize },
+    /// Two go; the second stands behind the first.
+    RemoveTwo { first: usize, second: usize, used: usize },
 }
 
 impl Change {
@@ -89,6 +91,10 @@ impl Change {
         match self {
             Change::Insert { index, record, used } => insert_at(&mut store[..record_place(used + 1)], *index, record),
             Change::Remove { index, used } => remove(&mut store[..record_place(*used)], *index),
+            Change::RemoveTwo { first, second, used } => {
+                remove(&mut store[..record_place(*used)], *second);
+                remove(&mut store[..record_place(used - 1)], *first);
+            }
         }
     }
 }
@@ -104,7 +110,7 @@ pub struct Effect {
     pub next_channel: Option<u64>,
     /// A delivery touches no packet record but on an unordered channel.
     pub record: Option<Change>,
-    /// The steps that open or close an end emit nothing.
+    /// The steps that open or close an end emit nothing, nor does a prune.
     pub emitted: Option<Emitted>,
 }
 

@@ -55,7 +55,17 @@ fn channel_fit(slot: &Slot, next: u64) -> bool {
         && u64::from(get_u32(slot, channel::CHANNEL)) < next
         && (state != INIT || get_u32(slot, channel::COUNTERPARTY_CHANNEL) == 0)
         && counters.iter().all(|counter| get_u64(slot, *counter) >= 1)
-        && is_padded(&slot[channel::VERSION..])
+        && is_padded(&slot[channel::VERSION..channel::MARK])
+        && mark_fit(slot)
+}
+
+/// At least 1, and exactly 1 on ends that are not unordered.
+fn mark_fit(slot: &Slot) -> bool {
+    match get_u64(slot, channel::MARK) {
+        0 => false,
+        FIRST_MARK => true,
+        _ => slot[channel::ORDER] == UNORDERED,
+    }
 }
 
 /// Behind the first zero byte stand only zeros. The maker's ends have no version, which is seen at once.
@@ -117,6 +127,8 @@ fn fit_run<'a>(slots: &'a [Slot], end: &Slot, mut beside: &[Slot]) -> Option<&'a
     let ends_below = |run: &&[Slot], counter| run.last().is_some_and(|last| sequence(last) < get_u64(end, counter));
     match (get_u16(&slots[0], record::KIND), end[channel::ORDER]) {
         (COMMITMENT, _) => rising(slots, |_| true).filter(|run| ends_below(run, channel::NEXT_SEND)),
+        // None is below the mark where the first is not; and so no acknowledgement is, as each has a receipt.
+        (RECEIPT, UNORDERED) if sequence(&slots[0]) < get_u64(end, channel::MARK) => None,
         (RECEIPT, UNORDERED) => rising(slots, has_zero_values),
         (ACKNOWLEDGEMENT, UNORDERED) => {
             // Sequences rise in both runs: the receipts that one acknowledgement has passed are no later one's.

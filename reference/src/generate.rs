@@ -11,11 +11,13 @@ pub mod fault;
 pub mod grow;
 pub mod making;
 pub mod malform;
+pub mod prune;
 mod ready;
 pub mod rng;
 pub mod shape;
 pub mod step;
 pub mod trace;
+pub mod upgrading;
 
 use crate::bytes::get_u16;
 use crate::datagram::*;
@@ -55,17 +57,18 @@ impl Generator {
             self.left = CALLS_PER_STORE;
         }
         self.left -= 1;
-        match self.rng.below(140) {
+        match self.rng.below(180) {
             0..=22 => self.accepted(),
-            23..=52 => self.with_faults(false),
-            53..=92 => self.with_faults(true),
-            93..=107 => self.damaged(),
-            108..=113 => self.malformed(),
-            114..=116 => self.garbage(),
-            117..=119 => self.flipped(),
-            120..=124 => self.maker(),
-            125 => self.length(),
-            _ => self.converter(),
+            23..=60 => self.with_faults(false),
+            61..=118 => self.with_faults(true),
+            119..=135 => self.damaged(),
+            136..=141 => self.malformed(),
+            142..=143 => self.garbage(),
+            144..=146 => self.flipped(),
+            147..=150 => self.maker(),
+            151 => self.length(),
+            152..=169 => self.converter(),
+            _ => self.upgrader(),
         }
     }
 
@@ -119,7 +122,7 @@ impl Generator {
     fn draft_to_accept(&mut self) -> Option<Draft> {
         if self.rng.one_in(3) {
             let row = self.rng.pick(&self.rows);
-            return self.draft_in(row);
+            return if row.is_accepted() { self.draft_in(row) } else { self.draft() };
         }
         self.draft()
     }
@@ -240,6 +243,20 @@ impl Generator {
             Some(draft) => converting::converting(&mut self.rng, &draft.store, draft.encode()),
             None => self.garbage(),
         }
+    }
+
+    /// With a datagram that is accepted where all marks are the first.
+    fn upgrader(&mut self) -> Call {
+        let mut store = self.store.clone();
+        upgrading::first_marks(&mut store);
+        let mut draft = (0..12).find_map(|_| grow::any_accepted(&mut self.rng, &store));
+        // Few stores are without ends for long.
+        if self.rng.one_in(40) {
+            crate::make_store(&mut store, &[]);
+            draft = accept::accepted(&mut self.rng, &store, OPEN_INIT);
+        }
+        let datagram = draft.map_or_else(Vec::new, |draft| draft.encode());
+        upgrading::upgrading(&mut self.rng, store, datagram)
     }
 
     fn length(&mut self) -> Call {

@@ -24,6 +24,7 @@ pub mod rules;
 pub mod store;
 pub mod subject;
 pub mod table;
+pub mod upgrade;
 pub mod verdict;
 pub mod workload;
 
@@ -35,6 +36,7 @@ mod tests;
 pub use convert::convert_store;
 pub use maker::make_store;
 pub use store::store_length;
+pub use upgrade::upgrade_store;
 
 /// Handles one datagram: the answer and the emitted length. A refusal changes no byte.
 pub fn handle(store: &mut [u8], output: &mut [u8], datagram: &[u8]) -> (u8, u32) {

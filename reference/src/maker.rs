@@ -68,5 +68,6 @@ fn opened_end(bytes: &[u8]) -> Channel {
         next_sequence_recv: 1,
         next_sequence_ack: 1,
         version: NO_VERSION,
+        mark: FIRST_MARK,
     }
 }

@@ -11,7 +11,7 @@ pub const PACKET_RECORDS: usize = HEADER + CHANNELS * RECORD;
 /// The longest emission; a shorter output buffer is refused whatever would be emitted.
 pub const OUTPUT: usize = 106;
 
-pub const STORE_KIND: u16 = 0x0401;
+pub const STORE_KIND: u16 = 0x0402;
 pub const CHANNEL_KIND: u16 = 1;
 pub const OPENING_KIND: u16 = 0x0010;
 
@@ -42,8 +42,9 @@ pub mod channel {
     pub const NEXT_SEND: usize = 16;
     pub const NEXT_RECV: usize = 24;
     pub const NEXT_ACK: usize = 32;
-    /// The last of its 64 bytes.
     pub const VERSION: usize = 40;
+    /// The last of its 64 bytes.
+    pub const MARK: usize = 56;
 }
 
 pub mod record {
@@ -162,6 +163,15 @@ pub mod time_out_on_close {
     pub const END_VERDICT: usize = super::packet::LENGTH;
     pub const VERDICT: usize = END_VERDICT + super::end_verdict::LENGTH;
     pub const LENGTH: usize = VERDICT + super::verdict::LENGTH;
+}
+
+/// What stands behind the context of a prune: two verdicts, that the commitment is absent and what the next send is.
+pub mod prune {
+    pub const CHANNEL: usize = 0;
+    pub const SEQUENCE: usize = 4;
+    pub const ABSENT: usize = 12;
+    pub const NEXT: usize = ABSENT + super::verdict::LENGTH;
+    pub const LENGTH: usize = NEXT + super::verdict::LENGTH;
 }
 
 pub mod opening {

@@ -28,6 +28,8 @@ pub const CHANNEL_TWICE: u8 = 24;
 pub const NO_FREE_CHANNEL: u8 = 25;
 pub const NOT_PRIOR_STATE: u8 = 26;
 pub const WRONG_VERSION: u8 = 27;
+pub const NOT_THE_MARK: u8 = 28;
+pub const NOT_UNORDERED: u8 = 29;
 
 /// These stand at one place, behind 13 and before 15: each is a part of a verdict that is not as needed.
 pub const OTHER_CLAIM: u8 = 140;
@@ -46,8 +48,8 @@ pub fn place(number: u8) -> u8 {
     }
 }
 
-/// What is compared of verdicts, in this order: of two of them all of the end verdict, all of the packet's, and last
-/// their blocks.
+/// What is compared of verdicts, in this order: of two of them all of the first, which may be an end's, all of the
+/// second, and last their blocks.
 #[derive(Clone, Copy, Debug, PartialEq, Eq, PartialOrd, Ord)]
 pub enum Part {
     EndClaim,
@@ -60,6 +62,14 @@ pub enum Part {
     TimeoutHeight,
     TimeoutTimestamp,
     Digest,
+    /// Those of the second verdict of a prune, which is about the next send.
+    NextClaim,
+    NextPort,
+    NextChannel,
+    NextSequence,
+    NextTimeoutHeight,
+    NextTimeoutTimestamp,
+    NextDigest,
     ProofHeight,
     ProofTime,
 }
@@ -67,12 +77,13 @@ pub enum Part {
 impl Part {
     pub fn number(self) -> u8 {
         match self {
-            Part::EndClaim | Part::Claim => OTHER_CLAIM,
-            Part::Port => OTHER_PORT,
-            Part::Channel => OTHER_CHANNEL,
-            Part::Sequence => OTHER_SEQUENCE,
+            Part::EndClaim | Part::Claim | Part::NextClaim => OTHER_CLAIM,
+            Part::Port | Part::NextPort => OTHER_PORT,
+            Part::Channel | Part::NextChannel => OTHER_CHANNEL,
+            Part::Sequence | Part::NextSequence => OTHER_SEQUENCE,
             Part::TimeoutHeight | Part::TimeoutTimestamp => OTHER_TIMEOUTS,
-            Part::EndRecord | Part::Digest => OTHER_DIGEST,
+            Part::NextTimeoutHeight | Part::NextTimeoutTimestamp => OTHER_TIMEOUTS,
+            Part::EndRecord | Part::Digest | Part::NextDigest => OTHER_DIGEST,
             Part::ProofHeight | Part::ProofTime => OTHER_BLOCK,
         }
     }
@@ -129,6 +140,13 @@ impl fmt::Display for Part {
             Part::TimeoutHeight => "the timeout height",
             Part::TimeoutTimestamp => "the timeout timestamp",
             Part::Digest => "the digest",
+            Part::NextClaim => "the second claim",
+            Part::NextPort => "the second port",
+            Part::NextChannel => "the second channel",
+            Part::NextSequence => "the next send",
+            Part::NextTimeoutHeight => "the second timeout height",
+            Part::NextTimeoutTimestamp => "the second timeout timestamp",
+            Part::NextDigest => "the second digest",
             Part::ProofHeight => "the proof heights",
             Part::ProofTime => "the proof times",
         })

@@ -14,6 +14,7 @@ extern "C" {
     ) -> u8;
     fn route_make_store(store: *mut u8, store_len: usize, openings: *const u8, openings_len: usize) -> u8;
     fn route_convert_store(store: *mut u8, store_len: usize) -> u8;
+    fn route_upgrade_store(store: *mut u8, store_len: usize) -> u8;
     fn route_store_length(records: usize) -> usize;
 }
 
@@ -21,5 +22,6 @@ pub const ROUTE: Subject = Subject {
     handle: route_handle,
     make_store: route_make_store,
     convert_store: route_convert_store,
+    upgrade_store: route_upgrade_store,
     store_length: route_store_length,
 };

@@ -1,8 +1,9 @@
-//! The handlers of packets; those of the opening handshake and of closing stand beside. Each asks its row of refusals
-//! in the order of their places and answers the effect of the acceptance.
+//! The handlers of packets; those of the opening handshake, of closing and of pruning stand beside. Each asks its row
+//! of refusals in the order of their places and answers the effect of the acceptance.
 
 mod closing;
 mod handshake;
+mod prune;
 
 use crate::bytes::*;
 use crate::datagram::*;
@@ -58,6 +59,9 @@ fn decide_body(store: &[u8], used: usize, context: &Context, body: &Body) -> Res
         Body::CloseConfirm { channel, verdict } => find(channel)?.owned()?.close_confirm(verdict),
         Body::TimeOutOnClose { packet, end_verdict, verdict } => {
             find(&packet.source_channel)?.owned()?.time_out_on_close(packet, end_verdict, verdict)
+        }
+        Body::Prune { channel, sequence, absent, next } => {
+            find(channel)?.open()?.owned()?.prune(*sequence, absent, next)
         }
     }
 }
@@ -119,6 +123,7 @@ impl Call<'_> {
         refuse_if(late && !end.allows_timeouts(), TIMEOUT_PASSED)?;
         verdict.compare(&committed(packet, verdict))?;
         if end.is_unordered() {
+            refuse_if(end.has_pruned(packet.sequence), ALREADY_THERE)?;
             return self.with_receipt(end, RECEIPT, packet.sequence, Emitted::Delivered(*packet));
         }
         refuse_if(packet.sequence != end.next_sequence_recv, OUT_OF_ORDER)?;
@@ -140,6 +145,7 @@ impl Call<'_> {
 
     fn write(&self, sequence: u64, digest: &Digest) -> Result<Effect, u8> {
         let (end, digest) = (self.end, *digest);
+        refuse_if(end.has_pruned(sequence), ALREADY_THERE)?;
         let index = self.search(ACKNOWLEDGEMENT, sequence).err().ok_or(ALREADY_THERE)?;
         refuse_if(!received(self.store, &end, sequence), NOT_RECEIVED)?;
         refuse_if(digest == NO_DIGEST, EMPTY_ACKNOWLEDGEMENT)?;
@@ -234,8 +240,7 @@ impl Call<'_> {
     }
 
     fn effect(&self, end: Channel, record: Option<Change>, emitted: Emitted) -> Effect {
-        let Context { height, time, .. } = *self.context;
-        Effect { height, time, end: (self.index, end), next_channel: None, record, emitted: Some(emitted) }
+        Effect { record, emitted: Some(emitted), ..self.moved(end) }
     }
 
     /// The end alone changes, and nothing is emitted.

@@ -35,11 +35,15 @@ pub const OUT_OF_TURN: Handle = out_of_turn;
 pub const GIVES_BACK: Handle = gives_back;
 
 pub const fn with(handle: Handle) -> Subject {
-    Subject { handle, make_store, convert_store, store_length }
+    Subject { handle, make_store, convert_store, upgrade_store, store_length }
 }
 
 pub const fn with_maker(make_store: MakeStore) -> Subject {
     Subject { make_store, ..RIGHT }
+}
+
+pub const fn with_upgrader(upgrade_store: ConvertStore) -> Subject {
+    Subject { upgrade_store, ..RIGHT }
 }
 
 pub const fn with_converter(convert_store: ConvertStore) -> Subject {
@@ -52,6 +56,10 @@ unsafe extern "C" fn make_store(store: *mut u8, store_len: usize, openings: *con
 
 unsafe extern "C" fn convert_store(store: *mut u8, store_len: usize) -> u8 {
     crate::convert_store(from_raw_parts_mut(store, store_len))
+}
+
+unsafe extern "C" fn upgrade_store(store: *mut u8, store_len: usize) -> u8 {
+    crate::upgrade_store(from_raw_parts_mut(store, store_len))
 }
 
 unsafe extern "C" fn store_length(records: usize) -> usize {
@@ -83,13 +91,17 @@ macro_rules! behind_c {
 // Behind the macro, which most of them use.
 pub mod clocks;
 pub mod closing;
+pub mod freeing;
 pub mod handshake;
 pub mod lapse;
 pub mod maker;
+pub mod mark;
 pub mod order;
 pub mod pass;
+pub mod prune;
 pub mod time_out;
 mod tools;
+pub mod upgrade;
 pub mod verdict;
 
 use tools::{change_where, kind_of, match_sequence, receive_untimed, refuse_where, remove_all, VERDICT};

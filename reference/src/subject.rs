@@ -2,6 +2,7 @@
 
 pub type Handle = unsafe extern "C" fn(*mut u8, usize, *mut u8, usize, *const u8, usize, *mut u32) -> u8;
 pub type MakeStore = unsafe extern "C" fn(*mut u8, usize, *const u8, usize) -> u8;
+/// Of both converters: that of the order, and that of stores of the kind before.
 pub type ConvertStore = unsafe extern "C" fn(*mut u8, usize) -> u8;
 pub type StoreLength = unsafe extern "C" fn(usize) -> usize;
 
@@ -11,6 +12,7 @@ pub struct Subject {
     pub handle: Handle,
     pub make_store: MakeStore,
     pub convert_store: ConvertStore,
+    pub upgrade_store: ConvertStore,
     pub store_length: StoreLength,
 }
 
@@ -109,19 +111,27 @@ impl Subject {
         Left { number, size: 0, store: lent_store.content().to_vec(), output: Vec::new(), strayed }
     }
 
-    /// The converter has a store alone.
     pub fn convert_store(&self, store: &[u8], shift: usize) -> Left {
-        let mut lent = Lent::new(store, shift);
-        // SAFETY: the pointer is to as many bytes as the length beside it says.
-        let number = unsafe { (self.convert_store)(lent.pointer(), store.len()) };
-        let strayed = if lent.intact() { Vec::new() } else { vec!["around the store"] };
-        Left { number, size: 0, store: lent.content().to_vec(), output: Vec::new(), strayed }
+        converted(self.convert_store, store, shift)
+    }
+
+    pub fn upgrade_store(&self, store: &[u8], shift: usize) -> Left {
+        converted(self.upgrade_store, store, shift)
     }
 
     pub fn store_length(&self, records: usize) -> usize {
         // SAFETY: a number in, a number out.
         unsafe { (self.store_length)(records) }
     }
+}
+
+/// A converter has a store alone.
+fn converted(convert: ConvertStore, store: &[u8], shift: usize) -> Left {
+    let mut lent = Lent::new(store, shift);
+    // SAFETY: the pointer is to as many bytes as the length beside it says.
+    let number = unsafe { convert(lent.pointer(), store.len()) };
+    let strayed = if lent.intact() { Vec::new() } else { vec!["around the store"] };
+    Left { number, size: 0, store: lent.content().to_vec(), output: Vec::new(), strayed }
 }
 
 /// What the reference implementation leaves behind for the same call.
@@ -140,5 +150,11 @@ pub fn reference_make_store(store: &[u8], openings: &[u8]) -> Left {
 pub fn reference_convert_store(store: &[u8]) -> Left {
     let mut store = store.to_vec();
     let number = crate::convert_store(&mut store);
+    Left { number, size: 0, store, output: Vec::new(), strayed: Vec::new() }
+}
+
+pub fn reference_upgrade_store(store: &[u8]) -> Left {
+    let mut store = store.to_vec();
+    let number = crate::upgrade_store(&mut store);
     Left { number, size: 0, store, output: Vec::new(), strayed: Vec::new() }
 }

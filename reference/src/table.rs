@@ -3,6 +3,7 @@
 
 mod closing;
 mod handshake;
+mod prune;
 mod verdict;
 
 use crate::bytes::*;
@@ -53,7 +54,7 @@ fn goes_back(store: &[u8], context: &Context) -> bool {
 /// The channel of this ledger that a datagram is about; a datagram that makes an end is about none.
 pub fn own_channel(body: &Body) -> Option<u32> {
     match body {
-        Body::Send { channel, .. } | Body::Write { channel, .. } => Some(*channel),
+        Body::Send { channel, .. } | Body::Write { channel, .. } | Body::Prune { channel, .. } => Some(*channel),
         Body::Receive { packet, .. } => Some(packet.dest_channel),
         Body::Acknowledge { packet, .. } | Body::TimeOut { packet, .. } | Body::TimeOutOnClose { packet, .. } => {
             Some(packet.source_channel)
@@ -64,12 +65,14 @@ pub fn own_channel(body: &Body) -> Option<u32> {
     }
 }
 
-/// The lines behind 5, but for those of verdicts: 6 for packets but not for a time-out of either sort, 7 for all, then
-/// those of the kind.
+/// The lines behind 5, but for those of verdicts: 6 for packets and prunes but not for a time-out of either sort, 7 for
+/// all, then those of the kind.
 fn of_end(store: &[u8], datagram: &Datagram, end: &Channel) -> Vec<(u8, bool)> {
     let Datagram { context, body } = datagram;
-    let asks_open =
-        matches!(body, Body::Send { .. } | Body::Receive { .. } | Body::Write { .. } | Body::Acknowledge { .. });
+    let asks_open = matches!(
+        body,
+        Body::Send { .. } | Body::Receive { .. } | Body::Write { .. } | Body::Acknowledge { .. } | Body::Prune { .. }
+    );
     let mut lines = vec![(NOT_OPEN, asks_open && end.state != OPEN), (NOT_OWNER, context.port != end.port)];
     lines.extend(match body {
         Body::Send { timeout_height, timeout_timestamp, .. } => {
@@ -84,6 +87,7 @@ fn of_end(store: &[u8], datagram: &Datagram, end: &Channel) -> Vec<(u8, bool)> {
         Body::TimeOutOnClose { packet, end_verdict, verdict } => {
             closing::of_time_out_on_close(store, end, packet, end_verdict, verdict)
         }
+        Body::Prune { sequence, .. } => prune::of_prune(end, *sequence),
         _ => handshake::of_step(context, body, end),
     });
     lines
@@ -109,7 +113,7 @@ fn of_receive(store: &[u8], context: &Context, end: &Channel, packet: &Packet) -
         (WRONG_END, here != (end.port, end.counterparty_port, end.counterparty_channel)),
         (TIMEOUT_PASSED, late && end.order != ALLOW_TIMEOUT),
         (OUT_OF_ORDER, counts && packet.sequence != end.next_sequence_recv),
-        (ALREADY_THERE, end.order == UNORDERED && is_there(store, RECEIPT, end, packet.sequence)),
+        (ALREADY_THERE, end.order == UNORDERED && was_taken(store, RECEIPT, end, packet.sequence)),
         (COUNTER_AT_END, counts && end.next_sequence_recv == u64::MAX),
         (NO_FREE_RECORD, writes && is_full(store)),
     ]
@@ -121,7 +125,7 @@ fn of_write(store: &[u8], end: &Channel, sequence: u64, digest: &Digest) -> Vec<
         _ => sequence < end.next_sequence_recv && !is_there(store, TIMEOUT_RECEIPT, end, sequence),
     };
     vec![
-        (ALREADY_THERE, is_there(store, ACKNOWLEDGEMENT, end, sequence)),
+        (ALREADY_THERE, was_taken(store, ACKNOWLEDGEMENT, end, sequence)),
         (NOT_RECEIVED, !is_received),
         (EMPTY_ACKNOWLEDGEMENT, all_zero(digest)),
         (NO_FREE_RECORD, is_full(store)),
@@ -184,6 +188,11 @@ fn is_committed(store: &[u8], end: &Channel, packet: &Packet) -> bool {
 
 fn is_there(store: &[u8], kind: u16, end: &Channel, sequence: u64) -> bool {
     records(store).iter().map(|bytes| Record::read(bytes)).any(|it| it.key() == key(kind, end.channel, sequence))
+}
+
+/// The record is there, or it may have been before the mark rose.
+fn was_taken(store: &[u8], kind: u16, end: &Channel, sequence: u64) -> bool {
+    sequence < end.mark || is_there(store, kind, end, sequence)
 }
 
 fn is_full(store: &[u8]) -> bool {

@@ -8,9 +8,11 @@ use crate::bytes::*;
 use crate::compare::{compare, first_different};
 use crate::datagram::{read, PACKET_KINDS};
 use crate::generate::{Generator, Origin, Row};
-use crate::history::{self, Truth};
+use crate::history::{self, Plan, Truth, OF_LONG};
 use crate::places::{frame, OUTPUT};
-use crate::shim::{self, clocks, closing, handshake, lapse, maker, order, pass, time_out, verdict};
+use crate::shim::{
+    self, clocks, closing, freeing, handshake, lapse, maker, mark, order, pass, prune, time_out, upgrade, verdict,
+};
 use crate::store::*;
 use crate::subject::Handle;
 use crate::table::own_channel;
@@ -41,10 +43,13 @@ fn unmet_cells_are_told() {
 fn wrong_handlers_are_found() {
     let of_packets = shim::WRONG.into_iter().chain(lapse::WRONG).chain(time_out::WRONG).chain(clocks::WRONG);
     let of_steps = handshake::WRONG.into_iter().chain(closing::WRONG);
-    let handlers = of_packets.chain(of_steps).chain(order::WRONG).chain(pass::WRONG).chain(verdict::WRONG);
+    let of_marks = prune::WRONG.into_iter().chain(freeing::WRONG).chain(mark::WRONG);
+    let of_form = order::WRONG.into_iter().chain(pass::WRONG).chain(verdict::WRONG);
+    let handlers = of_packets.chain(of_steps).chain(of_marks).chain(of_form);
     let converters = order::WRONG_CONVERTERS.map(|(name, convert)| (name, shim::with_converter(convert)));
-    let makers = maker::WRONG.map(|(name, make)| (name, shim::with_maker(make)));
-    let others = makers.into_iter().chain(converters);
+    let upgraders = upgrade::WRONG.map(|(name, upgrade)| (name, shim::with_upgrader(upgrade)));
+    let makers = maker::WRONG.into_iter().chain(mark::WRONG_MAKERS).map(|(name, make)| (name, shim::with_maker(make)));
+    let others = makers.chain(converters).chain(upgraders);
     for (name, subject) in handlers.map(|(name, handle)| (name, shim::with(handle))).chain(others) {
         // Some differ in one of ten thousand calls or fewer. The search ends at the first.
         let first = first_different(&subject, 100_000, SEED);
@@ -68,7 +73,15 @@ fn same_seed_same_calls() {
 fn every_origin_comes() {
     let mut generator = Generator::new(SEED);
     let origins: Vec<Origin> = (0..2_000).map(|_| generator.next_call().origin).collect();
-    let named = [Origin::Accepted, Origin::Scattered, Origin::Garbage, Origin::Flipped, Origin::Maker, Origin::Length];
+    let named = [
+        Origin::Accepted,
+        Origin::Scattered,
+        Origin::Before,
+        Origin::Garbage,
+        Origin::Flipped,
+        Origin::Maker,
+        Origin::Length,
+    ];
     for origin in named {
         assert!(origins.contains(&origin), "{origin:?}");
     }
@@ -87,8 +100,24 @@ fn right_histories_keep_all_promises() {
     }
 }
 
+/// Hundreds of packets go over tables of few records, in both directions, because prunes free them; and without prunes
+/// no table takes more packets than it has records.
+#[test]
+fn long_histories_need_prunes() {
+    let plan = Plan { truth: Truth::Everything, long: true, without_prunes: false };
+    let outcome = history::run_plan(&shim::RIGHT, 4, SEED, plan);
+    println!("{} calls, delivered {:?}\n{}", outcome.calls, outcome.delivered, outcome.answers);
+    outcome.named_totals().for_each(|(name, count)| println!("{count:>8} {name}"));
+    assert_eq!((&outcome.broken, &outcome.differences), (&Vec::new(), &Vec::new()));
+    assert!(outcome.named_totals().all(|(name, count)| count > 20 || !OF_LONG.contains(&name)));
+    assert!(outcome.delivered.iter().all(|(records, delivered)| *delivered > 5 * *records as u64));
+    let filled = history::run_plan(&shim::RIGHT, 4, SEED, Plan { without_prunes: true, ..plan });
+    println!("without prunes {:?}", filled.delivered);
+    assert!(filled.delivered.iter().all(|(records, delivered)| *delivered <= *records as u64));
+}
+
 /// Handlers with the truth of a history and the promise that they break then.
-const BREAKING: [(&str, Handle, Truth, &str); 45] = [
+const BREAKING: [(&str, Handle, Truth, &str); 60] = [
     ("without receipt", shim::WITHOUT_RECEIPT, Truth::Everything, "delivered twice"),
     ("without receipt", shim::WITHOUT_RECEIPT, Truth::Openings, "delivered twice"),
     ("frees all", shim::FREES_ALL, Truth::Everything, "left"),
@@ -134,6 +163,21 @@ const BREAKING: [(&str, Handle, Truth, &str); 45] = [
     ("no time asked", clocks::NOT_ASKED, Truth::Nothing, "sent after its timeout"),
     ("own time", clocks::OWN_TIME, Truth::Everything, "sent after its timeout"),
     ("at the very timeout time", clocks::AT_TIMEOUT, Truth::Everything, "sent after its timeout"),
+    ("prunes by any first", prune::ANY_FIRST, Truth::Everything, "pruned before it was finished"),
+    ("prunes by any first", prune::ANY_FIRST, Truth::Everything, "timed out after its delivery"),
+    ("prunes by any second", prune::ANY_SECOND, Truth::Everything, "pruned before it was finished"),
+    ("by another packet", prune::OTHER_PACKET, Truth::Everything, "pruned before it was finished"),
+    ("the next to be sent", prune::NEXT_TO_SEND, Truth::Everything, "pruned before it was finished"),
+    ("two blocks of a prune", prune::TWO_BLOCKS, Truth::Everything, "pruned before it was finished"),
+    ("two blocks of a prune", prune::TWO_BLOCKS, Truth::Everything, "timed out after its delivery"),
+    ("receives pruned", mark::RECEIVES_PRUNED, Truth::Everything, "delivered twice"),
+    ("receives pruned", mark::RECEIVES_PRUNED, Truth::Openings, "delivered twice"),
+    ("mark stays", freeing::MARK_STAYS, Truth::Everything, "delivered twice"),
+    ("above the mark", freeing::ABOVE_MARK, Truth::Openings, "delivered twice"),
+    ("leaps", freeing::LEAPS, Truth::Nothing, "a mark fell or leapt"),
+    ("keeps the receipt", freeing::KEEPS_RECEIPT, Truth::Everything, "or the store is unfit now"),
+    ("frees the commitment", freeing::FREES_COMMITMENT, Truth::Nothing, "left"),
+    ("emits at a prune", freeing::EMITS_AT_PRUNE, Truth::Nothing, "made ends are not those emitted"),
 ];
 
 /// Counting alone finds these, without the reference implementation beside them.
@@ -161,6 +205,7 @@ fn lies_break_promises() {
         "timed out after its delivery",
         "delivered after its time-out on close",
         "timed out on close after its delivery",
+        "pruned before it was finished",
     ];
     let of_ends = ["an opened end is not paired", "two opened ends name one end", "delivered twice"];
     let (openings, nothing) = (excused(Truth::Openings), excused(Truth::Nothing));

@@ -12,8 +12,10 @@ pub const RECEIPT_ABSENT: u16 = 3;
 pub const NEXT_RECV_EQUALS: u16 = 4;
 pub const END_SHOWN: u16 = 5;
 pub const TIMEOUT_RECEIPT_PRESENT: u16 = 6;
+pub const COMMITMENT_ABSENT: u16 = 7;
+pub const NEXT_SEND_EQUALS: u16 = 8;
 
-/// About a packet.
+/// About a packet, or about a number that an end counts.
 #[derive(Clone, Copy, Debug, PartialEq, Eq)]
 pub struct Verdict {
     pub claim: u16,
@@ -27,7 +29,7 @@ pub struct Verdict {
     pub digest: Digest,
 }
 
-/// About a channel end: its whole record, in which the counters have to be zero.
+/// About a channel end: its whole record, in which the counters and the mark have to be zero.
 #[derive(Clone, Copy, Debug, PartialEq, Eq)]
 pub struct EndVerdict {
     pub claim: u16,
@@ -38,7 +40,7 @@ pub struct EndVerdict {
 
 /// Every claim is known in both forms of verdict; one that does not belong there is about something else.
 fn is_known(claim: u16) -> bool {
-    (COMMITMENT_PRESENT..=TIMEOUT_RECEIPT_PRESENT).contains(&claim)
+    (COMMITMENT_PRESENT..=NEXT_SEND_EQUALS).contains(&claim)
 }
 
 impl Verdict {
@@ -72,10 +74,15 @@ impl Verdict {
 
     /// Refuses for the first part that is not as needed. The block is none of them.
     pub fn compare(&self, needed: &Verdict) -> Result<(), u8> {
+        self.compare_where(needed, self.sequence == needed.sequence)
+    }
+
+    /// The same, where it is told whether the sequence is as needed.
+    pub fn compare_where(&self, needed: &Verdict, sequence_is_good: bool) -> Result<(), u8> {
         refuse_if(self.claim != needed.claim, OTHER_CLAIM)?;
         refuse_if(self.port != needed.port, OTHER_PORT)?;
         refuse_if(self.channel != needed.channel, OTHER_CHANNEL)?;
-        refuse_if(self.sequence != needed.sequence, OTHER_SEQUENCE)?;
+        refuse_if(!sequence_is_good, OTHER_SEQUENCE)?;
         refuse_if(self.timeouts() != needed.timeouts(), OTHER_TIMEOUTS)?;
         refuse_if(self.digest != needed.digest, OTHER_DIGEST)
     }
@@ -108,10 +115,17 @@ impl EndVerdict {
     /// version, which has a refusal of its own.
     pub fn compare(&self, needed: &Channel) -> Result<(), u8> {
         refuse_if(self.claim != END_SHOWN, OTHER_CLAIM)?;
-        refuse_if(self.record[..channel::VERSION] != needed.shown()[..channel::VERSION], OTHER_DIGEST)
+        let shown = needed.shown();
+        let differs = |from: usize, to: usize| self.record[from..to] != shown[from..to];
+        refuse_if(differs(0, channel::VERSION) || differs(channel::MARK, RECORD), OTHER_DIGEST)
     }
 
     pub fn has_version(&self, version: &Version) -> bool {
-        self.record[channel::VERSION..] == *version
+        self.version() == *version
+    }
+
+    /// What stands in the record where a version does.
+    pub fn version(&self) -> Version {
+        get(&self.record, channel::VERSION)
     }
 }

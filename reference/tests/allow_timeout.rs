@@ -148,7 +148,7 @@ fn no_turns_on_an_end_that_is_not_open() {
 
 #[test]
 fn claims_of_a_time_out() {
-    for claim in 1..=5 {
+    for claim in [1, 2, 3, 4, 5, 7, 8] {
         assert_eq!(number(&mut sent_two(OPEN), &time_out(1, claim, 1)), 140, "{claim}");
     }
     assert_eq!(number(&mut sent_two(OPEN), &time_out(1, 6, 2)), 143);
@@ -168,7 +168,7 @@ fn claims_on_close() {
         let next = if expected == 0 { 2 } else { 1 };
         assert_eq!((store[END + 2], counter(&store, ACKNOWLEDGE_COUNTER)), (OPEN, next));
     }
-    for claim in [1, 2, 3, 5] {
+    for claim in [1, 2, 3, 5, 7, 8] {
         // Whatever the sequence is.
         let [one, any] = [1, 9].map(|claimed| number(&mut sent_two(OPEN), &on_close(1, claim, claimed)));
         assert_eq!((one, any), (140, 140), "{claim}");
@@ -176,7 +176,7 @@ fn claims_on_close() {
     for (claim, sequence) in [(4, 15), (6, 143)] {
         assert_eq!(number(&mut sent_two(OPEN), &on_close(2, claim, 2)), 15);
         assert_changes(&sent_two(OPEN), &on_close(1, claim, 1), VERDICT, &parts_of(sequence));
-        assert_changes(&sent_two(OPEN), &on_close(1, claim, 1), END_VERDICT, &[(18, 58, 145), (58, 82, 27)]);
+        assert_changes(&sent_two(OPEN), &on_close(1, claim, 1), END_VERDICT, &END_RECORD);
         // The blocks are compared before the turn, and the turn before the version.
         let blocks = with(on_close(2, claim, 2), &[(VERDICT + 2, 50), (END_VERDICT + 58, b'w')]);
         assert_eq!(number(&mut sent_two(OPEN), &blocks), 146);

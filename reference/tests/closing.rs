@@ -12,7 +12,7 @@ fn close_init_closes_an_open_end() {
         let mut store = fresh();
         assert_eq!(answer(&mut store, &end.close_init()), (0, Vec::new()));
         assert_eq!(channel(&store, end.index), end.record(CLOSED, 1));
-        let header = Bytes::default().n32(1216).n16(0x0401).n16(16).n64(100).n64(1000).n32(2).n64(9).zeros(28).0;
+        let header = Bytes::default().n32(1216).n16(0x0402).n16(16).n64(100).n64(1000).n32(2).n64(9).zeros(28).0;
         assert_eq!(store[..64], header);
         let others = (0..3).filter(|other| *other != end.index);
         others.for_each(|other| assert_eq!(channel(&store, other)[2], OPEN));
@@ -82,12 +82,13 @@ fn refusals_of_closes_come_by_place() {
     assert_eq!(number(&mut ORDERED.sent(OPEN), &with(ORDERED.close_init(), &[(14, 0xe9), (CALLER, 6)])), 4);
 }
 
-/// Every byte of the verdict: the claim, the block, which is compared with nothing, the record, its version.
+/// Every byte of the verdict: the claim, the block, which is compared with nothing, the record, its version, its mark.
 #[test]
 fn verdicts_about_another_end() {
     for end in ENDS {
-        assert_changes(&fresh(), &end.close_confirm(), CONFIRM_VERDICT, &[(2, 18, 0), (18, 58, 145), (58, 82, 27)]);
-        for claim in [1, 2, 3, 4, 6] {
+        assert_changes(&fresh(), &end.close_confirm(), CONFIRM_VERDICT, &[(2, 18, 0)]);
+        assert_changes(&fresh(), &end.close_confirm(), CONFIRM_VERDICT, &END_RECORD);
+        for claim in [1, 2, 3, 4, 6, 7, 8] {
             assert_eq!(number(&mut fresh(), &with(end.close_confirm(), &[(CONFIRM_VERDICT, claim)])), 140, "{claim}");
         }
     }
@@ -97,7 +98,7 @@ fn verdicts_about_another_end() {
 fn malformed_closes() {
     assert_malformed(&fresh(), &ORDERED.close_init());
     assert_malformed(&fresh(), &ORDERED.close_confirm());
-    for claim in [0, 7, 8, 0xff] {
+    for claim in [0, 9, 10, 0xff] {
         assert_eq!(number(&mut fresh(), &with(ORDERED.close_confirm(), &[(CONFIRM_VERDICT, claim)])), 3);
     }
 }

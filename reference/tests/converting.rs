@@ -142,7 +142,7 @@ fn unfit_stores_are_not_converted() {
     records.reverse();
     let store = store_of(&records);
     let header = (0..8).chain(24..28).chain(36..64);
-    let ends = [64, 128, 192].into_iter().flat_map(|end| [end, end + 1, end + 3, end + 4, end + 5, end + 41, end + 63]);
+    let ends = [64, 128, 192].into_iter().flat_map(|end| [end, end + 1, end + 3, end + 4, end + 5, end + 41, end + 56]);
     for place in header.chain(ends).chain(256..1088).chain([1088 + 2, 1088 + 64 + 3]) {
         let mut changed = store.clone();
         changed[place] ^= 0x40;

@@ -23,10 +23,10 @@ fn empty() -> Vec<u8> {
     store
 }
 
-/// A channel record, ordered, with these counters.
+/// A channel record, ordered, with these counters and this mark.
 fn record_of(state: u8, own: (u16, u32), other: (u16, u32), counters: u64, version: &[u8]) -> Bytes {
     let front = Bytes::default().n16(1).n8(state).n8(1).n32(own.1).n16(own.0).n16(other.0).n32(other.1);
-    front.n64(counters).n64(counters).n64(counters).text(version).zeros(24 - version.len())
+    front.n64(counters).n64(counters).n64(counters).text(version).zeros(16 - version.len()).n64(counters)
 }
 
 /// An end verdict with claim 5.
@@ -92,7 +92,7 @@ fn spoiled(mut datagram: Vec<u8>, at: usize, value: u8) -> Vec<u8> {
 fn both_ends_open() {
     let mut one = after_init();
     assert_eq!(channel(&one, 0), record_of(INIT, (5, 1), (6, 0), 1, VERSION).0);
-    let header = Bytes::default().n32(1216).n16(0x0401).n16(16).n64(100).n64(1000).n32(2).n64(2).zeros(28).0;
+    let header = Bytes::default().n32(1216).n16(0x0402).n16(16).n64(100).n64(1000).n32(2).n64(2).zeros(28).0;
     assert_eq!(one[..64], header);
     let mut other = after_tries();
     assert_eq!(channel(&other, 0), record_of(TRYOPEN, (6, 1), (5, 1), 1, VERSION).0);
@@ -161,7 +161,7 @@ fn no_room_for_another_end() {
         assert_eq!(answer(&mut store, &init(VERSION)), (0, made(5, number)));
     }
     assert_eq!(number(&mut store, &init(VERSION)), 25);
-    assert_eq!(number(&mut store, &init(&[b'v'; 25])), 25);
+    assert_eq!(number(&mut store, &init(&[b'v'; 17])), 25);
     assert_eq!(number(&mut store, &open_try(&shows_init(), b"v2")), 25);
     assert_eq!(number(&mut store, &open_try(&shows_tried(1), VERSION)), 145);
 
@@ -179,12 +179,12 @@ fn no_room_for_another_end() {
 
 #[test]
 fn versions() {
-    for version in [&b""[..], b"v", &[b'v'; 23], &[0xff; 24]] {
+    for version in [&b""[..], b"v", &[b'v'; 15], &[0xff; 16]] {
         let mut store = empty();
         assert_eq!(number(&mut store, &init(version)), 0);
         assert_eq!(channel(&store, 0), record_of(INIT, (5, 1), (6, 0), 1, version).0);
     }
-    let wrong: [&[u8]; 5] = [&[b'v'; 25], &[b'v'; 300], b"\0", b"v1\0", b"v\x001"];
+    let wrong: [&[u8]; 6] = [&[b'v'; 17], &[b'v'; 24], &[b'v'; 300], b"\0", b"v1\0", b"v\x001"];
     for version in wrong {
         assert_eq!(number(&mut empty(), &init(version)), 27, "{version:?}");
         assert_eq!(number(&mut empty(), &open_try(&shows_init(), version)), 27, "{version:?}");
@@ -198,7 +198,7 @@ fn versions() {
     }
 }
 
-/// Every byte of the record but those of the version, and the claim.
+/// Every byte of the record, and the claim.
 #[test]
 fn verdicts_about_another_end() {
     let steps = [
@@ -209,9 +209,9 @@ fn verdicts_about_another_end() {
     for (store, datagram, at) in steps {
         let with = |place: usize, value: u8| number(&mut store.clone(), &spoiled(datagram.clone(), place, value));
         let changed = |place: usize| with(place, datagram[place] ^ 0x40);
-        [1, 2, 3, 4, 6].into_iter().for_each(|claim| assert_eq!(with(at, claim), 140));
-        // The block is not compared with anything; the version stands behind the rest of the record.
-        for (from, to, expected) in [(2, 18, 0), (18, 58, 145), (58, 82, 27)] {
+        [1, 2, 3, 4, 6, 7, 8].into_iter().for_each(|claim| assert_eq!(with(at, claim), 140));
+        // The block is not compared with anything; the version stands before the mark.
+        for (from, to, expected) in [(2, 18, 0), (18, 58, 145), (58, 74, 27), (74, 82, 145)] {
             (at + from..at + to).for_each(|place| assert_eq!(changed(place), expected, "{place}"));
         }
     }
@@ -260,7 +260,7 @@ fn malformed_steps() {
         assert_eq!(number(&mut empty(), &spoiled(init(VERSION), INIT_ORDER, order)), 3);
         assert_eq!(number(&mut empty(), &spoiled(open_try(&shows_init(), VERSION), TRY_ORDER, order)), 3);
     }
-    for claim in [0, 7, 0xff] {
+    for claim in [0, 9, 0xff] {
         assert_eq!(number(&mut empty(), &spoiled(open_try(&shows_init(), VERSION), TRY_VERDICT, claim)), 3);
         assert_eq!(number(&mut after_init(), &spoiled(acknowledge(5, 1, 1, &tried), ACKNOWLEDGE_VERDICT, claim)), 3);
         assert_eq!(number(&mut after_tries(), &spoiled(confirm(6, 1, &open), CONFIRM_VERDICT, claim)), 3);
@@ -274,7 +274,16 @@ fn malformed_steps() {
 #[test]
 fn unfit_stores() {
     let next = [(28, &[0][..]), (28, &[1]), (36, &[1]), (63, &[1])];
-    let end = [(66, &[0][..]), (66, &[5]), (76, &[1]), (104, b"v\x001"), (104, b"\x001"), (127, &[1])];
+    let end = [
+        (66, &[0][..]),
+        (66, &[5]),
+        (76, &[1]),
+        (104, b"v\x001"),
+        (104, b"\x001"),
+        (119, &[1]),
+        (120, &[0]),
+        (120, &[2]),
+    ];
     for (place, bytes) in next.into_iter().chain(end) {
         let mut store = after_init();
         store[place..place + bytes.len()].copy_from_slice(bytes);

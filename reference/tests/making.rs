@@ -25,7 +25,7 @@ fn made(length: usize, openings: &[u8]) -> (u8, Vec<u8>) {
 fn empty_list_makes_an_empty_store() {
     let (number, store) = made(1152, &[]);
     assert_eq!(number, 0);
-    assert_eq!(store[..8], [0x80, 4, 0, 0, 1, 4, 16, 0]);
+    assert_eq!(store[..8], [0x80, 4, 0, 0, 2, 4, 16, 0]);
     assert_eq!(store[24..28], [1, 0, 0, 0]);
     assert_eq!(store[28..36], 1u64.to_le_bytes());
     let others = store.iter().enumerate().filter(|(at, byte)| **byte != 0 && *at >= 8 && *at != 24 && *at != 28);
@@ -39,7 +39,8 @@ fn ends_stand_in_list_order() {
     for channel in 0..16u8 {
         let mut end = vec![1, 0, 3, 1 + channel % 3, channel, 0, 0, 0, 5, 0, 6, 0, 9, 0, 0, 0];
         (0..3).for_each(|_| end.extend([1, 0, 0, 0, 0, 0, 0, 0]));
-        end.resize(64, 0);
+        end.resize(56, 0);
+        end.extend([1, 0, 0, 0, 0, 0, 0, 0]);
         assert_eq!(store[64 + 64 * usize::from(channel)..][..64], end);
     }
     assert!(store[1088..].iter().all(|byte| *byte == 0));

@@ -66,11 +66,13 @@ fn claims_that_a_packet_was_not_received() {
 fn verdicts_about_something_else() {
     for end in [ORDERED, UNORDERED] {
         let store = end.sent(OPEN);
-        assert_changes(&store, &end.on_close(), END_VERDICT, &[(2, 18, 146), (18, 58, 145), (58, 82, 27)]);
-        assert_changes(&store, &end.on_close(), VERDICT, &[(2, 18, 146)]);
+        assert_changes(&store, &end.on_close(), END_VERDICT, &END_RECORD);
+        for place in [END_VERDICT, VERDICT] {
+            assert_changes(&store, &end.on_close(), place, &[(2, 18, 146)]);
+        }
         assert_changes(&store, &end.on_close(), VERDICT, &parts_of(if end.order == 1 { 15 } else { 143 }));
         for (place, needed) in [(END_VERDICT, 5), (VERDICT, 5 - end.order)] {
-            for claim in (1..=6).filter(|claim| *claim != needed) {
+            for claim in (1..=8).filter(|claim| *claim != needed) {
                 assert_eq!(number(&mut store.clone(), &with(end.on_close(), &[(place, claim)])), 140, "{claim}");
             }
         }
@@ -124,7 +126,7 @@ fn refusals_on_close_come_by_place() {
 fn malformed_time_outs_on_close() {
     assert_malformed(&ORDERED.sent(OPEN), &ORDERED.on_close());
     for place in [END_VERDICT, VERDICT] {
-        for claim in [0, 7, 8, 0xff] {
+        for claim in [0, 9, 10, 0xff] {
             assert_eq!(number(&mut ORDERED.sent(OPEN), &with(ORDERED.on_close(), &[(place, claim)])), 3);
         }
     }

@@ -62,9 +62,9 @@ fn case_01_send_accepted() {
     let commitment = Bytes::default().n16(1).n16(0).n32(7).n64(1).n64(60).n64(0).digest(0xd1).0;
     assert_eq!(record(&store, 0), commitment);
     assert_eq!(record(&store, 1), [0; 64]);
-    let end = Bytes::default().n16(1).n8(3).n8(1).n32(7).n16(5).n16(6).n32(9).n64(2).n64(1).n64(1).zeros(24).0;
+    let end = Bytes::default().n16(1).n8(3).n8(1).n32(7).n16(5).n16(6).n32(9).n64(2).n64(1).n64(1).zeros(16).n64(1).0;
     assert_eq!(channel(&store, 0), end);
-    let header = Bytes::default().n32(1216).n16(0x0401).n16(16).n64(100).n64(1000).n32(2).n64(9).zeros(28).0;
+    let header = Bytes::default().n32(1216).n16(0x0402).n16(16).n64(100).n64(1000).n32(2).n64(9).zeros(28).0;
     assert_eq!(store[..64], header);
 }
 

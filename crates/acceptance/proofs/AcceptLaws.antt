@@ -1,9 +1,9 @@
 -- What an accepted call tells the plan and the output, what is planned is what the rules say of the call, and an end at
 -- its slot. Assumes nothing.
-use Rattle.wire.proofs.Prelude.{◌≡◌, refl, sym, ap, subst, ◌∙◌, List, Option, none, some, ℕ, ◌≤◌, ◌<◌, arith}
-use Rattle.wire.proofs.Prelude.{false, true, length, ltb-false, not-false}
-use Rattle.wire.specs.Names.{◌or◌, is_some, Every}
-use Rattle.wire.proofs.Laws.{some-if}
+use Rattle.wire.proofs.Prelude.{◌≡◌, refl, sym, ap, subst, ◌∙◌, List, Option, none, some, ℕ, ◌+◌, ◌^◌, ◌≤◌}
+use Rattle.wire.proofs.Prelude.{◌<◌, arith, false, true, length, eqb, ltb, ltb-true, ltb-false, not-false, ne_eqb}
+use Rattle.wire.specs.Names.{◌or◌, is_some, Every, Bytes}
+use Rattle.wire.proofs.Laws.{cases, some-if}
 use Rattle.slots.specs.declared.PortChannel.{PortChannel}
 use Rattle.slots.specs.declared.Channel.{Channel}
 use Rattle.slots.specs.declared.Found.{Found}
@@ -15,33 +15,56 @@ use Rattle.slots.proofs.HeldLaws.{Held, held-store, held-channel}
 use Rattle.slots.proofs.SlotTestLaws.{channel-index}
 use Rattle.slots.proofs.ScanLaws.{set-insert, set-replace, insert-nothing, replace-nothing}
 use Rattle.datagram.specs.Names.{Kind, send, receive, write, acknowledge, time_out, open_init, open_try, open_acknowledge}
-use Rattle.datagram.specs.Names.{open_confirm, close_init, close_confirm, time_out_on_close, kind_of, Datagram, datagram_of}
-use Rattle.datagram.specs.Names.{datagram_in, kind_in, is_sound, only}
+use Rattle.datagram.specs.Names.{open_confirm, close_init, close_confirm, time_out_on_close, prune, kind_of, Datagram}
+use Rattle.datagram.specs.Names.{datagram_of, datagram_in, kind_in, is_sound, only}
+use Rattle.datagram.proofs.Laws.{second_below}
 use Rattle.rules.specs.Names.{first_given, table, refusals, makes_end, or_none, end_for, Effect, sends, counted, moved}
+use Rattle.rules.specs.Names.{marked, next_send_difference, prunes_at}
 use Rattle.rules.specs.Acceptance.{EndEdit, leaves, puts, adds}
 use Rattle.rules.specs.Names.{receives, writes_acknowledgement, acknowledges, times_out, makes, moves, effect_of}
 use Rattle.rules.specs.Names.{effect_for, placed, number_after, answer_to, effect_in}
 use Rattle.rules.proofs.RefusalLaws.{given_at, silent, not-given}
 use Rattle.rules.proofs.OrderingLaws.{by-receive, by-acknowledge, by-time-out}
-use Rattle.rules.proofs.Accepted.{end-there}
+use Rattle.rules.proofs.VerdictLaws.{claims-above}
+use Rattle.rules.proofs.Accepted.{PruneOk, end-there, prune-ok}
 use Rattle.rules.proofs.Accepted.{send-ok, receive_ok, acknowledge-ok, timeout-ok, timeout-on-close-ok, init-ok, try_ok}
 use Rattle.effects.specs.declared.EndAction.{EndAction}
 use Rattle.effects.specs.declared.EndAction.TheVariants.{Leaves, Puts, Adds}
 use Rattle.effects.specs.Decided.{end_edit_of, Left}
 use Rattle.acceptance.specs.Planned.{Ready, end_slot, slot_by, with_end}
 
+-- A MARK that is pruned is below the next send that is stated, which is a number of 8 bytes
+mark-below : (c : Channel) (d : Datagram) → d.second.sequence < 256 ^ 8 → PruneOk d c → eqb c.mark top ≡ false
+mark-below c d h ok =
+    let mark = ok.mark in
+    let above = claims-above c d.sequence d.second ok.next in
+    ne_eqb c.mark top (λ q. omega arith)
+
 -- AN ANSWER OF 0: no line of the table gave a number
 module _ (s o d : List ℕ) (accepted : answer_to s o d ≡ 0) where
   abbrev channel : Channel
   channel = or_none (end_for (store_in s) (datagram_in d))
+
+  -- what the lines of a number gave
+  quiet : (n : ℕ) → Every (λ m. m ≡ 0) (given_at n (datagram_in d).kind (refusals s (length o) d))
+  unfolding answer_to
+  quiet n = silent n (datagram_in d).kind (refusals s (length o) d) accepted
+
+  pub output-room : output_limit ≤ length o
+  unfolding table given_at
+  output-room = ltb-false (length o) output_limit (not-given _ 1 (quiet 2).0)
+
+  there : makes_end (datagram_in d).kind ≡ false → is_some (end_for (store_in s) (datagram_in d)) ≡ true
+  unfolding answer_to
+  there = end-there s (length o) d (store_in s) (datagram_in d) channel (datagram_in d).kind accepted
 
   -- of its kind
   of-kind : {k : Kind} → (datagram_in d).kind ≡ some k → first_given (some k) (refusals s (length o) d) ≡ 0
   unfolding answer_to
   of-kind q = subst (λ (x : Option Kind). first_given x (refusals s (length o) d) ≡ 0) q accepted
 
-  left : Left (datagram_in d).kind (store_in s).next channel (datagram_in d)
-  left =
+  left : Bytes d → Left (datagram_in d).kind (store_in s).next channel (datagram_in d)
+  left bytes =
       record {
         sends = λ q. (send-ok s (length o) d (store_in s) (datagram_in d) channel (of-kind q)).below;
         receives = λ q. (receive_ok s (length o) d (store_in s) (datagram_in d) channel (of-kind q)).below;
@@ -55,35 +78,25 @@ module _ (s o d : List ℕ) (accepted : answer_to s o d ≡ 0) where
         tries = λ q.
             let m = (try_ok s (length o) d (store_in s) (datagram_in d) channel (of-kind q)).0 in
             (m.number, m.version);
+        prunes = λ q.
+            mark-below channel (datagram_in d) (second_below d bytes)
+            (prune-ok s (length o) d (store_in s) (datagram_in d) channel (of-kind q));
       }
 
-  -- what the lines of a number gave
-  quiet : (n : ℕ) → Every (λ m. m ≡ 0) (given_at n (datagram_in d).kind (refusals s (length o) d))
-  unfolding answer_to
-  quiet n = silent n (datagram_in d).kind (refusals s (length o) d) accepted
-
-  there : makes_end (datagram_in d).kind ≡ false → is_some (end_for (store_in s) (datagram_in d)) ≡ true
-  unfolding answer_to
-  there = end-there s (length o) d (store_in s) (datagram_in d) channel (datagram_in d).kind accepted
-
-  pub ready : Ready s d
+  pub ready : Bytes d → Ready s d
   unfolding table given_at
-  ready =
+  ready bytes =
       record {
         fit = not-false (is_fit s) (not-given _ 0 (quiet 1).0);
         sound = not-false (is_sound d) (not-given _ 2 (quiet 3).0);
         there = there;
-        left = left;
+        left = left bytes;
       }
-
-  pub output-room : output_limit ≤ length o
-  unfolding table given_at
-  output-room = ltb-false (length o) output_limit (not-given _ 1 (quiet 2).0)
 
 -- THE NEXT CHANNEL NUMBER can be raised where an end is added
 number_fits : (k : Option Kind) (n : ℕ) (c : Channel) (d : Datagram) → n ≤ top → Left k n c d →
     number_after (effect_for k n c d).ends n ≤ top
-unfolding effect_for effect_of sends receives writes_acknowledgement acknowledges times_out makes moves number_after
+unfolding effect_for effect_of sends receives writes_acknowledgement acknowledges times_out makes moves prunes_at number_after
 number_fits none n c d h l = h
 number_fits (some send) n c d h l = h
 number_fits (some receive) n c d h l = h
@@ -97,6 +110,7 @@ number_fits (some open_confirm) n c d h l = h
 number_fits (some close_init) n c d h l = h
 number_fits (some close_confirm) n c d h l = h
 number_fits (some time_out_on_close) n c d h l = h
+number_fits (some prune) n c d h l = h
 
 -- AN END THAT CHANGES is the datagram's: its number stays, and no new end is made
 abbrev Stays : Option Kind → Channel → EndEdit → Type 0
@@ -105,8 +119,8 @@ Stays k c (puts e) = (e.own ≡ c.own) × (makes_end k ≡ false)
 Stays k c (adds e) = Unit {0}
 
 end_stays : (k : Option Kind) (n : ℕ) (c : Channel) (d : Datagram) → Stays k c (effect_for k n c d).ends
-unfolding effect_for effect_of sends receives writes_acknowledgement acknowledges times_out makes moves counted moved only
-    ◌or◌
+unfolding effect_for effect_of sends receives writes_acknowledgement acknowledges times_out makes moves prunes_at counted
+    moved marked only ◌or◌
 end_stays none n c d = tt
 end_stays (some send) n c d = (refl, refl)
 end_stays (some receive) n c d = (by-receive (λ e. e.own ≡ c.own) c (λ q. refl) refl, refl)
@@ -120,6 +134,7 @@ end_stays (some open_confirm) n c d = (refl, refl)
 end_stays (some close_init) n c d = (refl, refl)
 end_stays (some close_confirm) n c d = (refl, refl)
 end_stays (some time_out_on_close) n c d = (by-time-out (λ e. e.own ≡ c.own) c refl (λ q. refl) (λ p q. refl), refl)
+end_stays (some prune) n c d = (refl, refl)
 
 -- so it is where that one was found
 slot-stays : (k : Option Kind) (m : ℕ) (cs : List (Option Channel)) (c : Channel) → c ≡ or_none (channel_at m cs) →

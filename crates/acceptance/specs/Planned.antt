@@ -1,4 +1,4 @@
--- What a plan is made from, the slots that it names, and the store that its end leaves.
+-- What a plan is made from, the slot that it names, and the store that its end leaves.
 use Rattle.std.specs.Prelude.{◌≡◌, true, false, List, ℕ}
 use Rattle.std.proofs.Math.Option.{Option, some}
 use Rattle.wire.specs.Choice.{is_some}
@@ -13,7 +13,6 @@ use Rattle.slots.specs.Fit.{is_fit}
 use Rattle.datagram.specs.Datagram.{datagram_in, is_sound}
 use Rattle.rules.specs.Refusals.{makes_end, or_none, end_for}
 use Rattle.rules.specs.Acceptance.{EndEdit, leaves, puts, adds, number_after}
-use Rattle.records.specs.Edited.{edit_by, slot_of}
 use Rattle.effects.specs.declared.EndAction.{EndAction}
 use Rattle.effects.specs.declared.EndAction.TheVariants.{Leaves, Puts, Adds}
 use Rattle.effects.specs.Decided.{ends_by, Left}
@@ -46,9 +45,8 @@ abbrev pub with_end : Store → Found → Channel → Store
 with_end s (At j) c = with_channel_slot s j (some c)
 with_end s Nothing c = s
 
--- the slots of the end and of the packet record that it changes, the next channel number, and the slots in use
+-- the slot of the end that it changes, the next channel number, and the slots of packet records in use
 pub record Placed (s : Store) (p : Plan) : Type 0 where
   pub end : p.at ≡ end_slot (ends_by p.decision) s.channels
   pub next : p.next ≡ number_after (ends_by p.decision) s.next
-  pub edit : p.slot ≡ slot_of (edit_by p.decision.edit) s.records
   pub used : p.used ≡ used_slots s.records

@@ -1,4 +1,5 @@
-// Carries out an accepted datagram: reads alone plan it; then the store is changed, and then the record is emitted.
+// Carries out an accepted datagram: it is planned by reads alone; then the store is changed, where packet records are
+// looked up as they stand, and then the record is emitted.
 #![tactic(auto)]
 
 ghost use Rattle.std.specs.Prelude.{◌≡◌, true, ℕ, ◌≤◌, ◌<◌, length};
@@ -23,21 +24,20 @@ use datagram::read::{channel_in, context_in, kind_in};
 use effects::{Decision, EndAction, decide};
 use emit::emit_record;
 use handshake::no_channel;
-use records::{edit_records, slot_of};
+use records::edit_records;
 use slots::slot::channel_at;
 use slots::{Channel, Found, Layout};
 use tables::scan::{find_channel, find_free_channel};
 use wire::u64_at;
 
-// What is carried out: the times, what the datagram does, the next channel number, and the slots of the end (`at`) and
-// of the packet record; and how many packet records are in use.
+// What is carried out: the times, what the datagram does, the next channel number, and the slot of the end; and how
+// many packet records are in use.
 #[derive(Clone, Copy)]
 struct Plan {
     decision: Decision,
     context: Context,
     next: u64,
     at: Found,
-    slot: Found,
     used: usize,
 }
 
@@ -76,7 +76,7 @@ fn number_after(ends: EndAction, end: Channel, next: u64) -> u64
     }
 }
 
-// All that is read of the store.
+// All that is read of the store, but for the places of the packet records that change.
 fn plan_for(store: &[u8], datagram: &[u8], used: usize) -> Plan
     requires { Ready store.now datagram.now × (used ≡ used_slots (store_in store.now).records) }
     ensures context { result.context ≡ (datagram_in datagram.now).context }
@@ -91,13 +91,11 @@ fn plan_for(store: &[u8], datagram: &[u8], used: usize) -> Plan
     let decision = decide(datagram, kind, next, c);
     let ends = decision.ends;
     let end = decision.end;
-    let edit = decision.edit;
     Plan {
         decision: decision,
         context: context_in(datagram),
         next: number_after(ends, end, next),
         at: end_slot(store, ends, found),
-        slot: slot_of(store, edit),
         used: used,
     }
 }
@@ -124,9 +122,8 @@ fn carry_out(store: &mut [u8], p: Plan)
     let at = p.at;
     let end = p.decision.end;
     put_end(store, at, end);
-    let slot = p.slot;
     let edit = p.decision.edit;
-    edit_records(store, slot, p.used, edit);
+    edit_records(store, p.used, edit);
 }
 
 // Carries out a datagram that the table of answers accepts; so many packet records are in use. Returns the length of

@@ -1,6 +1,6 @@
 // The answer to a datagram on a fit store: the number of the first line of the table that applies, 0 where none does.
-// Lines 2 to 4 are for every kind, 5 and 7 for those about an end, 6 for the kinds 1 to 4. They stand here in their
-// order.
+// Lines 2 to 4 are for every kind, 5 and 7 for those about an end, 6 for the kinds 1 to 4 and 13. They stand here in
+// their order.
 #![tactic(auto)]
 
 ghost use Rattle.std.specs.Prelude.{◌≡◌, true, false, ◌≤◌, length};
@@ -19,10 +19,11 @@ use datagram::Context;
 use datagram::place::version_place;
 use datagram::read::{
     channel_in, context_in, counterparty_channel_in, counterparty_port_in, digest_in,
-    end_verdict_in, kind_in, order_in, packet_in, sequence_in, timeout_in, verdict_in,
+    end_verdict_in, kind_in, order_in, packet_in, second_in, sequence_in, timeout_in, verdict_in,
 };
 use handshake::no_channel;
 use heights::goes_back;
+use pruning::prune_row;
 use rows::{acknowledge_row, receive_row, send_row, time_out_row, write_row};
 use slots::slot::channel_at;
 use slots::{Channel, Found, Layout, OwnHeight, OwnTime, PortChannel, VERSION};
@@ -37,6 +38,8 @@ const ACKNOWLEDGE: u16 = 4;
 const OPEN_INIT: u16 = 6;
 
 const OPEN_TRY: u16 = 7;
+
+const PRUNE: u16 = 13;
 
 // Lines 2 and 3, behind a fit store (1): room for every record that is emitted, a sound datagram.
 pub fn answer(store: &[u8], room: usize, datagram: &[u8]) -> u8
@@ -77,7 +80,8 @@ fn answer_sound(store: &[u8], datagram: &[u8]) -> u8
     answer_on(store, count, datagram, kind, x)
 }
 
-// Lines 5 to 7: the channel end that the datagram is about, in state OPEN for the kinds 1 to 4, and its port.
+// Lines 5 to 7: the channel end that the datagram is about, in state OPEN for the kinds 1 to 4 and 13, and its
+// port.
 fn answer_on(store: &[u8], count: usize, datagram: &[u8], kind: u16, x: Context) -> u8
     requires { Known store.now count datagram.now kind x × (makes_end (kind_of kind) ≡ false) }
     ensures { result ≡
@@ -88,7 +92,7 @@ fn answer_on(store: &[u8], count: usize, datagram: &[u8], kind: u16, x: Context)
         return 5;
     };
     let c = channel_at(store, Layout::HEADER + Layout::SLOT * j);
-    if (kind <= ACKNOWLEDGE) & (c.state != Channel::OPEN) {
+    if ((kind <= ACKNOWLEDGE) | (kind == PRUNE)) & (c.state != Channel::OPEN) {
         return 6;
     }
     if x.port != c.own.port {
@@ -97,13 +101,13 @@ fn answer_on(store: &[u8], count: usize, datagram: &[u8], kind: u16, x: Context)
     answer_by_kind(store, count, datagram, kind, x, c)
 }
 
-// Lines 8 to 27: those of the datagram's own kind. Unknown kinds were refused with 3.
+// Lines 8 to 29: those of the datagram's own kind. Unknown kinds were refused with 3.
 fn answer_by_kind(store: &[u8], count: usize, d: &[u8], kind: u16, x: Context, c: Channel) -> u8
     requires { Known store.now count d.now kind x }
     ensures { result ≡ number_behind 7 (kind_of kind) (store_in store.now) (datagram_of (kind_of kind) d.now) c }
 {
     match kind {
-        0 | 13..=65535 => 3,
+        0 | 14..=65535 => 3,
         1 => send_row(store, count, x, timeout_in(d), c),
         2 => receive_row(store, count, x, packet_in(d), verdict_in(d, 2), c),
         3 => write_row(store, count, sequence_in(d), digest_in(d, 3), c),
@@ -122,6 +126,7 @@ fn answer_by_kind(store: &[u8], count: usize, d: &[u8], kind: u16, x: Context, c
             let p = packet_in(d);
             time_out_on_close_row(store, count, p, end_verdict_in(d, 12), verdict_in(d, 12), c)
         }
+        13 => prune_row(sequence_in(d), verdict_in(d, 13), second_in(d), c),
     }
 }
 

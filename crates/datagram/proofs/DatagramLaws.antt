@@ -7,7 +7,8 @@ use Rattle.wire.proofs.Laws.{every-get_or, every_drop, Byte}
 use Rattle.slots.proofs.Laws.{PortChannelFields, TimeoutFields}
 use Rattle.datagram.specs.declared.Packet.{Packet}
 use Rattle.datagram.specs.Names.{Kind, kind_of, packet_size, size_of, is_sized, is_sound, kind_in, context_in}
-use Rattle.datagram.specs.Names.{Part, digest_part, packet_part, verdict_part, end_verdict_part, version_part, is_part}
+use Rattle.datagram.specs.Names.{Part, digest_part, packet_part, verdict_part, second_part, end_verdict_part}
+use Rattle.datagram.specs.Names.{version_part, is_part, second_from, verdict_in}
 use Rattle.datagram.specs.Names.{place_of, body_of, has_part, packet_in, packet_from, timeout_from, sequence_from}
 use Rattle.datagram.specs.Names.{digest_from, counterparty_from, order_from, version_from, Datagram, datagram_in}
 use Rattle.datagram.specs.Names.{AnyVerdict, on_packet, on_end, verdicts_in, verdicts_of}
@@ -94,6 +95,10 @@ module _ (d : List ℕ) (b : Bytes d) where
   unfolding datagram_in context_in
   time-below = field_below _ _ d b
 
+  pub second_below : (datagram_in d).second.sequence < 256 ^ 8
+  unfolding datagram_in second_from verdict_in
+  second_below = field_below _ _ d b
+
   pub port-below : (datagram_in d).context.port < 256 ^ 2
   unfolding datagram_in context_in
   port-below = field_below _ _ d b
@@ -128,7 +133,8 @@ module _ (P : AnyVerdict → Type 0) (d : Datagram) where
   later q qs h =
       let rest = verdicts_in d qs in
       of-rest P (is_part verdict_part q) (on_packet d.verdict) rest _
-      (of-rest P (is_part end_verdict_part q) (on_end d.end_verdict) rest rest (λ r. r)) h
+      (of-rest P (is_part second_part q) (on_packet d.second) rest _
+      (of-rest P (is_part end_verdict_part q) (on_end d.end_verdict) rest rest (λ r. r))) h
 
   carried : (p : Part) (v : AnyVerdict) → ((ps : List Part) → verdicts_in d (p ∷ ps) ≡ v ∷ verdicts_in d ps) →
       (ps : List Part) → has_part p ps ≡ true → Every P (verdicts_in d ps) → P v
@@ -144,6 +150,11 @@ module _ (P : AnyVerdict → Type 0) (d : Datagram) where
       P (on_packet d.verdict)
   unfolding verdicts_in
   packet-verdict k h = carried verdict_part (on_packet d.verdict) (λ ps. refl) (body_of d.kind) k h
+
+  pub second-verdict : has_part second_part (body_of d.kind) ≡ true → Every P (verdicts_of d) →
+      P (on_packet d.second)
+  unfolding verdicts_in
+  second-verdict k h = carried second_part (on_packet d.second) (λ ps. refl) (body_of d.kind) k h
 
   pub end-verdict : has_part end_verdict_part (body_of d.kind) ≡ true → Every P (verdicts_of d) →
       P (on_end d.end_verdict)

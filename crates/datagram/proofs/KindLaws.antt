@@ -5,10 +5,10 @@ use Rattle.wire.specs.Names.{pick, with_number, Every}
 use Rattle.wire.proofs.Laws.{or-either, clash, cases, some_is, with-number, same-number}
 use Rattle.datagram.specs.Names.{Kind, send, receive, write, acknowledge, time_out}
 use Rattle.datagram.specs.Names.{open_init, open_try, open_acknowledge, open_confirm}
-use Rattle.datagram.specs.Names.{close_init, close_confirm, time_out_on_close, kinds, kind_number, kind_of}
+use Rattle.datagram.specs.Names.{close_init, close_confirm, time_out_on_close, prune, kinds, kind_number, kind_of}
 use Rattle.datagram.specs.Names.{is_kind, is_of, Part, channel_part, sequence_part, timeout_part, digest_part}
 use Rattle.datagram.specs.Names.{packet_part, verdict_part, port_part, counterparty_part, order_part}
-use Rattle.datagram.specs.Names.{end_verdict_part, version_part, part_number, is_part, part_size, has_part}
+use Rattle.datagram.specs.Names.{end_verdict_part, version_part, second_part, part_number, is_part, part_size, has_part}
 use Rattle.datagram.specs.Names.{parts_size, size_before}
 
 -- KINDS are known by their numbers
@@ -26,6 +26,7 @@ kind-of open_confirm = refl
 kind-of close_init = refl
 kind-of close_confirm = refl
 kind-of time_out_on_close = refl
+kind-of prune = refl
 
 pub number_of : (n : ℕ) (k : Kind) → kind_of n ≡ some k → n ≡ kind_number k
 number_of n k h = with-number kind_number n kinds k h
@@ -61,7 +62,7 @@ of-rest P false x xs ys f h = f h
 abbrev parts : List Part
 parts =
     channel_part ∷ sequence_part ∷ timeout_part ∷ digest_part ∷ packet_part ∷ verdict_part ∷ port_part ∷ counterparty_part ∷
-    order_part ∷ end_verdict_part ∷ version_part ∷ []
+    order_part ∷ end_verdict_part ∷ version_part ∷ second_part ∷ []
 
 part_of : (p : Part) → with_number part_number (part_number p) parts ≡ some p
 unfolding with_number
@@ -76,6 +77,7 @@ part_of counterparty_part = refl
 part_of order_part = refl
 part_of end_verdict_part = refl
 part_of version_part = refl
+part_of second_part = refl
 
 pub is-part : (p q : Part) → is_part p q ≡ true → p ≡ q
 is-part = same-number part_number parts part_of

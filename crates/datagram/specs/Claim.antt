@@ -5,10 +5,12 @@ use Rattle.wire.specs.Choice.{with_number}
 
 pub data Claim : Type 0 where
   commitment_present acknowledgement_present receipt_absent next_receive_is end_is timeout_receipt_present : Claim
+  commitment_absent next_send_is : Claim
 
 abbrev pub claims : List Claim
 claims =
-    commitment_present ∷ acknowledgement_present ∷ receipt_absent ∷ next_receive_is ∷ end_is ∷ timeout_receipt_present ∷ []
+    commitment_present ∷ acknowledgement_present ∷ receipt_absent ∷ next_receive_is ∷ end_is ∷ timeout_receipt_present ∷
+    commitment_absent ∷ next_send_is ∷ []
 
 abbrev pub claim_number : Claim → ℕ
 claim_number commitment_present = 1
@@ -17,6 +19,8 @@ claim_number receipt_absent = 3
 claim_number next_receive_is = 4
 claim_number end_is = 5
 claim_number timeout_receipt_present = 6
+claim_number commitment_absent = 7
+claim_number next_send_is = 8
 
 -- the claim of a number: none where no claim has it
 abbrev pub claim_of : ℕ → Option Claim

@@ -19,9 +19,9 @@ use Rattle.datagram.specs.declared.EndVerdict.{EndVerdict}
 use Rattle.wire.specs.Frame.{frame_size}
 use Rattle.datagram.specs.Kind.{Kind, send, receive, write, acknowledge, time_out}
 use Rattle.datagram.specs.Kind.{open_init, open_try, open_acknowledge, open_confirm}
-use Rattle.datagram.specs.Kind.{close_init, close_confirm, time_out_on_close, kind_of}
+use Rattle.datagram.specs.Kind.{close_init, close_confirm, time_out_on_close, prune, kind_of}
 use Rattle.datagram.specs.Kind.{Part, channel_part, sequence_part, timeout_part, digest_part, packet_part, verdict_part}
-use Rattle.datagram.specs.Kind.{port_part, counterparty_part, order_part, end_verdict_part, version_part}
+use Rattle.datagram.specs.Kind.{port_part, counterparty_part, order_part, end_verdict_part, version_part, second_part}
 use Rattle.datagram.specs.Kind.{is_part, body_of, place_of, is_sized}
 use Rattle.datagram.specs.Claim.{claim_of}
 
@@ -80,6 +80,9 @@ packet_from k d = packet_in (place_of packet_part k) d
 unfoldable pub verdict_from : Option Kind → List ℕ → Verdict
 verdict_from k d = verdict_in (place_of verdict_part k) d
 
+unfoldable pub second_from : Option Kind → List ℕ → Verdict
+second_from k d = verdict_in (place_of second_part k) d
+
 unfoldable pub timeout_from : Option Kind → List ℕ → Timeout
 timeout_from k d = timeout_in (place_of timeout_part k) d
 
@@ -121,6 +124,7 @@ channel_from (some open_confirm) d = own_channel open_confirm d
 channel_from (some close_init) d = own_channel close_init d
 channel_from (some close_confirm) d = own_channel close_confirm d
 channel_from (some time_out_on_close) d = (packet_from (some time_out_on_close) d).source.channel
+channel_from (some prune) d = own_channel prune d
 
 -- A DATAGRAM as the rules see it. A part that its kind lacks is read all the same, and no rule looks at it
 pub record Datagram : Type 0 where
@@ -132,6 +136,7 @@ pub record Datagram : Type 0 where
   pub packet : Packet
   pub digest : List ℕ
   pub verdict : Verdict
+  pub second : Verdict
   pub end_verdict : EndVerdict
   pub counterparty : PortChannel
   pub order : ℕ
@@ -148,6 +153,7 @@ datagram_of k d =
       packet = packet_from k d;
       digest = digest_from k d;
       verdict = verdict_from k d;
+      second = second_from k d;
       end_verdict = end_verdict_from k d;
       counterparty = counterparty_from k d;
       order = order_from k d;
@@ -174,7 +180,8 @@ unfoldable pub verdicts_in : Datagram → List Part → List AnyVerdict
 verdicts_in d [] = []
 verdicts_in d (p ∷ ps) =
     pick (is_part verdict_part p) (on_packet d.verdict ∷ verdicts_in d ps)
-    (pick (is_part end_verdict_part p) (on_end d.end_verdict ∷ verdicts_in d ps) (verdicts_in d ps))
+    (pick (is_part second_part p) (on_packet d.second ∷ verdicts_in d ps)
+    (pick (is_part end_verdict_part p) (on_end d.end_verdict ∷ verdicts_in d ps) (verdicts_in d ps)))
 
 abbrev pub verdicts_of : Datagram → List AnyVerdict
 verdicts_of d = verdicts_in d (body_of d.kind)
@@ -194,6 +201,7 @@ is_part_sound d counterparty_part = true
 is_part_sound d order_part = is_order d.order
 is_part_sound d end_verdict_part = is_some (claim_of d.end_verdict.claim)
 is_part_sound d version_part = true
+is_part_sound d second_part = is_some (claim_of d.second.claim)
 
 unfoldable pub are_parts_sound : Datagram → List Part → Bool
 are_parts_sound d [] = true

@@ -10,11 +10,12 @@ pub data Kind : Type 0 where
   send receive write acknowledge time_out : Kind
   open_init open_try open_acknowledge open_confirm : Kind
   close_init close_confirm time_out_on_close : Kind
+  prune : Kind
 
 abbrev pub kinds : List Kind
 kinds =
     send ∷ receive ∷ write ∷ acknowledge ∷ time_out ∷ open_init ∷ open_try ∷ open_acknowledge ∷ open_confirm ∷
-    close_init ∷ close_confirm ∷ time_out_on_close ∷ []
+    close_init ∷ close_confirm ∷ time_out_on_close ∷ prune ∷ []
 
 abbrev pub kind_number : Kind → ℕ
 kind_number send = 1
@@ -29,6 +30,7 @@ kind_number open_confirm = 9
 kind_number close_init = 10
 kind_number close_confirm = 11
 kind_number time_out_on_close = 12
+kind_number prune = 13
 
 -- THE KIND of a number: none where no datagram has it
 abbrev pub kind_of : ℕ → Option Kind
@@ -61,10 +63,10 @@ abbrev pub end_verdict_size : ℕ
 end_verdict_size = 18 + slot_size
 
 -- THE PARTS of a body. Port and counterparty: the port and the channel of the other end. A version is the rest of the
--- datagram, of any size
+-- datagram, of any size. A second verdict stands behind the first one
 pub data Part : Type 0 where
   channel_part sequence_part timeout_part digest_part packet_part verdict_part : Part
-  port_part counterparty_part order_part end_verdict_part version_part : Part
+  port_part counterparty_part order_part end_verdict_part version_part second_part : Part
 
 abbrev pub part_size : Part → ℕ
 part_size channel_part = 4
@@ -78,6 +80,7 @@ part_size counterparty_part = 4
 part_size order_part = 1
 part_size end_verdict_part = end_verdict_size
 part_size version_part = 0
+part_size second_part = verdict_size
 
 -- THE BODY by kind, behind the context
 unfoldable pub body : Kind → List Part
@@ -93,6 +96,7 @@ body open_confirm = channel_part ∷ end_verdict_part ∷ []
 body close_init = channel_part ∷ []
 body close_confirm = channel_part ∷ end_verdict_part ∷ []
 body time_out_on_close = packet_part ∷ end_verdict_part ∷ verdict_part ∷ []
+body prune = channel_part ∷ sequence_part ∷ verdict_part ∷ second_part ∷ []
 
 abbrev pub body_of : Option Kind → List Part
 body_of none = []
@@ -111,6 +115,7 @@ part_number counterparty_part = 8
 part_number order_part = 9
 part_number end_verdict_part = 10
 part_number version_part = 11
+part_number second_part = 12
 
 abbrev pub is_part : Part → Part → Bool
 is_part p q = eqb (part_number p) (part_number q)

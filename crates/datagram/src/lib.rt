@@ -56,6 +56,11 @@ impl Verdict {
     pub const NEXT_RECEIVE_IS: u16 = 4;
 
     pub const TIMEOUT_RECEIPT_PRESENT: u16 = 6;
+
+    pub const COMMITMENT_ABSENT: u16 = 7;
+
+    // next send equals the verdict's sequence
+    pub const NEXT_SEND_IS: u16 = 8;
 }
 
 // What it found of a channel end there.
@@ -67,7 +72,7 @@ pub struct EndVerdict {
     pub end: Channel,
 }
 
-// Its claim: the end's record, of this kind, is this one once its counters are zero.
+// Its claim: the end's record, of this kind, is this one once its counters and its mark are zero.
 impl EndVerdict {
     pub const END_IS: u16 = 5;
 }

@@ -21,6 +21,7 @@ pub const END_VERDICT: usize = 82;
 // THE BODY by kind. 1: channel, timeouts, digest. 2 and 5: packet, verdict. 3: channel, sequence, digest.
 // 4: packet, digest, verdict. 6: port, order, version. 7: port, counterparty, order, end verdict, version.
 // 8: channel, counterparty, end verdict. 9 and 11: channel, end verdict. 10: channel. 12: packet, end verdict, verdict.
+// 13: channel, sequence, two verdicts.
 pub fn digest_place(kind: u16) -> usize
     requires { has_part digest_part (body_of (kind_of kind)) ≡ true }
     ensures { result ≡ place_of digest_part (kind_of kind) }
@@ -39,6 +40,7 @@ pub fn verdict_place(kind: u16) -> usize
     match kind {
         4 => BODY + PACKET + DIGEST,
         12 => BODY + PACKET + END_VERDICT,
+        13 => BODY + 12,
         _ => BODY + PACKET,
     }
 }

@@ -12,7 +12,7 @@ ghost use Rattle.datagram.specs.Datagram.{digest_from, verdict_from, end_verdict
 ghost use Rattle.datagram.specs.Datagram.{channel_from};
 
 use super::place::{
-    BODY, counterparty_place, digest_place, end_verdict_place, order_place, verdict_place,
+    BODY, VERDICT, counterparty_place, digest_place, end_verdict_place, order_place, verdict_place,
 };
 use super::{Block, Context, EndVerdict, Packet, Verdict};
 use slots::part::{port_channel_at, timeout_at};
@@ -116,6 +116,14 @@ pub fn counterparty_port_in(d: &[u8]) -> u16
     u16_at(d, BODY)
 }
 
+// The second verdict of 13.
+pub fn second_in(d: &[u8]) -> Verdict
+    requires { body_from + 12 + verdict_size + verdict_size ≤ length d.now }
+    ensures { result ≡ verdict_in (body_from + 12 + verdict_size) d.now }
+{
+    verdict_at(d, BODY + 12 + VERDICT)
+}
+
 // BY KIND, each for the kinds that have the part: the digest of 1, 3 and 4.
 pub fn digest_in(d: &[u8], kind: u16) -> [u8; 32]
     requires { (has_part digest_part (body_of (kind_of kind)) ≡ true) × (size_of (kind_of kind) ≤ length d.now) }
@@ -124,7 +132,7 @@ pub fn digest_in(d: &[u8], kind: u16) -> [u8; 32]
     digest_at(d, digest_place(kind))
 }
 
-// The verdict of 2, 4, 5 and 12.
+// The verdict of 2, 4, 5 and 12, and the first one of 13.
 pub fn verdict_in(d: &[u8], kind: u16) -> Verdict
     requires { (has_part verdict_part (body_of (kind_of kind)) ≡ true) × (size_of (kind_of kind) ≤ length d.now) }
     ensures { result ≡ verdict_from (kind_of kind) d.now }
@@ -156,14 +164,14 @@ pub fn order_in(d: &[u8], kind: u16) -> u8
     d[order_place(kind)]
 }
 
-// The channel that it is about: its own for 1, 3 and 8 to 11, the destination for 2, the source for 4, 5 and 12. The
-// others make an end, or are unknown, and are about none.
+// The channel that it is about: its own for 1, 3, 8 to 11 and 13, the destination for 2, the source for 4, 5 and 12.
+// The others make an end, or are unknown, and are about none.
 pub fn channel_in(d: &[u8], kind: u16) -> u32
     requires { size_of (kind_of kind) ≤ length d.now }
     ensures { result ≡ channel_from (kind_of kind) d.now }
 {
     match kind {
-        1 | 3 | 8 | 9 | 10 | 11 => u32_at(d, BODY),
+        1 | 3 | 8 | 9 | 10 | 11 | 13 => u32_at(d, BODY),
         2 => u32_at(d, BODY + 32),
         4 | 5 | 12 => u32_at(d, BODY + 26),
         _ => 0,

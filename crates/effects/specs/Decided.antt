@@ -1,8 +1,9 @@
 -- The effect that a decision tells, and what must be left for it.
-use Rattle.std.specs.Prelude.{◌≡◌, false, ℕ}
+use Rattle.std.specs.Prelude.{◌≡◌, false, ℕ, eqb}
 use Rattle.std.proofs.Math.Option.{Option, some}
 use Rattle.slots.specs.declared.Channel.{Channel}
-use Rattle.datagram.specs.Kind.{Kind, send, receive, acknowledge, time_out, open_init, open_try, time_out_on_close}
+use Rattle.slots.specs.Limits.{top}
+use Rattle.datagram.specs.Kind.{Kind, send, receive, acknowledge, time_out, open_init, open_try, time_out_on_close, prune}
 use Rattle.datagram.specs.Datagram.{Datagram}
 use Rattle.emit.specs.Output.{emitted_by}
 use Rattle.rules.specs.Ordering.{is_send_at_top, is_receive_at_top, is_acknowledge_at_top, is_timeout_at_top}
@@ -24,7 +25,7 @@ ends_by d = end_edit_of d.ends d.end
 abbrev pub effect_by : Decision → Effect
 effect_by d = effect (ends_by d) (edit_by d.edit) (emitted_by d.emission)
 
--- WHAT MUST BE LEFT, by kind: a counter that rises is below its top, and there is a number for a new end
+-- WHAT MUST BE LEFT, by kind: a counter or a mark that rises is below its top, and there is a number for a new end
 pub record Left (k : Option Kind) (next : ℕ) (c : Channel) (d : Datagram) : Type 0 where
   pub sends : k ≡ some send → is_send_at_top c ≡ false
   pub receives : k ≡ some receive → is_receive_at_top c ≡ false
@@ -33,3 +34,4 @@ pub record Left (k : Option Kind) (next : ℕ) (c : Channel) (d : Datagram) : Ty
   pub times_out_on_close : k ≡ some time_out_on_close → is_timeout_at_top c ≡ false
   pub inits : k ≡ some open_init → NumberLeft next d
   pub tries : k ≡ some open_try → NumberLeft next d
+  pub prunes : k ≡ some prune → eqb c.mark top ≡ false

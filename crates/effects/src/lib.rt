@@ -3,25 +3,26 @@
 // is about a packet.
 #![tactic(auto)]
 
-ghost use Rattle.std.specs.Prelude.{◌≡◌, true, false, ◌+◌, ◌≤◌, length};
+ghost use Rattle.std.specs.Prelude.{◌≡◌, true, false, ◌+◌, ◌≤◌, eqb, length};
 ghost use Rattle.std.proofs.Math.Option.{some};
 ghost use Rattle.wire.specs.Choice.{is_some};
-ghost use Rattle.datagram.specs.Kind.{send, receive, write, acknowledge, kind_of, body_from, packet_size, size_of};
+ghost use Rattle.slots.specs.Limits.{top};
+ghost use Rattle.datagram.specs.Kind.{send, receive, write, acknowledge, prune, kind_of, body_from, packet_size, size_of};
 ghost use Rattle.datagram.specs.Datagram.{packet_in, packet_from, sequence_from, digest_from, datagram_of};
 ghost use Rattle.rules.specs.Ordering.{received_kind, is_send_at_top, is_receive_at_top, is_acknowledge_at_top, is_timeout_at_top};
 ghost use Rattle.rules.specs.Refusals.{comes_late};
-ghost use Rattle.rules.specs.Acceptance.{sent_packet, commitment, sends, receives};
-ghost use Rattle.rules.specs.Acceptance.{writes_acknowledgement, acknowledges, times_out, makes, moves, effect_for};
+ghost use Rattle.rules.specs.Acceptance.{sent_packet, commitment, sends, receives, writes_acknowledgement, acknowledges};
+ghost use Rattle.rules.specs.Acceptance.{times_out, makes, moves, prunes_at, effect_for};
 ghost use Rattle.effects.specs.Decided.{effect_by, Left};
 
 use datagram::Packet;
 use datagram::read::{context_in, digest_in, packet_in, sequence_in, timeout_in};
 use emit::{DELIVERED, Emission, Form, LAPSED, SENT, TIMED_OUT, made, nothing};
-use ends::{acknowledged_end, received_end, sent_end, timed_out_end};
+use ends::{acknowledged_end, pruned_end, received_end, sent_end, timed_out_end};
 use heights::is_late_at_receiver;
 use lifecycle::{answered_end, closed_end, init_end, opened_end, tried_end};
 use ordering::lapses;
-use records::{Action, RecordEdit, freed_commitment, no_edit, plain_record, received_edit};
+use records::{Action, RecordEdit, freed_commitment, no_edit, plain_record, pruned, received_edit};
 use slots::{Channel, Record, Timeout};
 
 // The ends stay, the one of this number becomes this one, or a new one takes the next channel number.
@@ -207,13 +208,11 @@ fn decide_made(end: Channel) -> Decision
     ensures { effect_by result ≡ makes end }
 {
     let own = end.own;
-    let edit = no_edit();
-    let emission = made(own);
     Decision {
         ends: EndAction::Adds,
         end: end,
-        edit: edit,
-        emission: emission,
+        edit: no_edit(),
+        emission: made(own),
     }
 }
 
@@ -221,17 +220,29 @@ fn decide_made(end: Channel) -> Decision
 fn decide_moved(end: Channel) -> Decision
     ensures { effect_by result ≡ moves end }
 {
-    let edit = no_edit();
-    let emission = nothing();
     Decision {
         ends: EndAction::Puts,
         end: end,
-        edit: edit,
-        emission: emission,
+        edit: no_edit(),
+        emission: nothing(),
     }
 }
 
-// An accepted datagram's kind is known, and what it needs is left: a counter below its top, or a channel number.
+// The mark rises, and what there is of its sequence becomes free.
+fn decide_prune(d: &[u8], c: Channel) -> Decision
+    requires { (size_of (some prune) ≤ length d.now) × (eqb c.mark top ≡ false) }
+    ensures { effect_by result ≡ prunes_at c (sequence_from (some prune) d.now) }
+{
+    Decision {
+        ends: EndAction::Puts,
+        end: pruned_end(c),
+        edit: pruned(c, sequence_in(d)),
+        emission: nothing(),
+    }
+}
+
+// An accepted datagram's kind is known, and what it needs is left: a counter or a mark below its top, or a channel
+// number.
 pub fn decide(d: &[u8], kind: u16, next: u64, c: Channel) -> Decision
     requires { (is_some (kind_of kind) ≡ true) × (size_of (kind_of kind) ≤ length d.now) ×
         Left (kind_of kind) next c (datagram_of (kind_of kind) d.now) }
@@ -247,6 +258,7 @@ pub fn decide(d: &[u8], kind: u16, next: u64, c: Channel) -> Decision
         7 => decide_made(tried_end(d, next)),
         8 => decide_moved(answered_end(d, c)),
         9 => decide_moved(opened_end(c)),
+        13 => decide_prune(d, c),
         _ => decide_moved(closed_end(c)),
     }
 }

@@ -5,7 +5,8 @@ ghost use Rattle.std.specs.Prelude.{◌≡◌, false, ◌+◌, eqb};
 ghost use Rattle.wire.specs.Choice.{◌and◌, pick};
 ghost use Rattle.slots.specs.Limits.{top};
 ghost use Rattle.rules.specs.Ordering.{is_send_at_top, is_receive_at_top, is_acknowledge_at_top, is_timeout_at_top, counted};
-ghost use Rattle.rules.specs.Ordering.{raised_send, raised_acknowledge, received_end, acknowledged_end, timed_out_end};
+ghost use Rattle.rules.specs.Ordering.{marked, raised_send, raised_acknowledge, received_end, acknowledged_end};
+ghost use Rattle.rules.specs.Ordering.{timed_out_end};
 
 use lifecycle::closed_end;
 use ordering::{counts_timeouts, raises_counter};
@@ -36,6 +37,7 @@ fn with_counters(c: Channel, next: Counters) -> Channel
         counterparty: counterparty,
         next: next,
         version: version,
+        mark: c.mark,
     }
 }
 
@@ -95,4 +97,25 @@ pub fn timed_out_end(c: Channel) -> Channel
         return closed_end(c);
     }
     with_acknowledge(c, counts_timeouts(c))
+}
+
+// The sequence of the mark is pruned. The mark is below 2^64 - 1: the datagram states a next send above it.
+pub fn pruned_end(c: Channel) -> Channel
+    requires { eqb c.mark top ≡ false }
+    ensures { result ≡ marked c }
+{
+    let mark = c.mark + 1;
+    let own = c.own;
+    let counterparty = c.counterparty;
+    let next = c.next;
+    let version = c.version;
+    Channel {
+        state: c.state,
+        order: c.order,
+        own: own,
+        counterparty: counterparty,
+        next: next,
+        version: version,
+        mark: mark,
+    }
 }

@@ -1,26 +1,26 @@
 // Whether an entry of a store fits: a channel end by itself, and a packet record beside its channel end.
 #![tactic(auto)]
 
-ghost use Rattle.std.specs.Prelude.{◌≡◌, ◌+◌, ◌≤◌, length};
+ghost use Rattle.std.specs.Prelude.{◌≡◌, not, ◌+◌, ◌≤◌, length};
 ghost use Rattle.std.proofs.Math.Option.{some};
 ghost use Rattle.wire.specs.Choice.{◌and◌, is_some};
 ghost use Rattle.wire.specs.Bytes.{part};
 ghost use Rattle.slots.specs.Height.{no_timeout, same_timeout};
 ghost use Rattle.slots.specs.Table.{lookup};
 ghost use Rattle.slots.specs.Layout.{slot_size, size_for, channel_in, store_in};
-ghost use Rattle.slots.specs.Ordering.{is_received};
+ghost use Rattle.slots.specs.Ordering.{is_pruned, is_received};
 ghost use Rattle.slots.specs.Fit.{channel_fits, has_zero_timeouts_and_digest, fits_end, record_fits};
 
 use slots::slot::channel_at;
 use slots::{Channel, Found, Key, Layout, Record, Timeout};
-use tables::ordering::{may_have_receipt, may_have_timeout_receipt};
+use tables::ordering::{is_pruned, may_have_receipt, may_have_timeout_receipt};
 use tables::scan::{find_channel, first_record, is_found};
 use versions::is_padded;
 use wire::{is_zero_digest, u32_at, u64_at};
 
 // INIT, TRYOPEN, OPEN or CLOSED, a known order, counters at least 1, a version with zeros behind it; an INIT end
-// names no counterparty's channel. The channel record from `at` on, field by field; the version and the counterparty's
-// channel last, where the other tests passed, since they are dearer.
+// names no counterparty's channel; the mark is at least 1, and 1 except on unordered channels. The channel record from
+// `at` on, field by field; from the version on where the other tests passed, since that is dearer.
 pub fn channel_fits(s: &[u8], at: usize) -> bool
     requires { at + slot_size ≤ length s.now }
     ensures { result ≡ channel_fits (channel_in (part at slot_size s.now)) }
@@ -31,7 +31,10 @@ pub fn channel_fits(s: &[u8], at: usize) -> bool
         & ((Channel::ORDERED <= order) & (order <= Channel::ALLOW_TIMEOUT))
         & ((1 <= u64_at(s, at + 16)) & (1 <= u64_at(s, at + 24)) & (1 <= u64_at(s, at + 32)))
     {
-        return is_padded(s, at + 40) & ((state != Channel::INIT) | (u32_at(s, at + 12) == 0));
+        let mark = u64_at(s, at + 56);
+        return is_padded(s, at + 40)
+            & ((state != Channel::INIT) | (u32_at(s, at + 12) == 0))
+            & ((1 <= mark) & ((order == Channel::UNORDERED) | (mark == 1)));
     }
     false
 }
@@ -82,12 +85,15 @@ fn is_received(s: &[u8], count: usize, c: Channel, sequence: u64) -> bool
     sequence < c.next.receive
 }
 
+// Of a received packet, with zero timeouts, and not below the mark.
 fn acknowledgement_fits(s: &[u8], count: usize, r: Record, c: Channel) -> bool
     requires { length s.now ≡ size_for count }
-    ensures { result ≡ (same_timeout r.timeout no_timeout and is_received (store_in s.now).records c r.sequence) }
+    ensures { result ≡
+        (same_timeout r.timeout no_timeout and is_received (store_in s.now).records c r.sequence and
+        not (is_pruned c r.sequence)) }
 {
     let t = r.timeout;
-    is_no_timeout(t) & is_received(s, count, c, r.sequence)
+    is_no_timeout(t) & is_received(s, count, c, r.sequence) & !is_pruned(c, r.sequence)
 }
 
 // By kind, on the record's own channel end. A timeout receipt is no arm of its own: the match on four kinds that stand
@@ -99,7 +105,9 @@ fn fits_end(s: &[u8], count: usize, r: Record, c: Channel) -> bool
     let kind = r.kind;
     match kind {
         Record::COMMITMENT => r.sequence < c.next.send,
-        Record::RECEIPT => may_have_receipt(c) & has_zero_timeouts_and_digest(r),
+        Record::RECEIPT => {
+            may_have_receipt(c) & has_zero_timeouts_and_digest(r) & !is_pruned(c, r.sequence)
+        }
         Record::ACKNOWLEDGEMENT => acknowledgement_fits(s, count, r, c),
         _ => {
             (kind == Record::TIMEOUT_RECEIPT)

@@ -12,7 +12,7 @@ use Rattle.slots.specs.declared.Record.{Record}
 use Rattle.slots.specs.Codes.{commitment_kind, receipt_kind, acknowledgement_kind, timeout_receipt_kind}
 use Rattle.slots.specs.Height.{no_timeout, same_timeout}
 use Rattle.slots.specs.Layout.{Store}
-use Rattle.slots.specs.Ordering.{is_unordered, is_taken, is_lapsed, is_received, has_receipt}
+use Rattle.slots.specs.Ordering.{is_unordered, is_pruned, is_recorded, is_lapsed, is_received, has_receipt}
 use Rattle.slots.specs.Ordering.{may_have_receipt, may_have_timeout_receipt}
 use Rattle.slots.specs.Fit.{has_zero_timeouts_and_digest, fits_end}
 use Rattle.runs.specs.Run.{fits_beside}
@@ -34,16 +34,16 @@ module _ (s : Store) (r : Record) (c : Channel) where
   received-told : is_received s.records c r.sequence ≡ true → (b : Bool) →
       (may_have_receipt c ≡ true → has_receipt s.records c r.sequence ≡ true → b ≡ true) →
       pick (may_have_receipt c) b (ltb r.sequence c.next.receive) ≡ true
-  unfolding is_received is_taken may_have_receipt
+  unfolding is_received is_recorded may_have_receipt
   received-told h b p =
-      let taken = (and_both h).0 in
-      cases (is_unordered c) (λ u. let e = p u (rw u at taken) in rw (u, e)) (λ u. rw u (rw u at taken))
+      let there = (and_both h).0 in
+      cases (is_unordered c) (λ u. let e = p u (rw u at there) in rw (u, e)) (λ u. rw u (rw u at there))
 
   told-received : (b : Bool) → (may_have_receipt c ≡ true → b ≡ true → has_receipt s.records c r.sequence ≡ true) →
       is_lapsed s.records c r.sequence ≡ false →
       pick (may_have_receipt c) b (ltb r.sequence c.next.receive) ≡ true →
       is_received s.records c r.sequence ≡ true
-  unfolding is_received is_taken may_have_receipt
+  unfolding is_received is_recorded may_have_receipt
   told-received b p l h =
       both-and (cases (is_unordered c) (λ u. rw u (p u (rw u at h))) (λ u. rw u (rw u at h))) (ap not l)
 
@@ -58,9 +58,10 @@ module _ (s : Store) (r : Record) (c : Channel) where
       rw (a, d, e) (both-and h (ap not (q (eqb-true r.kind timeout_receipt_kind e)))))
       (λ a d e.
       let h : (eqb r.kind acknowledgement_kind and same_timeout r.timeout no_timeout and
-      is_received s.records c r.sequence) ≡ true = rw (a, d, e) at f in
-      let both = and_both h in
-      rw (a, d, e) (both-and both.0 (received-told both.1 b (p (eqb-true _ _ (and_both both.0).0)))))
+      is_received s.records c r.sequence and not (is_pruned c r.sequence)) ≡ true = rw (a, d, e) at f in
+      let both = and_both (and_both h).0 in
+      let told = received-told both.1 b (p (eqb-true _ _ (and_both both.0).0)) in
+      rw (a, d, e) (both-and (both-and both.0 told) (and_both h).1))
 
   pub beside_end : (b : Bool) → fits_beside b r c ≡ true →
       (r.kind ≡ acknowledgement_kind → may_have_receipt c ≡ true → b ≡ true →
@@ -75,10 +76,11 @@ module _ (s : Store) (r : Record) (c : Channel) where
       rw (a, d, e) (and_both h).0)
       (λ a d e.
       let h : (eqb r.kind acknowledgement_kind and same_timeout r.timeout no_timeout and
-      pick (may_have_receipt c) b (ltb r.sequence c.next.receive)) ≡ true = rw (a, d, e) at f in
-      let both = and_both h in
+      pick (may_have_receipt c) b (ltb r.sequence c.next.receive) and not (is_pruned c r.sequence)) ≡ true =
+      rw (a, d, e) at f in
+      let both = and_both (and_both h).0 in
       let k = eqb-true _ _ (and_both both.0).0 in
-      rw (a, d, e) (both-and both.0 (told-received b (p k) (q k) both.1)))
+      rw (a, d, e) (both-and (both-and both.0 (told-received b (p k) (q k) both.1)) (and_both h).1))
 
   -- WHAT ITS END TELLS of an acknowledgement, and of a timeout receipt
   apart : (x y : ℕ) → r.kind ≡ x → eqb x y ≡ false → eqb r.kind y ≡ false
@@ -92,8 +94,8 @@ module _ (s : Store) (r : Record) (c : Channel) where
       let d = apart acknowledgement_kind receipt_kind e refl in
       let g = apart acknowledgement_kind timeout_receipt_kind e refl in
       let h : (eqb r.kind acknowledgement_kind and same_timeout r.timeout no_timeout and
-      is_received s.records c r.sequence) ≡ true = rw (a, d, g) at f in
-      (and_both h).1
+      is_received s.records c r.sequence and not (is_pruned c r.sequence)) ≡ true = rw (a, d, g) at f in
+      (and_both (and_both h).0).1
 
   pub end-lapsed : fits_end s r (some c) ≡ true → r.kind ≡ timeout_receipt_kind →
       may_have_timeout_receipt c r.sequence ≡ true

@@ -64,7 +64,8 @@ checked-none bs n =
       end = λ l. absurd (omega arith);
     }
 
-module _ (bs : List ℕ) (bytes : Bytes bs) (n : ℕ) (size : length bs ≡ size_for n) (i j p : ℕ) (g : Checked bs n i j p) where
+module _ (bs : List ℕ) (bytes : Bytes bs) (n : ℕ) (size : length bs ≡ size_for n) (i j p : ℕ)
+    (g : Checked bs n i j p) where
   -- ALL IS FREE BEHIND
   checked-free : ((k : ℕ) → i ≤ k → k < n → are_zero (slot_at records_from bs k) ≡ true) →
       At i ≡ used_if (records_fit bs n) bs

@@ -26,6 +26,7 @@ fn same_but_version(a: Channel, b: Channel) -> bool
         & ((a.next.send == b.next.send)
             & (a.next.receive == b.next.receive)
             & (a.next.acknowledge == b.next.acknowledge))
+        & (a.mark == b.mark)
 }
 
 // For 7 to 9, 11 and 12: 140 the claim, 145 the record but for its version; 0 where none of them differs.
@@ -51,7 +52,7 @@ pub fn has_version(v: EndVerdict, needed: Channel) -> bool
     same_version(shown, version)
 }
 
-// A verdict shows an end with zero counters.
+// A verdict shows an end with zero counters and mark.
 fn needed_end(
     state: u8,
     order: u8,
@@ -72,6 +73,7 @@ fn needed_end(
             acknowledge: 0,
         },
         version: version,
+        mark: 0,
     }
 }
 
@@ -149,6 +151,7 @@ pub fn new_end(
             acknowledge: 1,
         },
         version: version,
+        mark: 1,
     }
 }
 
@@ -166,6 +169,7 @@ pub fn moved(state: u8, counterparty: PortChannel, c: Channel) -> Channel
         counterparty: counterparty,
         next: next,
         version: version,
+        mark: c.mark,
     }
 }
 
@@ -190,5 +194,6 @@ pub fn no_channel() -> Channel
             acknowledge: 0,
         },
         version: [0u8; VERSION],
+        mark: 0,
     }
 }

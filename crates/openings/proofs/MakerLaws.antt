@@ -3,14 +3,14 @@ use Rattle.wire.proofs.Prelude.{◌≡◌, refl, ◌∙◌, Bool, true, not, Lis
 use Rattle.wire.proofs.Prelude.{zero, suc, ◌-◌, ◌/◌, ◌%◌, ◌^◌, ◌≤◌, arith, ltb, eqb, length, replicate, length-append}
 use Rattle.wire.proofs.Prelude.{length-replicate, length-map, ltb-false, lt-ltb, le-leb, eq-eqb, not-false}
 use Rattle.wire.specs.Names.{◌and◌, ◌or◌, Every, Bytes, are_zero}
-use Rattle.wire.proofs.Laws.{and_both, both-and, pick-zero, every_map, every-get_or, Byte, bytes-zeros}
+use Rattle.wire.proofs.Laws.{cases, and_both, both-and, pick-zero, every_map, every-get_or, Byte, bytes-zeros}
 use Rattle.wire.proofs.Laws.{field_below, length-pieces, every-pieces}
 use Rattle.slots.specs.declared.Channel.{Channel}
 use Rattle.slots.specs.declared.Record.{Record}
 use Rattle.slots.specs.declared.Key.{Key}
 use Rattle.slots.specs.Names.{channel_limit, version_size, no_version, is_padded, find, count, distinct, has_key}
 use Rattle.slots.specs.Names.{lookup, is_commitment_on, commitments, is_numbered, same_number, channel_at, precedes}
-use Rattle.slots.specs.Names.{room_in, bytes_of}
+use Rattle.slots.specs.Names.{room_in, bytes_of, is_unordered, mark_fits}
 use Rattle.slots.specs.Names.{names_none, channel_fits, channels_fit, is_below, numbers_fit, record_fits, entries_fit}
 use Rattle.slots.specs.Names.{store_fits, size_fits}
 use Rattle.openings.specs.Opening.{opening_size}
@@ -77,6 +77,7 @@ opening-fields o b =
       own = record { port = field_below _ _ o b; channel = field_below _ _ o b };
       counterparty = record { port = field_below _ _ o b; channel = field_below _ _ o b };
       next = record { send = omega arith; receive = omega arith; acknowledge = omega arith };
+      mark = omega arith;
       size = refl;
       bytes = bytes-zeros version_size;
     }
@@ -89,12 +90,16 @@ opening-names : (o : List ℕ) → names_none (opening_of o) ≡ true
 unfolding names_none opening_of ◌or◌
 opening-names o = refl
 
+opening-mark : (o : List ℕ) → mark_fits (opening_of o) ≡ true
+unfolding mark_fits opening_of ◌and◌ ◌or◌
+opening-mark o = cases (is_unordered (opening_of o)) (λ e. rw e) (λ e. rw e)
+
 opening-fits : (o : List ℕ) → opening_fits o ≡ true → channel_fits (opening_of o) ≡ true
 unfolding opening_fits channel_fits opening_of
 opening-fits o h =
     let codes = both-and (both-and refl refl) (and_both (and_both h).0).1 in
     let counters = both-and (both-and refl refl) refl in
-    both-and (both-and (both-and codes counters) no-version-fits) (opening-names o)
+    both-and (both-and (both-and (both-and codes counters) no-version-fits) (opening-names o)) (opening-mark o)
 
 openings-fit : (ps : List (List ℕ)) → all_openings_fit ps ≡ true → Every (λ o. opening_fits o ≡ true) ps
 unfolding all_openings_fit

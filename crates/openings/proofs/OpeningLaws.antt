@@ -60,6 +60,7 @@ module _ (at : ℕ) (bs : List ℕ) (room : at + opening_size ≤ length bs) whe
         counterparty = f;
         next = record { send = 1; receive = 1; acknowledge = 1 };
         version = no_version;
+        mark = 1;
       } ≡ opening_of (part at opening_size bs)
   unfolding opening_of
   opening-read x e f = λ i.
@@ -70,6 +71,7 @@ module _ (at : ℕ) (bs : List ℕ) (room : at + opening_size ≤ length bs) whe
         counterparty = (f ∙ sym (end-part 12 at opening_size bs (omega arith))) i;
         next = record { send = 1; receive = 1; acknowledge = 1 };
         version = no_version;
+        mark = 1;
       }
 
 pub length-opened : (o : List ℕ) → length (channel_bytes (opening_of o)) ≡ slot_size

@@ -26,7 +26,7 @@ unfoldable pub all_openings_fit : List (List ℕ) → Bool
 all_openings_fit [] = true
 all_openings_fit (o ∷ os) = opening_fits o and all_openings_fit os
 
--- an OPEN end with counters 1 and no version
+-- an OPEN end with counters and mark 1 and no version
 unfoldable pub opening_of : List ℕ → Channel
 opening_of o =
     record {
@@ -36,6 +36,7 @@ opening_of o =
       counterparty = port_channel_in 12 o;
       next = record { send = 1; receive = 1; acknowledge = 1 };
       version = no_version;
+      mark = 1;
     }
 
 unfoldable pub ends_of : List ℕ → List (Option Channel)

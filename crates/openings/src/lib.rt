@@ -76,7 +76,7 @@ pub fn numbers_distinct(openings: &[u8]) -> bool
     true
 }
 
-// An OPEN end with counters 1 and no version, as the opening from `at` on says.
+// An OPEN end with counters and mark 1 and no version, as the opening from `at` on says.
 pub fn opening_at(openings: &[u8], at: usize) -> Channel
     requires { at + opening_size ≤ length openings.now }
     ensures { result ≡ opening_of (part at opening_size openings.now) }
@@ -93,5 +93,6 @@ pub fn opening_at(openings: &[u8], at: usize) -> Channel
             acknowledge: 1,
         },
         version,
+        mark: 1,
     }
 }

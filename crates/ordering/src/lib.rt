@@ -1,6 +1,6 @@
-// What depends on a channel's ordering: lines 11 for 2, 14 for 5 and 12, 15, 16 for 2, 17, 19, and 20 for 2; whether a
-// packet lapses, and which counters rise. The tests of the ordering are tables'. Beside this crate only entries asks
-// them, for the fitness of packet records, and ends, where a time-out closes an ordered channel.
+// What depends on a channel's ordering: lines 11 for 2, 14 for 5 and 12, 15, 16 for 2, 17, 19, 20 for 2, 29; whether a
+// packet lapses, and which counters rise. The tests of the ordering are tables'. Beside this crate entries and
+// runs ask them, for the fitness of packet records, and ends, where a time-out closes an ordered channel.
 #![tactic(auto)]
 
 ghost use Rattle.std.specs.Prelude.{◌≡◌};
@@ -10,15 +10,17 @@ ghost use Rattle.slots.specs.Layout.{store_in};
 ghost use Rattle.slots.specs.Ordering.{is_received};
 ghost use Rattle.slots.specs.Scan.{RecordsInOrder};
 ghost use Rattle.datagram.specs.Claim.{claim_number};
-ghost use Rattle.rules.specs.Ordering.{receives_in_order, refuses_late, lapses, is_receipt_there, raises_receive};
+ghost use Rattle.rules.specs.Ordering.{receives_in_order, refuses_late, lapses, had_receipt, raises_receive};
 ghost use Rattle.rules.specs.Ordering.{acknowledges_in_order, raises_acknowledge, absence_claim, counts_timeouts};
 ghost use Rattle.rules.specs.Ordering.{times_out_in_order, is_send_at_top, is_receive_at_top, is_acknowledge_at_top};
-ghost use Rattle.rules.specs.Ordering.{is_timeout_at_top, needs_record};
+ghost use Rattle.rules.specs.Ordering.{allows_pruning, is_timeout_at_top, needs_record};
 
 use datagram::Verdict;
 use slots::{Channel, Key, Record};
 use tables::halves::has_record;
-use tables::ordering::{allows_timeouts, is_unordered, may_have_receipt, may_have_timeout_receipt};
+use tables::ordering::{
+    allows_timeouts, is_pruned, is_unordered, may_have_receipt, may_have_timeout_receipt,
+};
 
 const TOP: u64 = 18446744073709551615;
 
@@ -79,15 +81,15 @@ fn is_there(store: &[u8], count: usize, kind: u16, c: Channel, sequence: u64) ->
     has_record(store, count, k)
 }
 
-// 16, for 2: a receipt is there. Only an unordered channel has any.
-pub fn is_receipt_there(store: &[u8], count: usize, c: Channel, sequence: u64) -> bool
+// 16, for 2: its receipt is there, or was pruned. Only an unordered channel has receipts.
+pub fn had_receipt(store: &[u8], count: usize, c: Channel, sequence: u64) -> bool
     requires { RecordsInOrder store.now count }
-    ensures { result ≡ is_receipt_there (store_in store.now).records c sequence }
+    ensures { result ≡ had_receipt (store_in store.now).records c sequence }
 {
-    if !is_unordered(c) {
-        return false;
+    if is_unordered(c) {
+        return is_there(store, count, Record::RECEIPT, c, sequence) | is_pruned(c, sequence);
     }
-    is_there(store, count, Record::RECEIPT, c, sequence)
+    is_pruned(c, sequence)
 }
 
 // 17, for 3. Unordered: its receipt is there. Else: the sequence is below next receive, and where timeouts are allowed
@@ -157,4 +159,11 @@ pub fn needs_record(c: Channel, late: bool) -> bool
     ensures { result ≡ needs_record c late }
 {
     !raises_counter(c) | lapses(c, late)
+}
+
+// 29, for 13: a mark rises on unordered channels alone.
+pub fn allows_pruning(c: Channel) -> bool
+    ensures { result ≡ allows_pruning c }
+{
+    is_unordered(c)
 }

@@ -1,80 +1,88 @@
--- The slot that a search found is the one that an edit is on; where none is found, none changes. Assumes nothing.
-use Rattle.wire.proofs.Prelude.{◌≡◌, refl, sym, ap, subst, ◌∙◌, List, Option, ℕ, suc, ◌+◌, ◌≤◌, ◌<◌, arith, ltb, length}
-use Rattle.wire.proofs.Prelude.{ltb-true, ltb-false}
-use Rattle.wire.proofs.Laws.{cases}
+-- The slots that a new record moves, which bytes can be edited, and that they can be once a record became free. Assumes
+-- nothing.
+use Rattle.wire.proofs.Prelude.{◌≡◌, sym, ap, subst, ◌∙◌, true, List, Option, ℕ, ◌+◌, ◌≤◌, ◌<◌, arith, ltb, length}
+use Rattle.wire.proofs.Prelude.{ltb-true, leb-true, le-leb}
+use Rattle.wire.specs.Names.{Bytes}
+use Rattle.wire.proofs.Laws.{and_both, both-and, cases}
 use Rattle.slots.specs.declared.Key.{Key}
 use Rattle.slots.specs.declared.Record.{Record}
-use Rattle.slots.specs.declared.Found.TheVariants.{At, Nothing}
-use Rattle.slots.specs.Table.{has_key, key_of}
-use Rattle.slots.specs.Layout.{Store, bytes_of}
-use Rattle.slots.specs.Effect.{with_records, inserted_at, removed_at}
-use Rattle.slots.specs.Scan.{holds, first_that, place_of, used_slots}
-use Rattle.slots.proofs.Laws.{Ordered}
-use Rattle.slots.proofs.ScanLaws.{found_below, take-out-found, take-out-nothing}
-use Rattle.slots.proofs.SearchLaws.{Spare, insert-place, insert-full, place-used, free-behind}
-use Rattle.rules.specs.Ordering.{Edit, keeps, writes, frees}
-use Rattle.rules.specs.Acceptance.{edited}
-use Rattle.records.specs.Edited.{slot_for, slot_of, spare_slot, with_edit}
+use Rattle.slots.specs.Names.{commitment_kind, timeout_receipt_kind, key_of, insert, remove, all, Store, room_in, bytes_of}
+use Rattle.slots.specs.Names.{store_in}
+use Rattle.slots.specs.Effect.{with_records, inserted_at}
+use Rattle.slots.specs.Scan.{place_of, used_slots, RecordsInOrder}
+use Rattle.slots.proofs.Laws.{Each, all-each, each_map, each_all, Ordered, ordered-remove, each-remove, length-remove}
+use Rattle.slots.proofs.FitLaws.{Known, fits-size, known-fields}
+use Rattle.slots.proofs.HeldLaws.{Held, held-store, held-exact, held-records}
+use Rattle.slots.proofs.SearchLaws.{Spare, insert-place, place-used}
+use Rattle.records.specs.Edited.{is_of_known_kind, Editable, spare_slot}
 
--- THE SLOT FOR A RECORD, where there is one
-slot-for : (k : Key) (rs : List (Option Record)) (i : ℕ) → slot_for k rs ≡ At i → (place_of k rs ≡ i) × (i < length rs)
-unfolding slot_for
-slot-for k rs i h =
-    cases (ltb (place_of k rs) (length rs))
-    (λ e. let z : place_of k rs ≡ i = cc in (z, omega (arith, ltb-true (place_of k rs) (length rs) e)))
-    (λ e. let z : ◌≡◌ {A = ℕ} 0 1 = cc in absurd (omega arith))
-
-no_slot : (k : Key) (rs : List (Option Record)) → slot_for k rs ≡ Nothing → length rs ≤ place_of k rs
-unfolding slot_for
-no_slot k rs h =
-    cases (ltb (place_of k rs) (length rs)) (λ e. let z : ◌≡◌ {A = ℕ} 0 1 = cc in absurd (omega arith))
-    (λ e. ltb-false (place_of k rs) (length rs) e)
-
--- the slot is one of the table's
-pub slot-below : (e : Edit) (rs : List (Option Record)) (i : ℕ) → slot_of e rs ≡ At i → i < length rs
-slot-below keeps rs i h = let z : ◌≡◌ {A = ℕ} 0 1 = cc in absurd (omega arith)
-slot-below (writes r) rs i h = (slot-for (key_of r) rs i h).1
-slot-below (frees k) rs i h = found_below (holds (has_key k)) i rs h
-
--- THE SLOTS THAT MOVE: from that of a new record up to one whose content can go
+-- THE SLOTS THAT MOVE for a new record: from its place up to one whose content can go
 spare : (rs : List (Option Record)) → 1 ≤ length rs → Spare (spare_slot (length rs) (used_slots rs)) rs
 spare rs low =
     cases (ltb (used_slots rs) (length rs))
     (λ e. rw e (ltb-true (used_slots rs) (length rs) e, λ h. omega arith))
     (λ e. rw e (omega arith, λ h. absurd (omega arith)))
 
-pub spare-room : (k : Key) (rs : List (Option Record)) (i : ℕ) → slot_for k rs ≡ At i →
-    let n = spare_slot (length rs) (used_slots rs) in (i ≤ n) × (n < length rs)
-spare-room k rs i h =
-    let at = slot-for k rs i h in
-    let low = place-used rs k in (
-      cases (ltb (used_slots rs) (length rs)) (λ e. rw e (omega arith)) (λ e. rw e (omega (arith, at.1))),
-      (spare rs (omega (arith, at.1))).0,
-    )
+module _ (r : Record) (rs : List (Option Record)) {i : ℕ} (at : i ≡ place_of (key_of r) rs) (below : i < length rs) where
+  abbrev spare_of : ℕ
+  spare_of = spare_slot (length rs) (used_slots rs)
 
-pub written : (s : Store) (i m : ℕ) (r : Record) → Ordered s.records → slot_for (key_of r) s.records ≡ At i →
-    i + m ≡ spare_slot (length s.records) (used_slots s.records) →
-    bytes_of (with_records s (inserted_at i m r s.records)) ≡ bytes_of (with_edit s (writes r))
-unfolding edited
-written s i m r order h l =
-    let at = slot-for (key_of r) s.records i h in
-    let ends : Spare (place_of (key_of r) s.records + m) s.records =
-    subst (λ (n : ℕ). Spare n s.records) (sym l ∙ ap (λ (k : ℕ). k + m) (sym at.0))
-    (spare s.records (omega (arith, at.1))) in
-    let e = insert-place r s.records order m ends in
-    rw (e, at.0)
+  pub spare-room : (i ≤ spare_of) × (spare_of < length rs)
+  spare-room =
+      let low = place-used rs (key_of r) in (
+        cases (ltb (used_slots rs) (length rs)) (λ e. rw e (omega arith)) (λ e. rw e (omega arith)),
+        (spare rs (omega arith)).0,
+      )
 
--- those behind a record that becomes free, up to the last in use
-pub freed : (s : Store) (i m : ℕ) (k : Key) → Ordered s.records → first_that (has_key k) s.records ≡ At i →
-    suc (i + m) ≡ used_slots s.records →
-    bytes_of (with_records s (removed_at i m s.records)) ≡ bytes_of (with_edit s (frees k))
-unfolding edited
-freed s i m k order h l =
-    ap (λ (rs : List (Option Record)). bytes_of (with_records s rs)) (sym (take-out-found (has_key k) i m s.records h
-    (free-behind s.records order (suc (i + m)) (omega arith))))
+  pub inserted : Ordered rs → (m : ℕ) → i + m ≡ spare_of → inserted_at i m r rs ≡ insert r rs
+  inserted order m l =
+      let ends : Spare (place_of (key_of r) rs + m) rs =
+      subst (λ (n : ℕ). Spare n rs) (sym l ∙ ap (λ (k : ℕ). k + m) at) (spare rs (omega arith)) in
+      ap (λ (n : ℕ). inserted_at n m r rs) at ∙ sym (insert-place r rs order m ends)
 
-pub unedited : (e : Edit) (rs : List (Option Record)) → slot_of e rs ≡ Nothing → edited e rs ≡ rs
-unfolding edited
-unedited keeps rs h = refl
-unedited (writes r) rs h = insert-full r rs (no_slot (key_of r) rs h)
-unedited (frees k) rs h = take-out-nothing (has_key k) 0 rs h
+-- A STORE THAT CAN BE EDITED is read in order
+pub editable-in-order : {bs : List ℕ} {used : ℕ} → Editable bs used → RecordsInOrder bs (room_in (length bs))
+editable-in-order {bs} e =
+    let z = fits-size (length bs) e.exact.size in
+    record { low = z.low; size = z.whole; order = e.order }
+
+-- bytes that hold a store with packet records in order can be edited
+pub held-editable : {s : Store} {bs : List ℕ} → Held s bs → Ordered s.records → {n : ℕ} →
+    n ≡ used_slots s.records →
+    Editable bs n
+held-editable {s} h order used =
+    let back = sym (held-store h) in
+    let kinds = each_all is_of_known_kind s.records (each_map
+    (λ r f. both-and (le-leb commitment_kind r.kind f.low) (le-leb r.kind timeout_receipt_kind f.high))
+    s.records h.fields.records) in
+    record {
+      exact = held-exact h;
+      kinds = subst (λ (t : Store). all is_of_known_kind t.records ≡ true) back kinds;
+      order = subst (λ (t : Store). Ordered t.records) back order;
+      in_use = used ∙ ap (λ (t : Store). used_slots t.records) back;
+    }
+
+-- and so can those of the store without a record of it
+module _ (bs : List ℕ) (bytes : Bytes bs) {used : ℕ} (e : Editable bs used) (k : Key) (next : List ℕ)
+    (left : next ≡ bytes_of (with_records (store_in bs) (remove k (store_in bs).records))) where
+  abbrev rs : List (Option Record)
+  rs = (store_in bs).records
+
+  known : Each Known rs
+  known =
+      each_map
+      (λ r h. let b = and_both h in
+      (leb-true commitment_kind r.kind b.0, leb-true r.kind timeout_receipt_kind b.1)) rs
+      (all-each is_of_known_kind rs e.kinds)
+
+  removed-held : Held (with_records (store_in bs) (remove k rs)) next
+  removed-held =
+      let fields = known-fields bs bytes e.exact.size known in
+      held-records record { bytes = sym e.exact.laid; fields = fields } next (remove k rs) (length-remove k rs)
+      (each-remove _ k rs fields.records) left
+
+  pub removed-store : store_in next ≡ with_records (store_in bs) (remove k rs)
+  removed-store = held-store removed-held
+
+  pub removed-editable : {n : ℕ} → n ≡ used_slots (remove k rs) → Editable next n
+  removed-editable h = held-editable removed-held (ordered-remove k rs e.order) h

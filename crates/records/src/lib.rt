@@ -1,15 +1,14 @@
 // What acceptance does to the packet records. Which edit it is, is decided by value; one function carries it out.
 #![tactic(auto)]
 
-ghost use Rattle.std.specs.Prelude.{◌≡◌, true, ◌≤◌};
+ghost use Rattle.std.specs.Prelude.{◌≡◌, ◌≤◌};
 ghost use Rattle.wire.specs.Bytes.{no_digest};
-ghost use Rattle.slots.specs.Table.{commitment_key, in_order, key_of, precedes};
+ghost use Rattle.slots.specs.Table.{commitment_key, key_of, insert, remove};
 ghost use Rattle.slots.specs.Layout.{bytes_of, store_in};
-ghost use Rattle.slots.specs.Scan.{used_slots, RecordsInOrder};
-ghost use Rattle.slots.specs.Effect.{Exact};
-ghost use Rattle.slots.specs.Fit.{is_fit};
-ghost use Rattle.rules.specs.Ordering.{keeps, writes, frees, plain_record, received_edit};
-ghost use Rattle.records.specs.Edited.{with_edit, edit_by, slot_for, slot_of, spare_slot};
+ghost use Rattle.slots.specs.Scan.{used_slots};
+ghost use Rattle.slots.specs.Effect.{with_records};
+ghost use Rattle.rules.specs.Ordering.{keeps, writes, frees, prunes, plain_record, received_edit};
+ghost use Rattle.records.specs.Edited.{Editable, with_edit, edit_by, spare_slot};
 
 use changes::{insert_record, remove_record};
 use ordering::{lapses, raises_counter};
@@ -21,9 +20,11 @@ pub enum Action {
     Keeps,
     Writes,
     Frees,
+    Prunes,
 }
 
-// Nothing, a record that is written, or the record of its kind, channel and sequence that becomes free.
+// Nothing, a record that is written, the record of its kind, channel and sequence that becomes free, or the
+// acknowledgement and the receipt of its channel and sequence that do.
 #[derive(Clone, Copy)]
 pub struct RecordEdit {
     pub action: Action,
@@ -87,6 +88,17 @@ pub fn freed_commitment(c: Channel, sequence: u64) -> RecordEdit
     }
 }
 
+// What an unordered channel has of this sequence becomes free.
+pub fn pruned(c: Channel, sequence: u64) -> RecordEdit
+    ensures { edit_by result ≡ prunes c.own.channel sequence }
+{
+    let acknowledgement = plain_record(Record::ACKNOWLEDGEMENT, c.own.channel, sequence, [0; 32]);
+    RecordEdit {
+        action: Action::Prunes,
+        about: acknowledgement,
+    }
+}
+
 // What the record of an edit is found by.
 fn key_of(r: Record) -> Key
     ensures { result ≡ key_of r }
@@ -95,33 +107,6 @@ fn key_of(r: Record) -> Key
         kind: r.kind,
         channel: r.channel,
         sequence: r.sequence,
-    }
-}
-
-// The slot for a record: none where the table is full and the record would stand behind all.
-fn slot_for(store: &[u8], count: usize, k: Key) -> Found
-    requires { RecordsInOrder store.now count }
-    ensures { result ≡ slot_for k (store_in store.now).records }
-{
-    let i = place_of(store, count, k);
-    if i < count {
-        return Found::At(i);
-    }
-    Found::Nothing
-}
-
-// The slot that an edit is on: the place of the record in order, or that of the record that is there.
-pub fn slot_of(store: &[u8], e: RecordEdit) -> Found
-    requires { is_fit store.now ≡ true }
-    ensures { result ≡ slot_of (edit_by e) (store_in store.now).records }
-{
-    let count = (store.len() - Layout::RECORDS_FROM) / Layout::SLOT;
-    let action = e.action;
-    let about = e.about;
-    match action {
-        Action::Keeps => Found::Nothing,
-        Action::Writes => slot_for(store, count, key_of(about)),
-        Action::Frees => find_record(store, count, key_of(about)),
     }
 }
 
@@ -136,21 +121,67 @@ fn spare_slot(count: usize, used: usize) -> usize
     count - 1
 }
 
-// Only slots that are in use move.
-pub fn edit_records(store: &mut [u8], at: Found, used: usize, e: RecordEdit)
-    requires { Exact store.old × (in_order precedes (store_in store.old).records ≡ true) ×
-        (used ≡ used_slots (store_in store.old).records) × (at ≡ slot_of (edit_by e) (store_in store.old).records) }
+// A record takes its place in order; there is none where the table is full and the record would stand behind all. Only
+// slots that are in use move.
+fn write_record(store: &mut [u8], used: usize, r: Record)
+    requires { Editable store.old used }
+    ensures { store.new ≡
+        bytes_of (with_records (store_in store.old) (insert r (store_in store.old).records)) }
+{
+    let count = (store.len() - Layout::RECORDS_FROM) / Layout::SLOT;
+    let i = place_of(store, count, key_of(r));
+    if i < count {
+        let spare = spare_slot(count, used);
+        insert_record(store, i, spare - i, r);
+    }
+}
+
+// The record of a key becomes free, if it is there. Returns how many are in use then.
+fn free_record(store: &mut [u8], used: usize, k: Key) -> usize
+    requires { Editable store.old used }
+    ensures store { store.new ≡
+        bytes_of (with_records (store_in store.old) (remove k (store_in store.old).records)) }
+    ensures used { result ≡ used_slots (remove k (store_in store.old).records) }
+{
+    let count = (store.len() - Layout::RECORDS_FROM) / Layout::SLOT;
+    let Found::At(i) = find_record(store, count, k) else {
+        return used;
+    };
+    remove_record(store, i, used - 1 - i);
+    used - 1
+}
+
+// The acknowledgement and the receipt of a sequence become free, each if it is there.
+fn prune_records(store: &mut [u8], used: usize, channel: u32, sequence: u64)
+    requires { Editable store.old used }
+    ensures { store.new ≡ bytes_of (with_edit (store_in store.old) (prunes channel sequence)) }
+{
+    let acknowledgement = Key {
+        kind: Record::ACKNOWLEDGEMENT,
+        channel: channel,
+        sequence: sequence,
+    };
+    let left = free_record(store, used, acknowledgement);
+    let receipt = Key {
+        kind: Record::RECEIPT,
+        channel: channel,
+        sequence: sequence,
+    };
+    free_record(store, left, receipt);
+}
+
+pub fn edit_records(store: &mut [u8], used: usize, e: RecordEdit)
+    requires { Editable store.old used }
     ensures { store.new ≡ bytes_of (with_edit (store_in store.old) (edit_by e)) }
 {
-    let Found::At(i) = at else {
-        return;
-    };
-    let spare = spare_slot((store.len() - Layout::RECORDS_FROM) / Layout::SLOT, used);
     let action = e.action;
     let about = e.about;
     match action {
         Action::Keeps => {}
-        Action::Writes => insert_record(store, i, spare - i, about),
-        Action::Frees => remove_record(store, i, used - 1 - i),
+        Action::Writes => write_record(store, used, about),
+        Action::Frees => {
+            free_record(store, used, key_of(about));
+        }
+        Action::Prunes => prune_records(store, used, about.channel, about.sequence),
     }
 }

@@ -6,6 +6,7 @@ ghost use Rattle.std.specs.Prelude.{◌≡◌};
 ghost use Rattle.store.specs.Length.{length_for};
 ghost use Rattle.openings.specs.Maker.{make_told, make_store};
 ghost use Rattle.store.specs.Convert.{convert_told, convert_store};
+ghost use Rattle.upgrade.specs.Upgrade.{upgrade_told, upgrade_store};
 ghost use Rattle.rules.specs.Call.{call_told, call_store, call_output};
 
 use handler::handle;
@@ -45,6 +46,15 @@ pub extern "C" fn route_convert_store(store: &mut [u8]) -> u8
     ensures left { store.new ≡ convert_store store.old }
 {
     Store::convert(store)
+}
+
+// Turns a fit store of the kind before pruning into one of today. Answers 0, or 1 where it is none.
+#[unsafe(no_mangle)]
+pub extern "C" fn route_upgrade_store(store: &mut [u8]) -> u8
+    ensures told { result ≡ upgrade_told store.old }
+    ensures left { store.new ≡ upgrade_store store.old }
+{
+    Store::upgrade(store)
 }
 
 // The length of a store with so many packet records, or 0 where no store has so many.

@@ -12,19 +12,20 @@ ghost use Rattle.slots.specs.Scan.{RecordsInOrder};
 ghost use Rattle.datagram.specs.Kind.{send, receive, write, acknowledge, time_out};
 ghost use Rattle.datagram.specs.Datagram.{Datagram};
 ghost use Rattle.rules.specs.Ordering.{needs_record};
-ghost use Rattle.rules.specs.Refusals.{comes_late};
+ghost use Rattle.rules.specs.Refusals.{comes_late, had_acknowledgement};
 ghost use Rattle.verdicts.specs.Lines.{number_behind};
 
 use datagram::{Context, Packet, Verdict};
 use heights::{is_late_at_receiver, is_late_at_sender, is_no_timeout, is_proved_late};
 use ordering::{
-    acknowledges_in_order, is_acknowledge_at_top, is_receipt_there, is_receive_at_top, is_received,
+    acknowledges_in_order, had_receipt, is_acknowledge_at_top, is_receive_at_top, is_received,
     is_send_at_top, is_timeout_at_top, needs_record, receives_in_order, refuses_late,
     times_out_in_order,
 };
 use packets::{fits_destination, fits_source, has_free, is_committed, lacks_connection};
 use slots::{Channel, Key, Record, Timeout};
 use tables::halves::has_record;
+use tables::ordering::is_pruned;
 use verdicts::{
     absence_difference, acknowledgement_difference, claims_taken, commitment_difference,
 };
@@ -95,7 +96,7 @@ fn delivery_row(store: &[u8], count: usize, p: Packet, late: bool, c: Channel) -
     if !receives_in_order(c, p.sequence) {
         return 15;
     }
-    if is_receipt_there(store, count, c, p.sequence) {
+    if had_receipt(store, count, c, p.sequence) {
         return 16;
     }
     if is_receive_at_top(c) {
@@ -107,18 +108,26 @@ fn delivery_row(store: &[u8], count: usize, p: Packet, late: bool, c: Channel) -
     0
 }
 
-// Write acknowledgement (3): lines 16, 17, 18 and 20.
-pub fn write_row(store: &[u8], count: usize, sequence: u64, digest: [u8; 32], c: Channel) -> u8
+// 16, for 3: its acknowledgement is there, or was pruned.
+fn had_acknowledgement(store: &[u8], count: usize, c: Channel, sequence: u64) -> bool
     requires { RecordsInOrder store.now count }
-    ensures { (d : Datagram) → d.sequence ≡ sequence → d.digest ≡ digest →
-        result ≡ number_behind 7 (some write) (store_in store.now) d c }
+    ensures { result ≡ had_acknowledgement (store_in store.now).records c sequence }
 {
     let k = Key {
         kind: Record::ACKNOWLEDGEMENT,
         channel: c.own.channel,
         sequence: sequence,
     };
-    if has_record(store, count, k) {
+    has_record(store, count, k) | is_pruned(c, sequence)
+}
+
+// Write acknowledgement (3): lines 16, 17, 18 and 20.
+pub fn write_row(store: &[u8], count: usize, sequence: u64, digest: [u8; 32], c: Channel) -> u8
+    requires { RecordsInOrder store.now count }
+    ensures { (d : Datagram) → d.sequence ≡ sequence → d.digest ≡ digest →
+        result ≡ number_behind 7 (some write) (store_in store.now) d c }
+{
+    if had_acknowledgement(store, count, c, sequence) {
         return 16;
     }
     if !is_received(store, count, c, sequence) {

@@ -8,13 +8,16 @@ use Rattle.slots.specs.declared.Channel.{Channel}
 use Rattle.slots.specs.Names.{top_channel, state_init, state_try_open, state_open, state_closed, version_fits, has_free, Store}
 use Rattle.slots.specs.Names.{is_received}
 use Rattle.datagram.specs.Names.{only, Kind, send, receive, write, acknowledge, time_out, open_init, open_try}
-use Rattle.datagram.specs.Names.{open_acknowledge, open_confirm, close_init, close_confirm, time_out_on_close, Datagram}
-use Rattle.rules.specs.Names.{first_end_difference, has_version, moved, receives_in_order, refuses_late, is_receipt_there}
+use Rattle.datagram.specs.Names.{open_acknowledge, open_confirm, close_init, close_confirm, time_out_on_close, prune}
+use Rattle.datagram.specs.Names.{Datagram}
+use Rattle.rules.specs.Names.{first_end_difference, has_version, moved, receives_in_order, refuses_late, had_receipt}
 use Rattle.rules.specs.Names.{acknowledges_in_order, times_out_in_order, is_send_at_top, is_receive_at_top}
 use Rattle.rules.specs.Names.{is_acknowledge_at_top, is_timeout_at_top, needs_record, is_full, needed_end, needed_init}
 use Rattle.rules.specs.Names.{answering, needed_try_open, needed_peer, first_given, fits_destination, fits_source}
 use Rattle.rules.specs.Names.{comes_late, is_proved_late, is_committed, commitment_difference, absence_difference}
-use Rattle.rules.specs.Names.{claims_taken, table, Line, makes_end, end_for, is_in_state, is_acknowledgement_there}
+use Rattle.rules.specs.Names.{claims_taken, table, Line, makes_end, end_for, is_in_state, had_acknowledgement}
+use Rattle.rules.specs.Names.{allows_pruning}
+use Rattle.rules.specs.Names.{pruned_difference, next_send_difference}
 use Rattle.rules.proofs.RefusalLaws.{given_at, silent, each-silent, not-given, test-holds}
 use Rattle.rules.proofs.VerdictLaws.{Alike, Partners, one_block, shows}
 
@@ -29,12 +32,12 @@ pub record ReceiveOk (s : Store) (d : Datagram) (c : Channel) : Type 0 where
   pub early : refuses_late c (comes_late d) ≡ false
   pub about : commitment_difference d.packet d.verdict ≡ 0
   pub in_order : receives_in_order c d.packet.sequence ≡ true
-  pub new : is_receipt_there s.records c d.packet.sequence ≡ false
+  pub new : had_receipt s.records c d.packet.sequence ≡ false
   pub below : is_receive_at_top c ≡ false
   pub room : (needs_record c (comes_late d) and not (has_free s.records)) ≡ false
 
 pub record WriteOk (s : Store) (d : Datagram) (c : Channel) : Type 0 where
-  pub new : is_acknowledgement_there s.records c d.sequence ≡ false
+  pub new : had_acknowledgement s.records c d.sequence ≡ false
   pub received : is_received s.records c d.sequence ≡ true
   pub room : has_free s.records ≡ true
 
@@ -71,6 +74,15 @@ pub record OpenOk (d : Datagram) (c : Channel) (e : PortChannel) : Type 0 where
   pub port : e.port ≡ c.counterparty.port
   pub known : (c.state ≡ state_init → ⊥) → e ≡ c.counterparty
   pub partner : Partners (moved state_open e c) d.end_verdict.end
+
+-- a prune: of an OPEN unordered end, at its mark, and both verdicts are of one block
+pub record PruneOk (d : Datagram) (c : Channel) : Type 0 where
+  pub state : c.state ≡ state_open
+  pub absent : pruned_difference c d.sequence d.verdict ≡ 0
+  pub next : next_send_difference c d.sequence d.second ≡ 0
+  pub block : d.verdict.block.height ≡ d.second.block.height
+  pub mark : d.sequence ≡ c.mark
+  pub allowed : allows_pruning c ≡ true
 
 -- what is told of a new end
 not_full : (s : Store) (d : Datagram) → is_full s ≡ false → version_fits d.version ≡ true → MakeOk s d
@@ -244,3 +256,15 @@ module _ (bs : List ℕ) (room : ℕ) (b : List ℕ) (s : Store) (d : Datagram) 
     in-state state_open 25 (quiet 26 close_confirm h),
     shows-needed (needed_peer state_closed c) (quiet 14 close_confirm h) (quiet 27 close_confirm h),
   )
+
+  pub prune-ok : first_given (some prune) lines ≡ 0 → PruneOk d c
+  unfolding given_at table only ◌or◌
+  prune-ok h =
+      record {
+        state = in-state state_open 5 (quiet 6 prune h);
+        absent = quiet 14 prune h;
+        next = quiet_at 1 14 prune h;
+        block = one_block d.verdict.block d.second.block (quiet_at 2 14 prune h);
+        mark = eqb-true d.sequence c.mark (test-holds _ 27 (quiet 28 prune h));
+        allowed = test-holds _ 28 (quiet 29 prune h);
+      }

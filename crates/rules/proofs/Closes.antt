@@ -5,7 +5,7 @@ use Rattle.wire.proofs.Laws.{clash}
 use Rattle.slots.specs.declared.PortChannel.{PortChannel}
 use Rattle.slots.specs.declared.Channel.{Channel}
 use Rattle.slots.specs.Names.{state_closed, channel_at, Store}
-use Rattle.datagram.specs.Names.{only, body, has_part, send, receive, write, acknowledge, close_confirm, Datagram}
+use Rattle.datagram.specs.Names.{prune, only, body, has_part, send, receive, write, acknowledge, close_confirm, Datagram}
 use Rattle.datagram.specs.Names.{timed_out_kind}
 use Rattle.datagram.proofs.Laws.{kinds-apart}
 use Rattle.rules.specs.Names.{needed_end, needed_peer, makes_end, opens_end, Effect, across, datagram_got}
@@ -14,7 +14,7 @@ use Rattle.rules.proofs.KindLaws.{emits_record}
 use Rattle.rules.proofs.VerdictLaws.{Alike}
 use Rattle.rules.proofs.Growth.{Grown, grown-one}
 use Rattle.rules.proofs.Step.{to_open, to_closed, How, sending, receiving, writing, acknowledging, timing, making}
-use Rattle.rules.proofs.Step.{moving, Step}
+use Rattle.rules.proofs.Step.{moving, pruning, Step}
 use Rattle.rules.proofs.History.{World, ledger, Turn, acts}
 use Rattle.rules.proofs.Ends.{stays-there}
 use Rattle.rules.proofs.Block.{seen}
@@ -34,6 +34,7 @@ closed-shown {s} {d = d} st k = go st.effect st.how
     go e (making q ok m) = clash q (ap makes_end k)
     go e (moving q (to_open o ok)) = clash o (ap opens_end k)
     go e (moving q (to_closed o shown)) = shown k
+    go e (pruning q ok) = kinds-apart prune close_confirm q k refl
 
 -- an end that was shown CLOSED stays so, and names the end that it was shown to
 still-closed : (e v a d : Channel) → Alike v (needed_peer state_closed e) → Alike v a → Grown a d →

@@ -7,6 +7,7 @@ use Rattle.slots.specs.Names.{store_in, allows_timeouts}
 use Rattle.datagram.specs.Names.{only, Kind, Datagram, framed, delivered_kind, lapsed_kind, made_kind}
 use Rattle.rules.specs.declared.Told.{Told}
 use Rattle.rules.specs.Names.{new_end, makes_end, or_none, refusals, sent_packet, makes, moves, effect_of, effect_for}
+use Rattle.rules.specs.Names.{prunes_at}
 use Rattle.rules.specs.Names.{answer_to, effect_in, called, Call, datagram_got, Met, end_of, Recorded, Answered}
 use Rattle.rules.specs.Names.{Demand3Holds, comes_late}
 use Rattle.rules.proofs.RefusalLaws.{first-given-zero}
@@ -33,7 +34,7 @@ unfolding called
 number bs o b = cases (eqb (answer_to bs o b) 0) (λ e. let q = eqb-true (answer_to bs o b) 0 e in cc) (λ e. cc)
 
 recorded : (c : Call) (m : Met c) → Bytes c.store → Bytes c.datagram → c.told.number ≡ 0 → Recorded c
-unfolding effect_in effect_for effect_of makes moves new_end only ◌or◌ ◌and◌
+unfolding effect_in effect_for effect_of makes moves prunes_at new_end only ◌or◌ ◌and◌
 recorded c m p q t =
     let a = acted c m p q t in
     let d : Datagram = datagram_got c in
@@ -55,6 +56,7 @@ recorded c m p q t =
           framed made_kind (little 2 d.context.port ++ little 4 n)) makes_end refl d.kind (refl, (refl, tt)) k;
       nothing = λ k. e ∙ of-kinds (λ x. (effect_for x n (end_of c) d).emitted ≡ []) moves_end refl d.kind
           (refl, (refl, (refl, (refl, tt)))) k;
+      pruned = λ k. e ∙ ap (λ (x : Option Kind). (effect_for x n (end_of c) d).emitted) k;
     }
 
 answered : (c : Call) → Met c → Bytes c.store → Bytes c.datagram → Answered c

@@ -17,8 +17,9 @@ use Rattle.slots.proofs.Laws.{CounterFields, ChannelFields, RecordFields, StoreF
 use Rattle.datagram.specs.Names.{only, body, has_part, send, receive, end_verdict_in, end_verdict_from, datagram_in, Datagram}
 use Rattle.datagram.proofs.Laws.{Sound, PacketFields, packet-fields, timeout-fields, sequence-below, length-digest}
 use Rattle.datagram.proofs.Laws.{bytes-digest, height-below, time-below, port-below, counterparty-fields, order_below}
-use Rattle.datagram.proofs.Laws.{bytes-version}
-use Rattle.rules.specs.Names.{plain_record, counted, moved, is_send_at_top, Edit, raised_acknowledge, new_end, port_only}
+use Rattle.datagram.proofs.Laws.{bytes-version, second_below}
+use Rattle.rules.specs.Names.{plain_record, counted, moved, marked, prunes_at, is_send_at_top, Edit, raised_acknowledge}
+use Rattle.rules.specs.Names.{new_end, port_only}
 use Rattle.rules.specs.Names.{makes_end, sent_packet, commitment, sends, receives, writes_acknowledgement}
 use Rattle.rules.specs.Names.{acknowledges, times_out, makes, moves, placed, number_after, edited, applied, EndEdit}
 use Rattle.rules.specs.Names.{leaves, puts, adds, Effect}
@@ -27,10 +28,12 @@ use Rattle.rules.proofs.OrderingLaws.{by-receive, by-acknowledge, by-time-out, r
 use Rattle.rules.proofs.OrderingLaws.{time-out-below}
 use Rattle.rules.proofs.Accepted.{MakeOk}
 use Rattle.rules.proofs.Step.{Makes, initiating, trying, to_open, to_closed, How, sending, receiving, writing}
-use Rattle.rules.proofs.Step.{acknowledging, timing, making, moving, Step, Turns, standing, growing, joining}
+use Rattle.rules.proofs.VerdictLaws.{claims-above}
+use Rattle.rules.proofs.Step.{acknowledging, timing, making, moving, pruning, Step, Turns, standing, growing}
+use Rattle.rules.proofs.Step.{joining}
 use Rattle.rules.proofs.Step.{turns}
 use Rattle.rules.proofs.Records.{New, commits, receipts, timeout_receipts, acknowledgements, Legal, keeping}
-use Rattle.rules.proofs.Records.{adding, freeing, legal}
+use Rattle.rules.proofs.Records.{adding, freeing, clearing, legal}
 
 -- WHAT FITS ITS FIELDS stays so
 raised : (n : ℕ) → n < 256 ^ 8 → eqb n top ≡ false → n + 1 < 256 ^ 8
@@ -45,6 +48,7 @@ counted-fields h k =
       own = h.own;
       counterparty = h.counterparty;
       next = k;
+      mark = h.mark;
       size = h.size;
       bytes = h.bytes;
     }
@@ -59,6 +63,21 @@ moved-fields n l p h =
       own = h.own;
       counterparty = p;
       next = h.next;
+      mark = h.mark;
+      size = h.size;
+      bytes = h.bytes;
+    }
+
+marked-fields : {c : Channel} → c.mark + 1 < 256 ^ 8 → ChannelFields c → ChannelFields (marked c)
+unfolding marked
+marked-fields l h =
+    record {
+      state = h.state;
+      order = h.order;
+      own = h.own;
+      counterparty = h.counterparty;
+      next = h.next;
+      mark = l;
       size = h.size;
       bytes = h.bytes;
     }
@@ -119,6 +138,7 @@ module _ {s t : Store} (b : List ℕ) (st : Step s (datagram_in b) t) (fields : 
         own = record { port = port-below b bytes; channel = omega arith };
         counterparty = p;
         next = record { send = omega arith; receive = omega arith; acknowledge = omega arith };
+        mark = omega arith;
         size = padded-size d.version ok.version;
         bytes = padded-bytes d.version (bytes-version b bytes);
       }
@@ -147,7 +167,7 @@ module _ {s t : Store} (b : List ℕ) (st : Step s (datagram_in b) t) (fields : 
       })
 
   end-fields : {e : Effect} → How s d c e → OfEnd ChannelFields e.ends
-  unfolding sends receives writes_acknowledgement acknowledges times_out makes moves is_send_at_top moved only ◌or◌
+  unfolding sends receives writes_acknowledgement acknowledges times_out makes moves prunes_at is_send_at_top moved only ◌or◌
   end-fields (sending k ok) =
       let h = channel-fields (ap makes_end k) in
       counted-fields h (record {
@@ -176,6 +196,10 @@ module _ {s t : Store} (b : List ℕ) (st : Step s (datagram_in b) t) (fields : 
       (channel-fields (moves-old d.kind k))
   end-fields (moving k (to_closed o f)) =
       let h = channel-fields (moves-old d.kind k) in moved-fields state_closed (omega arith) h.counterparty h
+  end-fields (pruning k ok) =
+      let l = claims-above c d.sequence d.second ok.next in
+      let m = ok.mark in
+      marked-fields (omega (arith, second_below b bytes)) (channel-fields (ap makes_end k))
 
   receipt-fields : (n : ℕ) → d.kind ≡ some receive → commitment_kind ≤ n → n ≤ timeout_receipt_kind →
       RecordFields (plain_record n c.own.channel d.packet.sequence no_digest)
@@ -198,9 +222,9 @@ module _ {s t : Store} (b : List ℕ) (st : Step s (datagram_in b) t) (fields : 
         size = f.size;
         bytes = f.bytes;
       }
-  new-fields e r (receipts k o) = receipt-fields receipt_kind k (omega arith) (omega arith)
+  new-fields e r (receipts k o p) = receipt-fields receipt_kind k (omega arith) (omega arith)
   new-fields e r (timeout_receipts k t a) = receipt-fields timeout_receipt_kind k (omega arith) (omega arith)
-  new-fields e r (acknowledgements k h) =
+  new-fields e r (acknowledgements k h p) =
       plain-fields acknowledgement_kind c.own.channel d.sequence d.digest (omega arith) (omega arith)
       (channel-fields (ap makes_end k)).own.channel (sequence-below b bytes) (length-digest b bytes sound (rw k refl))
       (bytes-digest b bytes)
@@ -230,6 +254,10 @@ module _ {s t : Store} (b : List ℕ) (st : Step s (datagram_in b) t) (fields : 
   records-fields x (freeing {n = n} {m = m} _) = (
     length-remove (commitment_key n m) s.records,
     each-remove RecordFields (commitment_key n m) s.records fields.records,
+  )
+  records-fields x (clearing k m l) = (
+    length-remove _ _ ∙ length-remove _ s.records,
+    each-remove RecordFields _ _ (each-remove RecordFields _ s.records fields.records),
   )
 
   number-after : {x : EndEdit} → Turns s d c x → number_after x s.next < 256 ^ 8

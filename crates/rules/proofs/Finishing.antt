@@ -15,7 +15,8 @@ use Rattle.rules.proofs.KindLaws.{finishes_packet, finishes-old, finishes-carrie
 use Rattle.rules.proofs.KindLaws.{makes-no-packet, moves-no-packet}
 use Rattle.rules.proofs.OrderingLaws as ordering
 use Rattle.rules.proofs.Growth.{Grown}
-use Rattle.rules.proofs.Step.{How, sending, receiving, writing, acknowledging, timing, making, moving, Step}
+use Rattle.rules.proofs.Step.{How, sending, receiving, writing, acknowledging, timing, making, moving, pruning}
+use Rattle.rules.proofs.Step.{Step}
 use Rattle.rules.proofs.Step.{end_left, counters-kept, left_end, own-found, own-grown}
 use Rattle.rules.proofs.Receipt.{one-channel}
 use Rattle.rules.proofs.Opening.{Sending, finish-opened}
@@ -59,6 +60,7 @@ module _ {s t : Store} {d : Datagram} (st : Step s d t) (f : finishes_packet d.k
       go e (timing q ok) u o k h = ordering.timed-out-rises st.channel k u o h
       go e (making q ok m) u o k h = clash f (makes-no-packet d.kind q).4
       go e (moving q m) u o k h = clash f (moves-no-packet d.kind q).4
+      go e (pruning q ok) u o k h = clash f (ap finishes_packet q)
 
   -- what is finished in order is the next one
   finish-next : is_unordered st.channel ≡ false → st.channel.state ≡ state_open →
@@ -81,6 +83,7 @@ module _ {s t : Store} {d : Datagram} (st : Step s d t) (f : finishes_packet d.k
           (λ a. ordering.timed-out-next st.channel d.packet.sequence a o ok.in_order) (or-either k)
       go e (making q ok m) = clash f (makes-no-packet d.kind q).4
       go e (moving q m) = clash f (moves-no-packet d.kind q).4
+      go e (pruning q ok) = clash f (ap finishes_packet q)
 
 module _ (w : World) where
   -- NEXT ACKNOWLEDGE counts what was finished

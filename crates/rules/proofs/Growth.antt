@@ -1,12 +1,13 @@
 -- How an end may change: who it is stays, its counterparty is set once, counters only rise, and it opens and closes
 -- once. Assumes nothing.
-use Rattle.wire.proofs.Prelude.{◌≡◌, refl, sym, ◌∙◌, true, ℕ, ◌≤◌, ◌<◌, arith, le-leb}
-use Rattle.wire.proofs.Laws.{both-and}
+use Rattle.wire.proofs.Prelude.{◌≡◌, refl, sym, ◌∙◌, true, false, ℕ, ◌≤◌, ◌<◌, arith, le-leb}
+use Rattle.wire.proofs.Laws.{both-and, clash}
 use Rattle.slots.specs.declared.PortChannel.{PortChannel}
 use Rattle.slots.specs.declared.Counters.{Counters}
 use Rattle.slots.specs.declared.Channel.{Channel}
-use Rattle.slots.specs.Names.{state_init, state_try_open, state_open, state_closed, is_state}
-use Rattle.rules.specs.Names.{counted, moved, closed}
+use Rattle.slots.specs.Names.{state_init, state_try_open, state_open, state_closed, is_state, is_unordered}
+use Rattle.rules.specs.Names.{counted, moved, marked, closed, allows_pruning}
+use Rattle.rules.proofs.OrderingLaws.{unordered-same}
 use Rattle.rules.proofs.VerdictLaws.{OneEnd}
 
 -- STATES: from one to the same or to a later one
@@ -39,6 +40,9 @@ pub record Grown (c e : Channel) : Type 0 where
   pub send : c.next.send ≤ e.next.send
   pub receive : c.next.receive ≤ e.next.receive
   pub acknowledge : c.next.acknowledge ≤ e.next.acknowledge
+  -- the mark rises on an unordered end alone
+  pub mark : c.mark ≤ e.mark
+  pub unmarked : is_unordered c ≡ false → e.mark ≡ c.mark
   pub state : Goes c.state e.state
 
 -- an end whose counters are these
@@ -56,6 +60,8 @@ counts_up c n p q r =
       send = p;
       receive = q;
       acknowledge = r;
+      mark = omega arith;
+      unmarked = λ u. refl;
       state = record { known = λ h. h; init = λ h. h; tried = λ h. h; opened = λ h. h; closed = λ h. h };
     }
 
@@ -80,7 +86,28 @@ moves-to c n e l u h p k =
       send = r.send;
       receive = r.receive;
       acknowledge = r.acknowledge;
+      mark = r.mark;
+      unmarked = r.unmarked;
       state = goes_to l u h;
+    }
+
+-- an end whose mark has risen
+pub marks-up : (c : Channel) → allows_pruning c ≡ true → Grown c (marked c)
+unfolding marked allows_pruning
+marks-up c a =
+    let r = grown-refl c in
+    record {
+      own = refl;
+      order = refl;
+      version = refl;
+      port = refl;
+      counterparty = λ f. refl;
+      send = r.send;
+      receive = r.receive;
+      acknowledge = r.acknowledge;
+      mark = omega arith;
+      unmarked = λ u. clash a u;
+      state = r.state;
     }
 
 pub closes : (c : Channel) → Grown c (closed c)
@@ -91,9 +118,9 @@ pub opens : (c : Channel) (e : PortChannel) → c.state < state_open → e.port 
 opens c e l p k = moves-to c state_open e (omega arith) (omega arith) (λ q. omega arith) p k
 
 pub grown-trans : {a c e : Channel} → Grown a c → Grown c e → Grown a e
-grown-trans g h =
+grown-trans {a} {c} g h =
     let i = g.send in let j = h.send in let k = g.receive in let l = h.receive in let m = g.acknowledge in let n =
-    h.acknowledge in
+    h.acknowledge in let x = g.mark in let y = h.mark in
     let p = g.state in
     let q = h.state in
     record {
@@ -105,6 +132,8 @@ grown-trans g h =
       send = omega arith;
       receive = omega arith;
       acknowledge = omega arith;
+      mark = omega arith;
+      unmarked = λ u. h.unmarked (unordered-same a c g.order ∙ u) ∙ g.unmarked u;
       state = record {
         known = λ x. q.known (p.known x);
         init = λ x. p.init (q.init x);

@@ -5,8 +5,8 @@ use Rattle.wire.proofs.Prelude.{eqb-true, ne_eqb}
 use Rattle.wire.specs.Names.{◌and◌, ◌or◌, pick, Every}
 use Rattle.wire.proofs.Laws.{and_both, clash, cases}
 use Rattle.datagram.specs.Names.{only, body, has_part, Kind, send, receive, write, acknowledge, time_out, open_init}
-use Rattle.datagram.specs.Names.{open_try, open_acknowledge, open_confirm, close_init, close_confirm, time_out_on_close, kinds}
-use Rattle.datagram.specs.Names.{kind_number, is_of, packet_part, body_of, sent_kind, delivered_kind, written_kind}
+use Rattle.datagram.specs.Names.{open_try, open_acknowledge, open_confirm, close_init, close_confirm, time_out_on_close, prune}
+use Rattle.datagram.specs.Names.{kinds, kind_number, is_of, packet_part, body_of, sent_kind, delivered_kind, written_kind}
 use Rattle.datagram.specs.Names.{acknowledged_kind, timed_out_kind, lapsed_kind, made_kind}
 use Rattle.datagram.proofs.Laws.{kind-of}
 use Rattle.datagram.proofs.MatchLaws.{those, of-those}
@@ -41,7 +41,7 @@ abbrev pub arriving : Option Kind → Bool
 arriving = only (receive ∷ open_acknowledge ∷ open_confirm ∷ [])
 
 abbrev pub settling : Option Kind → Bool
-settling = only (receive ∷ time_out ∷ time_out_on_close ∷ open_acknowledge ∷ open_confirm ∷ [])
+settling = only (receive ∷ time_out ∷ time_out_on_close ∷ open_acknowledge ∷ open_confirm ∷ prune ∷ [])
 
 pub opens-arriving : (x : Option Kind) → opens_end x ≡ true → arriving x ≡ true
 unfolding only ◌or◌
@@ -65,6 +65,7 @@ emitted_kind open_confirm = 0
 emitted_kind close_init = 0
 emitted_kind close_confirm = 0
 emitted_kind time_out_on_close = timed_out_kind
+emitted_kind prune = 0
 
 abbrev pub record_of : Option Kind → ℕ
 record_of none = 0
@@ -140,6 +141,10 @@ no-packet = (refl, refl, refl, refl, refl)
 pub makes-no-packet : (x : Option Kind) → makes_end x ≡ true → NoPacket x
 unfolding only ◌or◌
 makes-no-packet x h = of-kinds NoPacket makes_end refl x (no-packet, (no-packet, tt)) h
+
+pub prunes-no-packet : (x : Option Kind) → x ≡ some prune → NoPacket x
+unfolding only
+prunes-no-packet x h = rw h no-packet
 
 pub moves-no-packet : (x : Option Kind) → moves_end x ≡ true → NoPacket x
 unfolding only ◌or◌

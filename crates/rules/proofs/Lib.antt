@@ -10,11 +10,13 @@ pub mod Records
 pub mod Commitment
 pub mod Receipt
 pub mod Opening
+pub mod EndFit
 pub mod FitStep
 pub mod Fields
 pub mod Bridge
 pub mod Acted
 pub mod History
+pub mod CommitmentHistory
 pub mod Counter
 pub mod Sums
 pub mod Once
@@ -27,11 +29,13 @@ pub mod Delivery
 pub mod Missing
 pub mod Finishing
 pub mod Truth
+pub mod Pruning
 pub mod Timeouts
 pub mod HonestLaws
 pub mod Facts
 pub mod Computation
 pub mod CaseLaws
+pub mod PruningCaseLaws
 pub mod Demand3
 pub mod Stays
 pub mod Computed

@@ -1,22 +1,26 @@
 -- Demand 3: at ends that are not unordered deliveries rise, and below next receive those that lapsed are missing.
 -- Assumes nothing.
-use Rattle.wire.proofs.Prelude.{◌≡◌, refl, sym, ap, subst, subst₂, ◌∙◌, subst₃, not, false, List, inl, inr, ◌⊎◌, ⊎_elim}
+use Rattle.wire.proofs.Prelude.{◌≡◌, refl, sym, ap, subst, subst₂, ◌∙◌, subst₃, not, true, false, List, inl, inr, ◌⊎◌}
+use Rattle.wire.proofs.Prelude.{⊎_elim}
 use Rattle.wire.proofs.Prelude.{some, ℕ, ◌≤◌, ◌<◌, zero, suc, arith, length, take-length, ltb-true, lt-ltb, eqb-true}
 use Rattle.wire.proofs.Prelude.{not-true}
+use Rattle.wire.specs.Names.{◌or◌}
 use Rattle.wire.proofs.Laws.{and_both, both-and, clash}
 use Rattle.slots.specs.declared.Channel.{Channel}
 use Rattle.slots.specs.Names.{channel_at, receipt_key, lookup, store_in, Store, is_unordered, is_lapsed, is_received}
 use Rattle.openings.specs.Opening.{opening_of}
 use Rattle.openings.proofs.MakerLaws.{made-lookup}
 use Rattle.datagram.specs.declared.Packet.{Packet}
-use Rattle.datagram.specs.Names.{Datagram}
+use Rattle.datagram.specs.Names.{only, Datagram}
 use Rattle.rules.specs.Names.{received_end, fold, Side, Call, datagram_got, store_after, is_on, packet_of, DeliveredAt}
-use Rattle.rules.specs.Names.{Rising, Missing}
+use Rattle.rules.specs.Names.{Rising, Missing, makes_end, allows_pruning}
 use Rattle.rules.proofs.OrderingLaws as ordering
 use Rattle.rules.proofs.ReceivedLaws as received
-use Rattle.rules.proofs.Step.{Step, later-some, later}
+use Rattle.rules.proofs.Step.{Step, later-some, later, own-found}
+use Rattle.rules.proofs.Records.{PrunesNow, prune-of}
 use Rattle.rules.proofs.Receipt.{Received, one-channel, receive-of, receive-after, received-back}
 use Rattle.rules.proofs.History.{side-eq, at_length, made-read, as-made, World, ledger, Turn, Quiet, turn, kept}
+use Rattle.rules.proofs.History.{Meanwhile}
 use Rattle.rules.proofs.Ends.{grows-into}
 use Rattle.rules.proofs.Delivery.{carried, Delivered, delivered, end_to, delivered-on, received-since}
 use Rattle.rules.proofs.Delivery.{delivers-at}
@@ -106,19 +110,45 @@ module _ (w : World) where
     at_last : ledger w z (length w.calls) ≡ last z
     at_last = ap (λ (cs : List Call). store_in (store_after (is_on z) (w.start z) cs)) (take-length w.calls)
 
+    -- nothing is pruned there, so what was delivered is received still
+    abbrev Pruned : (v : Side) → (k h i : ℕ) → Type 0
+    Pruned v k h i =
+        Meanwhile w v (λ (s : Store). Received s k h) (λ s t d st. PrunesNow st k h) i (length w.calls)
+
+    not-pruned : (i : ℕ) → Pruned z n m i → ⊥
+    unfolding allows_pruning only ◌or◌
+    not-pruned i x =
+        let st = x.turn.acts.acted.step in
+        let k = x.sort.kind in
+        let b = x.before in
+        let g = grows-into w z x.place (length w.calls) n st.channel c (omega arith)
+        (ap (λ (k : ℕ). channel_at k (ledger w z x.place).channels) (sym x.sort.channel) ∙
+        own-found st (ap makes_end k)) (ap (λ (s : Store). channel_at n s.channels) at_last ∙ found) in
+        clash (prune-of st k).0.allowed (sym (ordering.unordered-same st.channel c g.order) ∙ u)
+
+    still-received : (d : DeliveredAt w.calls z n m) → Delivered w d.place d.call →
+        is_received (last z).records c m ≡ true
+    still-received d g =
+        let h = and_both d.delivers in
+        let l = at_length w.calls d.place d.call d.at in
+        go (subst₃
+        (λ (v : Side) (k j : ℕ). Received (ledger w v (length w.calls)) k j ⊎ Pruned v k j (suc d.place))
+        (sym (side-eq z d.call.side (and_both h.0).0)) (eqb-true _ n h.1) d.sequence
+        (received-since w d.place d.call g (length w.calls) l))
+      where
+        go : Received (ledger w z (length w.calls)) n m ⊎ Pruned z n m (suc d.place) →
+            is_received (last z).records c m ≡ true
+        go (inr x) = absurd (not-pruned (suc d.place) x)
+        go (inl x) =
+            let r = subst (λ (s : Store). Received s n m) at_last x in
+            ap (λ (v : Channel). is_received (last z).records v m) (sym (one-channel (last z) n r.found found)) ∙
+            r.received
+
     delivered-below : DeliveredAt w.calls z n m →
         (1 ≤ m) × (m < c.next.receive) × (is_lapsed (last z).records c m ≡ false)
     delivered-below d =
-        let e = d.call in
-        let h = and_both d.delivers in
-        let g = delivered w d.place e d.at (and_both h.0).1 in
-        let x = received-since w d.place e g (length w.calls) (at_length w.calls d.place e d.at) in
-        let r = subst (λ (s : Store). Received s n m) at_last
-        (subst₃ (λ (v : Side) (k j : ℕ). Received (ledger w v (length w.calls)) k j)
-        (sym (side-eq z e.side (and_both h.0).0)) (eqb-true _ n h.1) d.sequence x) in
-        let q = ap (λ (v : Channel). is_received (last z).records v m) (sym (one-channel (last z) n r.found found)) ∙
-        r.received in
-        let b = and_both (sym (received.received-not-unordered (last z).records c m u) ∙ q) in
+        let g = delivered w d.place d.call d.at (and_both (and_both d.delivers).0).1 in
+        let b = and_both (sym (received.received-not-unordered (last z).records c m u) ∙ still-received d g) in
         let one = g.acts.acted.step.shape.received g.kind in
         let num = sym (ap (λ (p : Packet). p.sequence) g.packet) ∙ d.sequence in
         (omega arith, ltb-true m c.next.receive b.0, not-true _ b.1)

@@ -16,7 +16,7 @@ use Rattle.rules.proofs.KindLaws.{finishes_packet, finishes-old, record-timed-ou
 use Rattle.rules.proofs.VerdictLaws.{Partners, Begins}
 use Rattle.rules.proofs.Growth.{Grown, grown-refl}
 use Rattle.rules.proofs.Step.{Makes, initiating, trying, to_open, to_closed, How, sending, receiving, writing}
-use Rattle.rules.proofs.Step.{acknowledging, timing, making, moving, Step, makes-fresh, end_left, Change}
+use Rattle.rules.proofs.Step.{acknowledging, timing, making, moving, pruning, Step, makes-fresh, end_left, Change}
 use Rattle.rules.proofs.Step.{unchanged, changed, added, later-some, left_end, own-found, own-grown, change}
 use Rattle.rules.proofs.Step.{later}
 use Rattle.rules.proofs.Commitment.{stems, sent-found, finish-source, finish-needs}
@@ -89,6 +89,7 @@ module _ {s t : Store} {d : Datagram} (st : Step s d t) where
   opening o e (making k ok m) l u = absurd (omega arith)
   opening o e (moving k (to_open q ok)) l u = record { kind = q; partner = ok.partner }
   opening o e (moving k (to_closed q f)) l u = absurd (omega arith)
+  opening o e (pruning k ok) l u = let q = ok.state in absurd (omega arith)
 
   pub opened-by : Sending s → (n : ℕ) (e : Channel) → channel_at n t.channels ≡ some e → state_open ≤ e.state →
       Was (λ c. state_open ≤ c.state) n e ⊎ Opens e

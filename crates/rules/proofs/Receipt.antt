@@ -1,25 +1,27 @@
--- One accepted call and what is received: it stays received, a delivery was not taken before and is received
--- afterwards, a lapse is not, and what is received afterwards was received or is delivered. Assumes nothing.
+-- One accepted call and what is taken and received: what was taken stays taken; what was received stays so unless it is
+-- pruned; a delivery was not taken before and is received afterwards, a lapse is not; and what is received afterwards
+-- was received or is delivered. Assumes nothing.
 use Rattle.wire.proofs.Prelude.{◌≡◌, refl, sym, ap, subst, subst₂, ◌∙◌, true, false, List, inl, inr, ◌⊎◌, ⊎_elim}
 use Rattle.wire.proofs.Prelude.{Option, none, some, ℕ, ◌≤◌, arith, eqb, ltb, ltb-true, lt-ltb, eqb-true, eq-eqb}
 use Rattle.wire.specs.Names.{◌and◌, ◌or◌, is_some}
-use Rattle.wire.proofs.Laws.{and_both, both-and, clash, cases, some-if, none-if}
+use Rattle.wire.proofs.Laws.{and_both, both-and, clash, cases, none-some, some-if, none-if}
 use Rattle.slots.specs.declared.PortChannel.{PortChannel}
 use Rattle.slots.specs.declared.Channel.{Channel}
 use Rattle.slots.specs.declared.Record.{Record}
 use Rattle.slots.specs.Names.{has_free, channel_at, receipt_key, timeout_receipt_key, lookup, Store, is_taken, is_received}
-use Rattle.slots.specs.Names.{has_receipt, has_timeout_receipt}
+use Rattle.slots.specs.Names.{has_receipt, has_timeout_receipt, is_pruned}
 use Rattle.slots.proofs.Laws.{channel-number, channel-own, record-channel}
-use Rattle.datagram.specs.Names.{only, send, receive, write, acknowledge, is_of, Datagram, timed_out_kind}
+use Rattle.datagram.specs.Names.{only, send, receive, write, acknowledge, prune, is_of, Datagram, timed_out_kind}
 use Rattle.datagram.proofs.Laws.{kinds-apart}
 use Rattle.rules.specs.Names.{lapses, received_end, received_edit, makes_end, comes_late, receives, edited, Effect}
 use Rattle.rules.proofs.KindLaws.{moves_end, emits_record, is-receive}
 use Rattle.rules.proofs.Accepted.{ReceiveOk}
-use Rattle.rules.proofs.Step.{How, sending, receiving, writing, acknowledging, timing, making, moving, Step}
-use Rattle.rules.proofs.Step.{makes-fresh, end_left, counters-kept, Change, unchanged, changed, added, later-some}
+use Rattle.rules.proofs.Step.{How, sending, receiving, writing, acknowledging, timing, making, moving, pruning}
+use Rattle.rules.proofs.Step.{Step, makes-fresh, end_left, counters-kept, Change, unchanged, changed, added}
+use Rattle.rules.proofs.Step.{later-some}
 use Rattle.rules.proofs.Step.{left_end, own-number, own-found, own-grown, own-after, change, later}
 use Rattle.rules.proofs.Records.{New, receipts, timeout_receipts, timeout-receipt-absent, single, records-left}
-use Rattle.rules.proofs.Records.{record-from, record-stays}
+use Rattle.rules.proofs.Records.{record-from, record-stays, timeout-receipt-stays, PrunesNow, prunes-pruned}
 use Rattle.rules.proofs.OrderingLaws as ordering
 use Rattle.rules.proofs.ReceivedLaws as received
 
@@ -27,6 +29,19 @@ pub record Received (s : Store) (n m : ℕ) : Type 0 where
   pub channel : Channel
   pub found : channel_at n s.channels ≡ some channel
   pub received : is_received s.records channel m ≡ true
+
+pub record Taken (s : Store) (n m : ℕ) : Type 0 where
+  pub channel : Channel
+  pub found : channel_at n s.channels ≡ some channel
+  pub taken : is_taken s.records channel m ≡ true
+
+pub taken-received : {s : Store} {n m : ℕ} → Received s n m → Taken s n m
+taken-received {s} {m = m} r =
+    record {
+      channel = r.channel;
+      found = r.found;
+      taken = received.received-taken s.records r.channel m r.received;
+    }
 
 -- the end of a number is one
 pub one-channel : (s : Store) (n : ℕ) {c e : Channel} → channel_at n s.channels ≡ some c →
@@ -36,7 +51,7 @@ one-channel s n p q = cc
 -- A NEW RECEIPT is of this call's packet, and a new timeout receipt of one that was not taken
 new-receipt : {s : Store} {d : Datagram} {c e : Channel} {r : Record} (n m : ℕ) → New s d c e (receipt_key n m) r →
     (d.kind ≡ some receive) × (c.own.channel ≡ n) × (d.packet.sequence ≡ m)
-new-receipt n m (receipts k o) = (k, refl, refl)
+new-receipt n m (receipts k o p) = (k, refl, refl)
 
 new-lapsed : {s : Store} {d : Datagram} {c e : Channel} {r : Record} (n m : ℕ) →
     New s d c e (timeout_receipt_key n m) r →
@@ -44,7 +59,8 @@ new-lapsed : {s : Store} {d : Datagram} {c e : Channel} {r : Record} (n m : ℕ)
 unfolding only ◌or◌
 new-lapsed n m (timeout_receipts k t a) = (refl, t, ap makes_end k)
 
--- RECEIVED STAYS RECEIVED: the end grows, a receipt stays, and what was taken does not lapse
+-- TAKEN STAYS TAKEN, and received received unless this call prunes it: the end grows, a receipt stays or is pruned, and
+-- what was taken does not lapse
 module _ {s t : Store} {d : Datagram} {n m : ℕ} (st : Step s d t) where
   lapsed-back : (r : Received s n m) → has_timeout_receipt t.records r.channel m ≡ true →
       has_timeout_receipt s.records r.channel m ≡ true
@@ -61,8 +77,18 @@ module _ {s t : Store} {d : Datagram} {n m : ℕ} (st : Step s d t) where
       received.received-taken s.records c m r.received) x.1)
       (record-from st (timeout_receipt_key c.own.channel m) f.0 f.1)
 
-  pub received-stays : Received s n m → Received t n m
-  received-stays r =
+  receipt-after : (c e : Channel) → channel_at n s.channels ≡ some c → e.own ≡ c.own →
+      (has_receipt s.records c m ≡ true → has_receipt t.records e m ≡ true) ⊎ PrunesNow st n m
+  receipt-after c e f g =
+      cases (has_receipt s.records c m)
+      (λ h.
+      ⊎_elim (λ q. inl (λ _. ap (λ (x : PortChannel). is_some (lookup (receipt_key x.channel m) t.records)) g ∙ q))
+      (λ q. inr (subst (λ (k : ℕ). PrunesNow st k m) (channel-number n s.channels c f) q.0))
+      (record-stays st (receipt_key c.own.channel m) (λ q. absurd (omega arith)) h)) (λ h. inl (λ k. clash k h))
+
+  pub taken-stays : Taken s n m → Taken t n m
+  unfolding only ◌or◌
+  taken-stays r =
       let l = later-some s.next _ _ r.channel (later st n) r.found in
       let c = r.channel in
       let e = l.0 in
@@ -70,13 +96,30 @@ module _ {s t : Store} {d : Datagram} {n m : ℕ} (st : Step s d t) where
       record {
         channel = e;
         found = l.1;
+        taken = received.taken-from s.records t.records c e m g.order g.receive g.mark
+            (⊎_elim inl (λ p. inr (below e l.1 p)) (receipt-after c e r.found g.own)) r.taken;
+      }
+    where
+      below : (e : Channel) → channel_at n t.channels ≡ some e → PrunesNow st n m → is_pruned e m ≡ true
+      below e f p =
+          let after = ap (λ (k : ℕ). channel_at k t.channels) (sym p.channel) ∙
+          own-after st (ap makes_end p.kind) in
+          ap (λ (x : Channel). is_pruned x m) (one-channel t n f after) ∙ prunes-pruned st n m p
+
+  pub received-stays : Received s n m → Received t n m ⊎ PrunesNow st n m
+  received-stays r =
+      let l = later-some s.next _ _ r.channel (later st n) r.found in
+      let c = r.channel in
+      let e = l.0 in
+      let g = l.2 in
+      ⊎_elim (λ k. inl (record {
+        channel = e;
+        found = l.1;
         received = received.received-from s.records t.records c e m g.order
-            (λ b. lt-ltb m e.next.receive (omega (arith, ltb-true m c.next.receive b, g.receive)))
-            (λ h. ap (λ (x : PortChannel). is_some (lookup (receipt_key x.channel m) t.records)) g.own ∙
-            record-stays st (receipt_key c.own.channel m) (λ q. absurd (omega arith)) h)
+            (λ b. lt-ltb m e.next.receive (omega (arith, ltb-true m c.next.receive b, g.receive))) k
             (λ h. lapsed-back r (ap (λ (x : PortChannel). is_some (lookup (timeout_receipt_key x.channel m)
             t.records)) (sym g.own) ∙ h)) r.received;
-      }
+      })) (λ p. inr p) (receipt-after c e r.found g.own)
 
 -- A RECEIVE takes what was not taken
 module _ {s t : Store} {d : Datagram} (st : Step s d t) (k : d.kind ≡ some receive) where
@@ -93,6 +136,7 @@ module _ {s t : Store} {d : Datagram} (st : Step s d t) (k : d.kind ≡ some rec
       go e (timing q ok) = clash q (ap (emits_record timed_out_kind) k)
       go e (making q ok m) = clash q (ap makes_end k)
       go e (moving q m) = clash q (ap moves_end k)
+      go e (pruning q ok) = kinds-apart prune receive q k refl
 
   pub receive-old : makes_end d.kind ≡ false
   unfolding only ◌or◌
@@ -109,11 +153,10 @@ module _ {s t : Store} {d : Datagram} (st : Step s d t) (k : d.kind ≡ some rec
       let ok = receive-of.0 in
       received.take-new s.records st.channel d.packet.sequence ok.in_order ok.new
 
-  pub receive-first : Received s d.packet.destination.channel d.packet.sequence → ⊥
+  pub receive-first : Taken s d.packet.destination.channel d.packet.sequence → ⊥
   receive-first r =
       let e = one-channel s _ r.found receive-found in
-      clash (subst (λ (c : Channel). is_taken s.records c d.packet.sequence ≡ true) e
-      (received.received-taken s.records r.channel d.packet.sequence r.received)) not_taken
+      clash (subst (λ (c : Channel). is_taken s.records c d.packet.sequence ≡ true) e r.taken) not_taken
 
   pub receive-end : left_end st ≡ received_end st.channel
   unfolding receives
@@ -191,7 +234,7 @@ module _ {s t : Store} {d : Datagram} {n m : ℕ} (st : Step s d t) (one : 1 ≤
         received = received.received-from t.records s.records r.channel c m (sym o) counter
             (λ h. ap (λ (k : ℕ). is_some (lookup (receipt_key k m) s.records)) own ∙ receipt-before another h)
             (λ h. ap (λ (k : ℕ). is_some (lookup (timeout_receipt_key k m) t.records)) (number ∙ sym own) ∙
-            record-stays st (timeout_receipt_key c.own.channel m) (λ q. absurd (omega arith)) h) r.received;
+            timeout-receipt-stays st c.own.channel m h) r.received;
       }
 
   -- a new end has received nothing
@@ -200,12 +243,7 @@ module _ {s t : Store} {d : Datagram} {n m : ℕ} (st : Step s d t) (one : 1 ≤
       clash r.received (received.none-received t.records r.channel m k one
       (none-if (lookup (receipt_key r.channel.own.channel m) t.records) (λ x h.
       let e = some-if (lookup (receipt_key n m) s.records) (receipt-before another (ap is_some h)) in
-      let q = record-channel s (receipt_key n m) e.0 st.fits e.1 in
-      let z : ◌≡◌ {A = ℕ} 0 1 = none-some f q.1 in
-      omega arith)))
-    where
-      none-some : {c : Channel} {x : Option Channel} → x ≡ none → x ≡ some c → ◌≡◌ {A = ℕ} 0 1
-      none-some p q = cc
+      none-some f (record-channel s (receipt_key n m) e.0 st.fits e.1).1)))
 
   counter-before : Another → st.channel.own.channel ≡ n → ltb m (left_end st).next.receive ≡ true →
       ltb m st.channel.next.receive ≡ true

@@ -1,7 +1,7 @@
 -- Demand 3 under true verdicts: no packet is both delivered and timed out. Assumes nothing.
 use Rattle.wire.proofs.Prelude.{◌≡◌, refl, sym, ap, subst, subst₂, ◌∙◌, subst₃, true, false, ⊎_elim, some, ℕ, ◌≤◌, ◌<◌}
 use Rattle.wire.proofs.Prelude.{suc, arith, ltb, leb, ltb-true, leb-true, leb-false, ltb-false, le-leb}
-use Rattle.wire.specs.Names.{◌or◌, Every}
+use Rattle.wire.specs.Names.{◌or◌, is_some, Every}
 use Rattle.wire.proofs.Laws.{and_both, both-and, or-either, or-neither, clash, cases}
 use Rattle.slots.specs.declared.PortChannel.{PortChannel}
 use Rattle.slots.specs.declared.OtherHeight.{OtherHeight}
@@ -27,18 +27,20 @@ use Rattle.rules.proofs.VerdictLaws.{Has, has-values, Alike, same-port-channel, 
 use Rattle.rules.proofs.OrderingLaws.{delivered-early}
 use Rattle.rules.proofs.ReceivedLaws.{absent-not-received}
 use Rattle.rules.proofs.Accepted.{Why, by_time, by_close, TimeoutOk}
-use Rattle.rules.proofs.Step.{How, sending, receiving, writing, acknowledging, timing, making, moving, Step}
-use Rattle.rules.proofs.Step.{own-found}
+use Rattle.rules.proofs.Step.{How, sending, receiving, writing, acknowledging, timing, making, moving, pruning}
+use Rattle.rules.proofs.Step.{Step, own-found}
 use Rattle.rules.proofs.Commitment.{committed-used, finish-source}
-use Rattle.rules.proofs.Receipt.{receive-of}
+use Rattle.rules.proofs.Receipt.{Received, receive-of}
 use Rattle.rules.proofs.Opening.{finish-opened}
 use Rattle.rules.proofs.Acted.{acted-carried}
-use Rattle.rules.proofs.History.{across-across, World, ledger, ledger-fits, used-back}
+use Rattle.rules.proofs.History.{across-across, World, ledger, ledger-fits}
+use Rattle.rules.proofs.CommitmentHistory.{used-back}
 use Rattle.rules.proofs.Once.{Did, did, delivery-sender, other-sender}
 use Rattle.rules.proofs.Ends.{either, grows-into, sends-opened}
-use Rattle.rules.proofs.Block.{Within, within, truth}
-use Rattle.rules.proofs.Delivery.{Delivered, delivered, end_to, received-since}
+use Rattle.rules.proofs.Block.{Within, within, block-before, holds-in, truth}
+use Rattle.rules.proofs.Delivery.{Delivered, delivered, end_to, PrunedSince, received-since}
 use Rattle.rules.proofs.Truth.{claimed, source-end}
+use Rattle.rules.proofs.Pruning.{pruned-before}
 
 -- what passed by then has passed later too
 still-past : (l n m : ℕ) → n ≤ m → is_past l n ≡ true → is_past l m ≡ true
@@ -74,6 +76,7 @@ timeout-of {s} {d = d} st h = go st.effect st.how
     go e (timing k ok) = ok
     go e (making k ok m) = clash h (makes-no-packet d.kind k).3
     go e (moving k m) = clash h (moves-no-packet d.kind k).3
+    go e (pruning k ok) = absurd (not_so k refl)
 
 module _ (w : World) where
   -- the commitment of a channel and sequence is one record
@@ -155,19 +158,32 @@ module _ (w : World) (honest : Honest settling w.start w.calls) (pairs : Paired 
   unfolding fits_source
   to = same-port-channel _ _ (and_both ok.fits).1 ∙ sent-from.0
 
-  truths : Every (TrueVerdict w.start w.calls j c.side) (verdicts_got e)
+  truths : Every (TrueVerdict w.start w.calls j (across e.side)) (verdicts_got e)
   unfolding only ◌or◌
   truths =
-      subst (λ (y : Side). Every (TrueVerdict w.start w.calls j y) (verdicts_got e))
-      (ap across across-is ∙ across-across c.side)
-      (truth w settling honest j e f.acts (of-kinds (λ y. settling y ≡ true) (emits_record timed_out_kind)
-      refl (datagram_got e).kind (refl, (refl, tt)) f.emits))
+      truth w settling honest j e f.acts (of-kinds (λ y. settling y ≡ true) (emits_record timed_out_kind)
+      refl (datagram_got e).kind (refl, (refl, tt)) f.emits)
+
+  there-is : across e.side ≡ c.side
+  there-is = ap across across-is ∙ across-across c.side
+
+  -- its block was over before the call that carries it
+  block-over : (within w c.side v.block.height).time ≤ j
+  unfolding body has_part ◌or◌
+  block-over =
+      subst (λ (y : Side). (within w y v.block.height).time ≤ j) there-is
+      (block-before w j e f.acts.at (on_packet v)
+      (packet-verdict _ (datagram_got e) (of-kinds (λ y. has_part verdict_part (body_of y) ≡ true)
+      (emits_record timed_out_kind) refl (datagram_got e).kind (refl, (refl, tt)) f.emits) truths))
+
+  truths-here : Every (TrueVerdict w.start w.calls j c.side) (verdicts_got e)
+  truths-here = subst (λ (y : Side). Every (TrueVerdict w.start w.calls j y) (verdicts_got e)) there-is truths
 
   truth-here : TrueVerdict w.start w.calls j c.side (on_packet v)
   unfolding body has_part ◌or◌
   truth-here =
       packet-verdict _ (datagram_got e) (of-kinds (λ y. has_part verdict_part (body_of y) ≡ true)
-      (emits_record timed_out_kind) refl (datagram_got e).kind (refl, (refl, tt)) f.emits) truths
+      (emits_record timed_out_kind) refl (datagram_got e).kind (refl, (refl, tt)) f.emits) truths-here
 
   -- the store of the verdict's block: what a verdict of that block claims holds there
   abbrev b : Within w c.side v.block.height
@@ -175,14 +191,22 @@ module _ (w : World) (honest : Honest settling w.start w.calls) (pairs : Paired 
 
   holds_then : (a : AnyVerdict) → TrueVerdict w.start w.calls j c.side a → block_height a ≡ v.block.height →
       claim_holds a (ledger w c.side b.time) ≡ true
-  holds_then a t q =
-      subst (λ (h : OtherHeight). claim_holds a (ledger w c.side (within w c.side h).time) ≡ true) q
-      (ap (claim_holds a) (sym (within w c.side (block_height a)).store) ∙ t.holds)
+  holds_then a t q = holds-in w c.side j a v.block.height t q
 
-  -- it was not delivered by then: it would be received, and is claimed not to be
-  not-before : i < b.time → ⊥
-  not-before l =
-      let r = received-since w i c d b.time l in
+  -- it was not pruned by then: its commitment would be absent in the prune's block, which was over before
+  not-pruned : PrunedSince w i c d b.time → ⊥
+  not-pruned m =
+      let q = pruned-before w honest i c d b.time m in
+      let r = timed-out in
+      let l = m.before in
+      let o = block-over in
+      let x = q.earlier in
+      clash (ap is_some (used-back w (across c.side) _ _ q.time j (omega arith) q.used r.there)) q.absent
+
+  -- and not delivered by then: it would be received, and is claimed not to be
+  not-received : Received (ledger w c.side b.time) (packet_of c).destination.channel (packet_of c).sequence →
+      i < b.time → ⊥
+  not-received r l =
       let n = ap (λ (x : PortChannel). x.channel) to in
       let g = grows-into w c.side i b.time _ (end_to w d) r.channel (omega arith) d.found r.found in
       let found = ap (λ (m : ℕ). channel_at m (ledger w c.side b.time).channels) n ∙ r.found in
@@ -191,6 +215,9 @@ module _ (w : World) (honest : Honest settling w.start w.calls) (pairs : Paired 
       (holds_then (on_packet v) truth-here refl) in
       clash r.received (ap (is_received (ledger w c.side b.time).records r.channel) (sym sequence) ∙
       absent)
+
+  not-before : i < b.time → ⊥
+  not-before l = ⊎_elim (λ r. not-received r l) not-pruned (received-since w i c d b.time l)
 
   -- its timeout has passed: then it was delivered in that block
   not_late : is_proved_late p.timeout v ≡ true → ⊥
@@ -207,7 +234,7 @@ module _ (w : World) (honest : Honest settling w.start w.calls) (pairs : Paired 
   unfolding needed_peer needed_end body has_part ◌or◌
   not-shut k shut same =
       let y = claim-end u (ledger w c.side b.time)
-      (holds_then (on_end u) (end-verdict _ (datagram_got e) (rw k refl) truths) same) in
+      (holds_then (on_end u) (end-verdict _ (datagram_got e) (rw k refl) truths-here) same) in
       let n = ap (λ (x : PortChannel). channel_at x.channel (ledger w c.side b.time).channels)
       (sym (shut.one.own ∙ sent-from.0)) in
       cases (ltb i b.time) (λ q. not-before (ltb-true i b.time q))

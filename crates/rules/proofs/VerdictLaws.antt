@@ -1,21 +1,23 @@
 -- What a verdict that matches is about, and what a claim that holds says. Assumes nothing.
 use Rattle.wire.proofs.Prelude.{◌≡◌, refl, sym, ap, ◌∙◌, Bool, true, not, false, List, Option, none, some, ℕ, suc}
-use Rattle.wire.proofs.Prelude.{arith, eqb, eqb-true, not-true}
-use Rattle.wire.specs.Names.{◌and◌, with_number, pick, is_some, same}
-use Rattle.wire.proofs.Laws.{and_both, clash, same-eq}
+use Rattle.wire.proofs.Prelude.{◌+◌, ◌<◌, arith, eqb, ltb, ltb-true, eqb-true, not-true}
+use Rattle.wire.specs.Names.{◌and◌, with_number, pick, is_some, same, no_digest}
+use Rattle.wire.proofs.Laws.{and_both, clash, cases, same-eq}
 use Rattle.slots.specs.declared.PortChannel.{PortChannel}
 use Rattle.slots.specs.declared.Timeout.{Timeout}
 use Rattle.slots.specs.declared.Channel.{Channel}
 use Rattle.slots.specs.declared.Record.{Record}
-use Rattle.slots.specs.Names.{state_init, channel_kind, same_timeout, same_port_channel, channel_at, commitment_key}
+use Rattle.slots.specs.Names.{state_init, channel_kind, same_timeout, no_timeout, same_port_channel, channel_at, commitment_key}
 use Rattle.slots.specs.Names.{receipt_key, timeout_receipt_key, lookup, Store}
 use Rattle.datagram.specs.declared.Block.{Block}
 use Rattle.datagram.specs.declared.Verdict.{Verdict}
 use Rattle.datagram.specs.declared.EndVerdict.{EndVerdict}
 use Rattle.datagram.specs.Names.{Claim, commitment_present, acknowledgement_present, receipt_absent, next_receive_is, end_is}
-use Rattle.datagram.specs.Names.{timeout_receipt_present, claim_number, claim_of, on_packet, on_end}
+use Rattle.datagram.specs.Names.{timeout_receipt_present, commitment_absent, next_send_is, claim_number, claim_of, on_packet}
+use Rattle.datagram.specs.Names.{on_end}
 use Rattle.rules.specs.Names.{first_difference, shown, same_but_version, first_end_difference, block_difference}
 use Rattle.rules.specs.Names.{has_version, has_values, is_as_stated, holds_on, end_holds, claim_holds, Peers}
+use Rattle.rules.specs.Names.{next_send_difference, above_for}
 
 pub record About (v : Verdict) (k : ℕ) (e : PortChannel) (n : ℕ) (t : Timeout) (d : List ℕ) : Type 0 where
   pub claim : v.claim ≡ k
@@ -58,6 +60,15 @@ about v k e n t d h =
       digest = same-eq v.digest d i.0;
     }
 
+-- a claimed next send that does not differ is above the sequence
+pub claims-above : (c : Channel) (n : ℕ) (v : Verdict) → next_send_difference c n v ≡ 0 → n < v.sequence
+unfolding next_send_difference
+claims-above c n v h =
+    let q = (about v (claim_number next_send_is) c.counterparty (above_for n v.sequence) no_timeout no_digest h).sequence
+    in
+    cases (ltb n v.sequence) (λ e. ltb-true n v.sequence e)
+    (λ e. let z : v.sequence ≡ n + 1 = rw e at q in omega arith)
+
 -- a record with these values
 pub record Has (x : Option Record) (t : Timeout) (d : List ℕ) : Type 0 where
   pub stored : Record
@@ -92,6 +103,8 @@ claim-of receipt_absent = refl
 claim-of next_receive_is = refl
 claim-of end_is = refl
 claim-of timeout_receipt_present = refl
+claim-of commitment_absent = refl
+claim-of next_send_is = refl
 
 module _ (v : Verdict) (s : Store) (h : claim_holds (on_packet v) s ≡ true) where
   stated : (k : Claim) → v.claim ≡ claim_number k → (x : Option Channel) →
@@ -108,6 +121,18 @@ module _ (v : Verdict) (s : Store) (h : claim_holds (on_packet v) s ≡ true) wh
       Has (lookup (commitment_key v.about.channel v.sequence) s.records) v.timeout v.digest
   unfolding is_as_stated
   claim-committed k = has-values v.timeout v.digest _ (stated commitment_present k _ refl).2
+
+  pub claim-uncommitted : v.claim ≡ claim_number commitment_absent →
+      is_some (lookup (commitment_key v.about.channel v.sequence) s.records) ≡ false
+  unfolding is_as_stated
+  claim-uncommitted k = not-true _ (stated commitment_absent k _ refl).2
+
+  pub claim-next-send : v.claim ≡ claim_number next_send_is →
+      (c : Channel) × (channel_at v.about.channel s.channels ≡ some c) × (c.next.send ≡ v.sequence)
+  unfolding is_as_stated
+  claim-next-send k =
+      let a = stated next_send_is k _ refl in
+      (a.0, a.1, eqb-true a.0.next.send v.sequence a.2)
 
   module _ (c : Channel) (found : channel_at v.about.channel s.channels ≡ some c) where
     stated-on : (k : Claim) → v.claim ≡ claim_number k → is_as_stated (some k) v s c ≡ true
@@ -133,14 +158,14 @@ module _ (v : Verdict) (s : Store) (h : claim_holds (on_packet v) s ≡ true) wh
     unfolding is_as_stated
     claim-lapsed k = stated-on timeout_receipt_present k
 
--- ONE END, as it is known by its record: the same but for its state and its counters
+-- ONE END, as it is known by its record: the same but for its state, its counters and its mark
 pub record OneEnd (c e : Channel) : Type 0 where
   pub own : c.own ≡ e.own
   pub counterparty : c.counterparty ≡ e.counterparty
   pub order : c.order ≡ e.order
   pub version : c.version ≡ e.version
 
--- in the same state too: counters are what an end verdict does not show
+-- in the same state too: counters and mark are what an end verdict does not show
 pub record Alike (c e : Channel) : Type 0 where
   pub one : OneEnd c e
   pub state : c.state ≡ e.state
@@ -196,7 +221,7 @@ same-port-channel a b h =
 alike : (c e : Channel) → same_but_version c e ≡ true → same c.version e.version ≡ true → Alike c e
 unfolding same_but_version
 alike c e h v =
-    let a = and_both (and_both h).0 in
+    let a = and_both (and_both (and_both h).0).0 in
     let b = and_both a.0 in
     let d = and_both b.0 in
     record {

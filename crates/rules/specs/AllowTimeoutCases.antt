@@ -25,7 +25,7 @@ use Rattle.rules.specs.ClosingCases.{byte_at}
 
 -- THE STORES by their bytes: the end, of an order, in a state and with its counters; and the packet records
 abbrev pub end_of : (order state send receive acknowledge : ℕ) → List ℕ
-end_of o s n r a = end_with s 5 1 6 10 o (little 8 n ++ little 8 r ++ little 8 a) version
+end_of o s n r a = end_with s 5 1 6 10 o (little 8 n ++ little 8 r ++ little 8 a) version 1
 
 abbrev pub store_with : (end records : List ℕ) → List ℕ
 store_with e rs = store_of 2 (e ++ replicate 960 0 ++ rs)
@@ -185,9 +185,9 @@ pub record AllowTimeoutCases : Type 0 where
   -- before its timeout has passed, by any claim
   pub too_early : numbers_from (sent 3) (map (λ k. timeout_of 2 k 2 (byte_at 2 59)) (3 ∷ 4 ∷ 6 ∷ [])) ≡ replicate 3 12
   -- THE CLAIM: of a time-out 6, on close 4 or 6, in either state
-  pub each_claim : map (λ k. numbers_from (sent 3) (by_claim k)) (0 ∷ 1 ∷ 2 ∷ 3 ∷ 4 ∷ 5 ∷ 6 ∷ 7 ∷ []) ≡
+  pub each_claim : map (λ k. numbers_from (sent 3) (by_claim k)) (0 ∷ 1 ∷ 2 ∷ 3 ∷ 4 ∷ 5 ∷ 6 ∷ 7 ∷ 8 ∷ 9 ∷ []) ≡
       replicate 2 3 ∷ replicate 3 (replicate 2 140) ++
-      ((140 ∷ 0 ∷ []) ∷ replicate 2 140 ∷ replicate 2 0 ∷ replicate 2 3 ∷ [])
+      ((140 ∷ 0 ∷ []) ∷ replicate 2 140 ∷ replicate 2 0 ∷ replicate 2 (replicate 2 140) ++ (replicate 2 3 ∷ []))
   pub each_claim_on_closed : map (λ k. numbers_from (sent 4) (by_claim k)) (3 ∷ 4 ∷ 6 ∷ []) ≡
       replicate 2 140 ∷ (140 ∷ 0 ∷ []) ∷ replicate 2 0 ∷ []
   -- its number: by claim 6 the packet's, by claim 4 any that is not above it

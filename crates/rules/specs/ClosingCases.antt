@@ -24,10 +24,10 @@ use Rattle.rules.specs.HandshakeCases.{record_places, version_places, shorter, l
 
 -- THE STORES by their bytes: the two ends in these states, and the commitments
 abbrev pub end_one : (state : ℕ) → List ℕ
-end_one s = end_with s 5 1 6 10 1 (little 8 3 ++ little 8 1 ++ little 8 2) version
+end_one s = end_with s 5 1 6 10 1 (little 8 3 ++ little 8 1 ++ little 8 2) version 1
 
 abbrev pub end_two : (state : ℕ) → List ℕ
-end_two s = end_with s 5 2 6 9 2 (little 8 3 ++ little 8 1 ++ little 8 1) version
+end_two s = end_with s 5 2 6 9 2 (little 8 3 ++ little 8 1 ++ little 8 1) version 1
 
 abbrev pub committed : (channel : ℕ) → List ℕ
 committed c = little 4 1 ++ little 4 c ++ little 8 2 ++ little 8 60 ++ little 8 0 ++ a_digest
@@ -40,7 +40,7 @@ sent s t = store_with s t (committed 1 ++ committed 2)
 
 -- counters at their top, and no channel number left; a receipt of sequence 2 on the second
 abbrev pub end_at_top : (channel other order : ℕ) → List ℕ
-end_at_top c e o = end_with 3 5 c 6 e o (little 8 top ++ little 8 top ++ little 8 top) version
+end_at_top c e o = end_with 3 5 c 6 e o (little 8 top ++ little 8 top ++ little 8 top) version 1
 
 abbrev pub all_used : List ℕ
 all_used =
@@ -193,9 +193,10 @@ pub record ClosingCases : Type 0 where
       replicate 6 (replicate 2 13) ++ replicate 2 (replicate 2 9) ++ replicate 2 (replicate 2 5) ++
       replicate 4 (replicate 2 9) ++ replicate 2 (replicate 2 13)
   -- the end verdict's parts; its claim and its record's state and order, by each value
-  pub other_record : numbers_of (λ i. ends_by (byte_at i 3)) record_places ≡ replicate 18 (replicate 4 145)
-  pub each_end_claim : numbers_of (λ b. ends_by (byte_at 0 b)) (0 ∷ 1 ∷ 2 ∷ 3 ∷ 4 ∷ 5 ∷ 6 ∷ 7 ∷ []) ≡
-      replicate 4 3 ∷ replicate 4 (replicate 4 140) ++ (replicate 4 0 ∷ replicate 4 140 ∷ replicate 4 3 ∷ [])
+  pub other_record : numbers_of (λ i. ends_by (byte_at i 3)) record_places ≡ replicate 20 (replicate 4 145)
+  pub each_end_claim : numbers_of (λ b. ends_by (byte_at 0 b)) (0 ∷ 1 ∷ 2 ∷ 3 ∷ 4 ∷ 5 ∷ 6 ∷ 7 ∷ 8 ∷ 9 ∷ []) ≡
+      replicate 4 3 ∷ replicate 4 (replicate 4 140) ++
+      (replicate 4 0 ∷ replicate 3 (replicate 4 140) ++ (replicate 4 3 ∷ []))
   pub each_state : numbers_of (λ b. ends_by (byte_at 20 b)) (1 ∷ 2 ∷ 3 ∷ 4 ∷ []) ≡
       replicate 3 (replicate 4 145) ++ (replicate 4 0 ∷ [])
   pub each_order : numbers_of (λ b. ends_by (byte_at 21 b)) (1 ∷ 2 ∷ 3 ∷ []) ≡

@@ -54,20 +54,21 @@ unfoldable pub a_verdict : (claim : ℕ) → (block : List ℕ) → (port channe
 a_verdict k b p c n h t d =
     little 2 k ++ b ++ little 2 p ++ little 4 c ++ little 8 n ++ little 8 h ++ little 8 t ++ d
 
--- a version, and a channel record with its counters and with zeros behind its version
+-- a version, and a channel record with its counters, with zeros behind its version, and with its mark
 unfoldable pub a_version : (size : ℕ) → List ℕ
 a_version n = replicate n 118
 
-unfoldable pub end_with : (state port channel other_port other_channel order : ℕ) → (counters version : List ℕ) → List ℕ
-end_with s p c q e o ns v =
+unfoldable pub end_with : (state port channel other_port other_channel order : ℕ) → (counters version : List ℕ) →
+    (mark : ℕ) → List ℕ
+end_with s p c q e o ns v m =
     little 2 1 ++ (s ∷ o ∷ []) ++ little 4 c ++ little 2 p ++ little 2 q ++ little 4 e ++ ns ++ v ++
-    replicate (24 - length v) 0
+    replicate (16 - length v) 0 ++ little 8 m
 
--- its counters, all alike
+-- its counters and its mark, all alike
 abbrev pub end_record : (state port channel other_port other_channel order counter : ℕ) → (version : List ℕ) → List ℕ
-end_record s p c q e o n v = end_with s p c q e o (little 8 n ++ little 8 n ++ little 8 n) v
+end_record s p c q e o n v = end_with s p c q e o (little 8 n ++ little 8 n ++ little 8 n) v n
 
--- of an end, whose counters are shown as zero
+-- of an end, whose counters and mark are shown as zero
 unfoldable pub an_end_verdict : (block : List ℕ) → (state port channel other_port other_channel order : ℕ) →
     (version : List ℕ) → List ℕ
 an_end_verdict b s p c q e o v = little 2 5 ++ b ++ end_record s p c q e o 0 v
@@ -153,6 +154,14 @@ timeout_on_close_of x b p o v k n =
     timeout_on_close_by x p
     (an_end_verdict b 4 p.destination.port p.destination.channel p.source.port p.source.channel o v)
     (absence_of b p k n)
+
+unfoldable pub prune_by : (context : List ℕ) → (channel sequence : ℕ) → (first second : List ℕ) → List ℕ
+prune_by x c n v w = framed 13 (x ++ little 4 c ++ little 8 n ++ v ++ w)
+
+-- across, its commitment is absent, and next send is this number, of one block
+abbrev pub prune_of : (context block : List ℕ) → (channel other_port other_channel sequence next : ℕ) → List ℕ
+prune_of x b c q e n m =
+    prune_by x c n (a_verdict 7 b q e n 0 0 no_digest) (a_verdict 8 b q e m 0 0 no_digest)
 
 -- an output buffer that is just long enough
 unfoldable pub an_output : List ℕ

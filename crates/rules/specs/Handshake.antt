@@ -16,7 +16,7 @@ use Rattle.rules.specs.Ordering.{moved}
 abbrev pub port_only : (port : ℕ) → PortChannel
 port_only p = record { port = p; channel = 0 }
 
--- A NEW END has the caller's port and the next channel number, counters 1 and the datagram's order and version
+-- A NEW END has the caller's port and the next channel number, counters and mark 1 and the datagram's order and version
 unfoldable pub new_end : (state : ℕ) → (counterparty : PortChannel) → (next : ℕ) → Datagram → Channel
 new_end s e n d =
     record {
@@ -26,16 +26,17 @@ new_end s e n d =
       counterparty = e;
       next = record { send = 1; receive = 1; acknowledge = 1 };
       version = padded d.version;
+      mark = 1;
     }
 
 -- channel table full, or numbers used up
 unfoldable pub is_full : Store → Bool
 is_full s = not (has_free s.channels) or ltb top_channel s.next
 
--- A NEEDED RECORD has zero counters
+-- A NEEDED RECORD has zero counters and mark
 unfoldable pub needed_end : (state order : ℕ) → (own counterparty : PortChannel) → (version : List ℕ) → Channel
 needed_end s o e f v =
-    record { state = s; order = o; own = e; counterparty = f; next = no_counters; version = v }
+    record { state = s; order = o; own = e; counterparty = f; next = no_counters; version = v; mark = 0 }
 
 -- OPEN INIT leaves an INIT end
 abbrev pub init_end : (next : ℕ) → Datagram → Channel

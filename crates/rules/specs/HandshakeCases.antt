@@ -16,7 +16,7 @@ use Rattle.rules.specs.Cases.{usual, wrong_zero_byte, of_each_kind, number_from,
 -- THE STORES by their bytes: last height 100 and time 1000, the next channel number, and the channel records
 unfoldable pub store_of : (next : ℕ) → (ends : List ℕ) → List ℕ
 store_of n es =
-    little 4 1216 ++ little 2 0x0401 ++ little 2 16 ++ little 8 100 ++ little 8 1000 ++ little 4 2 ++ little 8 n ++
+    little 4 1216 ++ little 2 0x0402 ++ little 2 16 ++ little 8 100 ++ little 8 1000 ++ little 4 2 ++ little 8 n ++
     replicate 28 0 ++ es ++ replicate (1152 - length es) 0
 
 abbrev pub version : List ℕ
@@ -80,23 +80,24 @@ moves_on_one =
 
 -- init and try, with a version that the verdict shows too
 abbrev pub makers : (versions : List (List ℕ)) → List (List ℕ)
-makers vs = map (an_init usual) vs ++ map (λ v. a_try usual (shown_init (take 24 v)) v) vs
+makers vs = map (an_init usual) vs ++ map (λ v. a_try usual (shown_init (take 16 v)) v) vs
 
 -- VERDICTS that have another byte in one place: what the three steps answer
 abbrev pub with_byte : (place byte : ℕ) → List ℕ
 with_byte i b = numbers_from begun (proved_steps usual (λ w. set w i b))
 
 -- the first and the last byte of the block's height and time; of the record's kind, state, order, channel, port,
--- counterparty port and channel and counters; and of its version
+-- counterparty port and channel, counters and mark; and of its version
 abbrev pub block_places : List ℕ
 block_places = 2 ∷ 9 ∷ 10 ∷ 17 ∷ []
 
 abbrev pub record_places : List ℕ
 record_places =
-    18 ∷ 19 ∷ 20 ∷ 21 ∷ 22 ∷ 25 ∷ 26 ∷ 27 ∷ 28 ∷ 29 ∷ 30 ∷ 33 ∷ 34 ∷ 41 ∷ 42 ∷ 49 ∷ 50 ∷ 57 ∷ []
+    18 ∷ 19 ∷ 20 ∷ 21 ∷ 22 ∷ 25 ∷ 26 ∷ 27 ∷ 28 ∷ 29 ∷ 30 ∷ 33 ∷ 34 ∷ 41 ∷ 42 ∷ 49 ∷ 50 ∷ 57 ∷ 74 ∷
+    81 ∷ []
 
 abbrev pub version_places : List ℕ
-version_places = 58 ∷ 81 ∷ []
+version_places = 58 ∷ 73 ∷ []
 
 -- another version; and another state with it
 abbrev pub other_version : List ℕ → List ℕ
@@ -121,11 +122,12 @@ malformed_steps =
     steps wrong_zero_byte ++ steps (a_context 100 1000 5 2) ++ steps (a_context 0 1000 5 1)
 
 -- UNFIT by one byte: next channel number 0 where no channel is, or not above a channel; a zero byte behind it not zero;
--- state 0 or 5; an INIT end with a counterparty; a byte behind a version not zero
+-- state 0 or 5; an INIT end with a counterparty; a byte behind a version not zero; mark 0, and mark 2 of an ordered
+-- end
 abbrev pub unfit_stores : List (List ℕ)
 unfit_stores =
     set empty 28 0 ∷ set begun 28 2 ∷ set begun 36 1 ∷ set begun 66 0 ∷ set begun 66 5 ∷ set begun 76 1 ∷
-    set begun 107 1 ∷ []
+    set begun 107 1 ∷ set begun 120 0 ∷ set begun 120 2 ∷ []
 
 -- FULL: sixteen ends
 abbrev pub filled : List ℕ
@@ -162,7 +164,7 @@ pub record HandshakeCases : Type 0 where
   -- LINES, each for all of its steps
   pub each_accepted : numbers_from begun (steps usual) ≡ replicate 4 0
   pub unfit : numbers_from (set begun 28 2) (steps usual) ≡ replicate 4 1
-  pub unfit_each : map (λ bs. number_from bs (an_init usual version)) unfit_stores ≡ replicate 7 1
+  pub unfit_each : map (λ bs. number_from bs (an_init usual version)) unfit_stores ≡ replicate 9 1
   pub short_output : map (λ d. (call_told begun (replicate 105 9) d).number) (steps usual) ≡ replicate 4 2
   pub malformed_each : numbers_from begun malformed_steps ≡ replicate 26 3
   pub goes_back : numbers_from begun
@@ -176,29 +178,30 @@ pub record HandshakeCases : Type 0 where
   pub unconnected : numbers_from begun (steps (a_context 100 1000 5 0)) ≡ 0 ∷ 8 ∷ 8 ∷ 8 ∷ []
   -- the verdict's parts, by another byte in one place; its claim and its record's state and order, by each value
   pub other_block : map (λ i. with_byte i 4) block_places ≡ replicate 4 (replicate 3 0)
-  pub other_record : map (λ i. with_byte i 4) record_places ≡ replicate 18 (replicate 3 145)
+  pub other_record : map (λ i. with_byte i 4) record_places ≡ replicate 20 (replicate 3 145)
   pub other_versions : map (λ i. with_byte i 4) version_places ≡ replicate 2 (replicate 3 27)
-  pub each_claim : map (with_byte 0) (0 ∷ 1 ∷ 2 ∷ 3 ∷ 4 ∷ 5 ∷ 6 ∷ 7 ∷ []) ≡
-      replicate 3 3 ∷ replicate 4 (replicate 3 140) ++ (replicate 3 0 ∷ replicate 3 140 ∷ replicate 3 3 ∷ [])
+  pub each_claim : map (with_byte 0) (0 ∷ 1 ∷ 2 ∷ 3 ∷ 4 ∷ 5 ∷ 6 ∷ 7 ∷ 8 ∷ 9 ∷ []) ≡
+      replicate 3 3 ∷ replicate 4 (replicate 3 140) ++
+      (replicate 3 0 ∷ replicate 3 (replicate 3 140) ++ (replicate 3 3 ∷ []))
   pub each_state : map (with_byte 20) (1 ∷ 2 ∷ 3 ∷ 4 ∷ []) ≡
       (0 ∷ 145 ∷ 145 ∷ []) ∷ (145 ∷ 0 ∷ 145 ∷ []) ∷ (145 ∷ 145 ∷ 0 ∷ []) ∷ replicate 3 145 ∷ []
   pub each_order : map (with_byte 21) (1 ∷ 2 ∷ 3 ∷ []) ≡
       (145 ∷ 0 ∷ 145 ∷ []) ∷ (0 ∷ 145 ∷ 0 ∷ []) ∷ replicate 3 145 ∷ []
   -- a full table, also where 145 and where 27 applies; numbers used up
   pub full : numbers_from filled
-      (steps usual ++ proved_steps usual other_end ++ makers (a_version 25 ∷ [])) ≡
+      (steps usual ++ proved_steps usual other_end ++ makers (a_version 17 ∷ [])) ≡
       25 ∷ 25 ∷ 0 ∷ 0 ∷ 145 ∷ 145 ∷ 145 ∷ 25 ∷ 25 ∷ []
   pub used_up : numbers_from (store_of 4294967296 (init_end 1 ++ end_two 2)) (steps usual) ≡ 25 ∷ 25 ∷ 0 ∷ 0 ∷ []
   pub other_state : map (λ bs. numbers_from bs moves_on_one) in_each_state ≡
       (0 ∷ 26 ∷ []) ∷ (26 ∷ 0 ∷ []) ∷ replicate 2 (replicate 2 26)
-  pub version_fits : numbers_from begun (makers ([] ∷ a_version 1 ∷ a_version 24 ∷ [])) ≡ replicate 6 0
+  pub version_fits : numbers_from begun (makers ([] ∷ a_version 1 ∷ a_version 16 ∷ [])) ≡ replicate 6 0
   pub version_unfit : numbers_from begun
-      (makers (a_version 25 ∷ (118 ∷ 0 ∷ 118 ∷ []) ∷ (118 ∷ 0 ∷ []) ∷ (0 ∷ []) ∷ [])) ≡ replicate 8 27
+      (makers (a_version 17 ∷ (118 ∷ 0 ∷ 118 ∷ []) ∷ (118 ∷ 0 ∷ []) ∷ (0 ∷ []) ∷ [])) ≡ replicate 8 27
   pub version_unlike : numbers_from begun
       (a_try usual (shown_init (a_version 3)) version ∷ a_try usual (shown_init []) version ∷
       a_try usual (shown_init version) [] ∷ []) ≡ replicate 3 27
-  pub long_version : numbers_from (after empty (an_init usual (a_version 24)))
-      (map (λ n. open_acknowledge_by usual 1 10 (shown_try_open (a_version n))) (24 ∷ 23 ∷ 0 ∷ [])) ≡ 0 ∷ 27 ∷ 27 ∷ []
+  pub long_version : numbers_from (after empty (an_init usual (a_version 16)))
+      (map (λ n. open_acknowledge_by usual 1 10 (shown_try_open (a_version n))) (16 ∷ 15 ∷ 0 ∷ [])) ≡ 0 ∷ 27 ∷ 27 ∷ []
   pub no_version : numbers_from (after empty (an_init usual []))
       (map (λ n. open_acknowledge_by usual 1 10 (shown_try_open (a_version n))) (0 ∷ 1 ∷ [])) ≡ 0 ∷ 27 ∷ []
   -- WHERE TWO NUMBERS APPLY: 7 and 8, 8 and 145, 145 and 27, 145 and 26, 26 and 27

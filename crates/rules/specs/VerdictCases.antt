@@ -78,10 +78,10 @@ pub record VerdictCases : Type 0 where
       replicate 2 (replicate 8 141) ++ replicate 2 (replicate 8 142) ++
       replicate 2 (replicate 4 143 ++ (15 ∷ 143 ∷ 15 ∷ 143 ∷ [])) ++ replicate 4 (replicate 8 144) ++
       replicate 2 (replicate 8 145)
-  pub each_claim : map (λ k. numbers_by (byte_at 0 k)) (0 ∷ 1 ∷ 2 ∷ 3 ∷ 4 ∷ 5 ∷ 6 ∷ 7 ∷ []) ≡
+  pub each_claim : map (λ k. numbers_by (byte_at 0 k)) (0 ∷ 1 ∷ 2 ∷ 3 ∷ 4 ∷ 5 ∷ 6 ∷ 7 ∷ 8 ∷ 9 ∷ []) ≡
       replicate 8 3 ∷ (0 ∷ 20 ∷ replicate 6 140) ∷ (140 ∷ 140 ∷ 0 ∷ 0 ∷ replicate 4 140) ∷
       (replicate 5 140 ++ (0 ∷ 140 ∷ 0 ∷ [])) ∷ (replicate 4 140 ++ (0 ∷ 140 ∷ 0 ∷ 140 ∷ [])) ∷
-      replicate 2 (replicate 8 140) ++ (replicate 8 3 ∷ [])
+      replicate 4 (replicate 8 140) ++ (replicate 8 3 ∷ [])
   -- THE FIRST PART that differs is told, where all behind it differ too
   pub first_part : map (λ i. numbers_from (sent 3 3) (proved_one (changed_from i))) (0 ∷ 1 ∷ 2 ∷ 3 ∷ 4 ∷ 5 ∷ 6 ∷ 7 ∷ []) ≡
       replicate 6 140 ∷ replicate 6 141 ∷ replicate 6 142 ∷ (replicate 4 143 ++ (144 ∷ 143 ∷ [])) ∷ replicate 6 144 ∷

@@ -1,7 +1,8 @@
 -- A worked history: two made stores with no channels, and a list of calls that opens a channel of each ordering,
--- carries packets over them and closes them. Each kind of datagram is accepted, a packet lapses and four calls are
--- refused, with true verdicts. So the premises of demand 3 can be met, all of them together.
+-- carries packets over them, prunes one and closes them. Each kind of datagram is accepted, a packet lapses and five
+-- calls are refused, with true verdicts. So the premises of demand 3 can be met, all of them together.
 use Rattle.std.specs.Prelude.{◌≡◌, List, [], ◌∷◌, ◌++◌, map, ℕ, length, replicate}
+use Rattle.slots.specs.declared.Channel.{Channel}
 use Rattle.slots.specs.Layout.{size_for}
 use Rattle.openings.specs.Maker.{make_store}
 use Rattle.datagram.specs.declared.Packet.{Packet}
@@ -15,7 +16,7 @@ use Rattle.rules.specs.Statements.{Request, calls}
 use Rattle.rules.specs.Examples.{a_slice, an_opening, openings, a_context, a_digest, an_answer, a_packet, a_block}
 use Rattle.rules.specs.Examples.{a_version, an_end_verdict, a_send, receive_of, a_write, acknowledge_of, timeout_of}
 use Rattle.rules.specs.Examples.{an_open_init, open_try_of, open_acknowledge_of, open_confirm_by, open_confirm_of}
-use Rattle.rules.specs.Examples.{a_close_init, close_confirm_of, timeout_on_close_of, an_output}
+use Rattle.rules.specs.Examples.{a_close_init, close_confirm_of, timeout_on_close_of, prune_of, an_output}
 
 -- THE STORES: each ledger starts with no channels, and has room for four packet records
 unfoldable pub slice_of_four : List ℕ
@@ -91,6 +92,7 @@ transfers =
 -- THE CLOSINGS: on each channel a packet is sent, with a timeout that is far off; the other end closes, and receives
 -- that are tried there are refused; it is timed out on close. That closes the ordered channel, and the unordered one is
 -- closed by close confirm; where timeouts are allowed the end stays OPEN. Before, what was delivered is acknowledged
+-- and then pruned, and an old proof of it, which is true still, is refused
 abbrev pub ordered_one : Packet
 ordered_one = a_packet 2 900 0 5 1 6 3
 
@@ -112,6 +114,8 @@ closings =
     at_first 106 1060 (λ x. a_write x 3 1 an_answer) ∷
     at_second 208 1060 (λ x. acknowledge_of x (a_block 106 1060) delivered_one an_answer) ∷
     at_second 208 1060 (λ x. a_send x 1 0 9000) ∷
+    at_first 107 1070 (λ x. prune_of x (a_block 208 1060) 3 6 1 1 3) ∷
+    at_first 107 1070 (λ x. receive_of x (a_block 206 1025) delivered_one a_digest) ∷
     at_first 107 1070 (λ x. a_close_init x 3) ∷
     at_first 107 1070 (λ x. receive_of x (a_block 208 1060) unordered_one a_digest) ∷
     at_second 209 1070 (λ x. timeout_on_close_of x (a_block 107 1070) unordered_one 2 [] 3 2) ∷
@@ -126,15 +130,17 @@ history = calls stores requests
 -- what was told, and what happened
 abbrev pub numbers_told : List ℕ
 numbers_told =
-    replicate 12 0 ++ (145 ∷ replicate 7 0) ++ (11 ∷ replicate 13 0) ++ (6 ∷ replicate 6 0) ++ (6 ∷ replicate 2 0)
+    replicate 12 0 ++ (145 ∷ replicate 7 0) ++ (11 ∷ replicate 13 0) ++ (6 ∷ replicate 6 0) ++ (16 ∷ 0 ∷ []) ++
+    (6 ∷ replicate 2 0)
 
--- the state of an end after all calls
-abbrev pub state_on : Side → (channel : ℕ) → ℕ
-state_on z n = (or_none (end_at stores history z (length history) n)).state
+-- an end after all calls
+abbrev pub end_on : Side → (channel : ℕ) → Channel
+end_on z n = or_none (end_at stores history z (length history) n)
 
 pub record Happened : Type 0 where
-  pub first_states : map (state_on first) (1 ∷ 2 ∷ 3 ∷ []) ≡ 4 ∷ 3 ∷ 4 ∷ []
-  pub second_states : map (state_on second) (1 ∷ 2 ∷ 3 ∷ 4 ∷ []) ≡ 4 ∷ 2 ∷ 4 ∷ 4 ∷ []
+  pub first_states : map (λ n. (end_on first n).state) (1 ∷ 2 ∷ 3 ∷ []) ≡ 4 ∷ 3 ∷ 4 ∷ []
+  pub second_states : map (λ n. (end_on second n).state) (1 ∷ 2 ∷ 3 ∷ 4 ∷ []) ≡ 4 ∷ 2 ∷ 4 ∷ 4 ∷ []
+  pub first_marks : map (λ n. (end_on first n).mark) (1 ∷ 2 ∷ 3 ∷ []) ≡ 1 ∷ 1 ∷ 2 ∷ []
   pub ends : how_many (has_emitted made_kind) history ≡ 7
   pub sends : how_many is_send history ≡ 8
   pub deliveries : how_many is_delivery history ≡ 3

@@ -16,12 +16,12 @@ use Rattle.slots.specs.declared.Record.{Record}
 use Rattle.slots.specs.Codes.{commitment_kind, receipt_kind, acknowledgement_kind, timeout_receipt_kind}
 use Rattle.slots.specs.Height.{no_timeout, same_timeout}
 use Rattle.slots.specs.Layout.{slot_size, records_from, record_in}
-use Rattle.slots.specs.Ordering.{allows_timeouts, may_have_receipt, may_have_timeout_receipt}
+use Rattle.slots.specs.Ordering.{allows_timeouts, is_pruned, may_have_receipt, may_have_timeout_receipt}
 use Rattle.slots.specs.Fit.{has_zero_timeouts_and_digest}
 use Rattle.runs.specs.Each.{each}
 use Rattle.runs.specs.Run.{record_at, key_at, plain_size, is_plain, OwnRun, has_before, has_companion, fits_beside}
 use Rattle.runs.proofs.EachLaws.{each-fails, each-alike, each_both, each_same}
-use Rattle.runs.proofs.RunLaws.{zero-split, zero_number, run-below}
+use Rattle.runs.proofs.RunLaws.{zero-split, zero_number, run-below, run-from}
 
 -- A RECORD, by its kind
 module _ (b : Bool) (r : Record) (c : Channel) where
@@ -29,12 +29,14 @@ module _ (b : Bool) (r : Record) (c : Channel) where
   unfolding fits_beside
   fits-commitment h = rw h
 
-  fits-receipt : r.kind ≡ receipt_kind → fits_beside b r c ≡ (may_have_receipt c and has_zero_timeouts_and_digest r)
+  fits-receipt : r.kind ≡ receipt_kind → fits_beside b r c ≡
+      (may_have_receipt c and has_zero_timeouts_and_digest r and not (is_pruned c r.sequence))
   unfolding fits_beside
   fits-receipt h = rw h
 
   fits-acknowledgement : r.kind ≡ acknowledgement_kind → fits_beside b r c ≡
-      (same_timeout r.timeout no_timeout and pick (may_have_receipt c) b (ltb r.sequence c.next.receive))
+      (same_timeout r.timeout no_timeout and pick (may_have_receipt c) b (ltb r.sequence c.next.receive) and
+      not (is_pruned c r.sequence))
   unfolding fits_beside ◌and◌
   fits-acknowledgement h = rw h
 
@@ -89,7 +91,9 @@ module _ (bs : List ℕ) (bytes : Bytes bs) (b : Bool) (k : ℕ) (c : Channel)
       has_zero_timeouts_and_digest (record_at bs k) ≡ true
   all_plain p q =
       cases (eqb (key_at bs k).kind receipt_kind)
-      (λ e. (and_both (sym (fits-receipt b (record_at bs k) c (eqb-true (key_at bs k).kind receipt_kind e)) ∙ h)).1)
+      (λ e.
+      (and_both (and_both
+      (sym (fits-receipt b (record_at bs k) c (eqb-true (key_at bs k).kind receipt_kind e)) ∙ h)).0).1)
       (λ e. cases (eqb (key_at bs k).kind timeout_receipt_kind)
       (λ f.
       (and_both (and_both
@@ -102,8 +106,8 @@ module _ (bs : List ℕ) (bytes : Bytes bs) (b : Bool) (k : ℕ) (c : Channel)
       cases (eqb (key_at bs k).kind commitment_kind) (λ e. rw e none-plain)
       (λ e. cases (eqb (key_at bs k).kind acknowledgement_kind)
       (λ f.
-      let z = (and_both
-      (sym (fits-acknowledgement b (record_at bs k) c (eqb-true (key_at bs k).kind acknowledgement_kind f)) ∙ h)).0 in
+      let z = (and_both (and_both
+      (sym (fits-acknowledgement b (record_at bs k) c (eqb-true (key_at bs k).kind acknowledgement_kind f)) ∙ h)).0).0 in
       rw (e, f) (sym (zero-timeouts bs bytes k) ∙ z))
       (λ f. rw (e, f)
       (sym (zero-behind bs bytes k) ∙
@@ -134,12 +138,24 @@ module _ (bs : List ℕ) (bytes : Bytes bs) (i e : ℕ) (r : OwnRun bs i e) (mor
   plain-as kind size f h k z =
       ap (λ (x : ℕ). is_plain bs x k) (sym (ap plain_size h ∙ f)) ∙ z
 
-  pub receipts : (key_at bs i).kind ≡ receipt_kind → each run_test i (e - i) ≡ may_have_receipt c
+  -- not below the mark
+  kept : (k : ℕ) → Bool
+  kept k = not (is_pruned c (key_at bs k).sequence)
+
+  -- with another test of each
+  with-kept : (u : ℕ → Bool) →
+      each (λ k. u k and kept k) i (e - i) ≡ (each u i (e - i) and not (is_pruned c (key_at bs i).sequence))
+  unfolding kept is_pruned
+  with-kept u = each_both u kept i (e - i) ∙ rw (run-from bs _ i e c.mark r more)
+
+  pub receipts : (key_at bs i).kind ≡ receipt_kind →
+      each run_test i (e - i) ≡ (may_have_receipt c and not (is_pruned c (key_at bs i).sequence))
+  unfolding kept
   receipts h =
-      by_kind (λ k. may_have_receipt c)
+      by_kind (λ k. may_have_receipt c and kept k)
       (λ k q z. fits-receipt (has_companion bs k) (record_at bs k) c (q ∙ h) ∙
       rw (zero-behind bs bytes k, plain-as receipt_kind 48 refl h k z, and-true)) ∙
-      each_same (may_have_receipt c) i (e - i) (omega arith)
+      with-kept (λ k. may_have_receipt c) ∙ rw (each_same (may_have_receipt c) i (e - i) (omega arith))
 
   -- the companion of its kind
   receipt-before : (k : ℕ) → (key_at bs k).kind ≡ acknowledgement_kind → has_companion bs k ≡ has_before bs receipt_kind k
@@ -153,25 +169,30 @@ module _ (bs : List ℕ) (bytes : Bytes bs) (i e : ℕ) (r : OwnRun bs i e) (mor
     told : (k : ℕ) → Bool
     told k = pick (may_have_receipt c) (has_before bs receipt_kind k) (ltb (key_at bs k).sequence c.next.receive)
 
-    acknowledgements : each run_test i (e - i) ≡ each told i (e - i)
-    unfolding told ◌and◌
-    acknowledgements =
-        by_kind told
+    acknowledgements : (u : ℕ → Bool) → ((k : ℕ) → told k ≡ u k) →
+        each run_test i (e - i) ≡ (each u i (e - i) and not (is_pruned c (key_at bs i).sequence))
+    unfolding told kept ◌and◌
+    acknowledgements u alike =
+        by_kind (λ k. u k and kept k)
         (λ k q z. fits-acknowledgement (has_companion bs k) (record_at bs k) c (q ∙ h) ∙
-        rw (zero-timeouts bs bytes k, plain-as acknowledgement_kind 16 refl h k z, receipt-before k (q ∙ h)))
+        rw (
+          zero-timeouts bs bytes k,
+          plain-as acknowledgement_kind 16 refl h k z,
+          receipt-before k (q ∙ h),
+          alike k,
+        )) ∙ with-kept u
 
-    pub with-receipts : may_have_receipt c ≡ true → each run_test i (e - i) ≡ each (has_before bs receipt_kind) i (e - i)
+    pub with-receipts : may_have_receipt c ≡ true → each run_test i (e - i) ≡
+        (each (has_before bs receipt_kind) i (e - i) and not (is_pruned c (key_at bs i).sequence))
     unfolding told
-    with-receipts m =
-        acknowledgements ∙ each-alike told (has_before bs receipt_kind) i (e - i) (λ k a b. rw m)
+    with-receipts m = acknowledgements (has_before bs receipt_kind) (λ k. rw m)
 
-    pub with-counter : may_have_receipt c ≡ false →
-        each run_test i (e - i) ≡ ltb (key_at bs (e - 1)).sequence c.next.receive
+    pub with-counter : may_have_receipt c ≡ false → each run_test i (e - i) ≡
+        (ltb (key_at bs (e - 1)).sequence c.next.receive and not (is_pruned c (key_at bs i).sequence))
     unfolding told
     with-counter m =
-        acknowledgements ∙
-        each-alike told (λ k. ltb (key_at bs k).sequence c.next.receive) i (e - i) (λ k a b. rw m) ∙
-        run-below bs _ i e c.next.receive r more
+        acknowledgements (λ k. ltb (key_at bs k).sequence c.next.receive) (λ k. rw m) ∙
+        rw (run-below bs _ i e c.next.receive r more)
 
   pub timeout-receipts : (key_at bs i).kind ≡ timeout_receipt_kind →
       each run_test i (e - i) ≡

@@ -1,14 +1,14 @@
 -- Laws of runs: what a slot reads as in the bytes, a run that goes on or ends, and what is asked of its last record
--- alone. Assumes nothing.
+-- alone, or of its first. Assumes nothing.
 use mathlib.Core.Path.{◌≡◌, sym, ap, subst, ◌∙◌}
-use mathlib.Core.Bool.{true}
+use mathlib.Core.Bool.{Bool, true, not}
 use mathlib.Core.List.{List}
 use Prim.Native.Nat.{ℕ, ◌+◌, ◌*◌, ◌-◌, ◌≤◌, ◌<◌}
 use native.Mathlib.Nat.{add-zero}
 use native.Mathlib.Omega.{arith}
 use lib.Dec.{ltb, eqb}
 use lib.ListN.{length}
-use borrow.Author.Tests.{ltb-true, ltb-false, lt-ltb}
+use borrow.Author.Tests.{ltb-true, ltb-false, lt-ltb, le-ltb, eqb-true, eqb-false}
 use Rattle.wire.specs.Choice.{◌and◌}
 use Rattle.wire.specs.Bytes.{Bytes, are_zero, part, field}
 use Rattle.wire.proofs.ChoiceLaws.{cases}
@@ -135,3 +135,20 @@ run-below bs size i e limit r low =
     (λ f. let z : e - 1 ≡ k = (let g = ltb-false k (e - 1) f in omega arith) in
     subst (λ (x : ℕ). (key_at bs x).sequence < limit) z (ltb-true (key_at bs (e - 1)).sequence limit h)))) ∙ sym h)
     (λ h. each-fails (λ k. ltb (key_at bs k).sequence limit) i (e - i) (e - 1) (omega arith) (omega arith) h ∙ sym h)
+
+-- and of one that no sequence may be below, only the first
+pub run-from : (bs : List ℕ) (size i e limit : ℕ) → Run bs size i e → i < e →
+    each (λ k. not (ltb (key_at bs k).sequence limit)) i (e - i) ≡ not (ltb (key_at bs i).sequence limit)
+run-from bs size i e limit r low =
+    let from : ℕ → Bool = λ k. not (ltb (key_at bs k).sequence limit) in
+    cases (ltb (key_at bs i).sequence limit)
+    (λ h. each-fails from i (e - i) i (omega arith) (omega arith) (ap not h) ∙ sym (ap not h))
+    (λ h. each_all from i (e - i)
+    (λ k l m. ap not (cases (eqb i k)
+    (λ f. ap (λ (x : ℕ). ltb (key_at bs x).sequence limit) (sym (eqb-true i k f)) ∙ h)
+    (λ f. le-ltb (key_at bs k).sequence limit
+    (omega (
+      arith,
+      r.rises i k (omega arith) (omega (arith, eqb-false i k f)) (omega arith),
+      ltb-false (key_at bs i).sequence limit h,
+    ))))) ∙ sym (ap not h))

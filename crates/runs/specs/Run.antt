@@ -10,7 +10,7 @@ use Rattle.slots.specs.Height.{no_timeout, same_timeout}
 use Rattle.slots.specs.declared.Key.{Key}
 use Rattle.slots.specs.Table.{key_of, has_key}
 use Rattle.slots.specs.Layout.{slot_size, records_from, record_in}
-use Rattle.slots.specs.Ordering.{may_have_receipt, may_have_timeout_receipt}
+use Rattle.slots.specs.Ordering.{is_pruned, may_have_receipt, may_have_timeout_receipt}
 use Rattle.slots.specs.Fit.{has_zero_timeouts_and_digest}
 use Rattle.slots.specs.Scan.{slot_at}
 use Rattle.runs.specs.Each.{any}
@@ -104,8 +104,9 @@ pub record Reached (bs : List ℕ) (q i sequence r : ℕ) : Type 0 where
 unfoldable pub fits_beside : (companion : Bool) → Record → Channel → Bool
 fits_beside b r c =
     pick (eqb r.kind commitment_kind) (ltb r.sequence c.next.send)
-    (pick (eqb r.kind receipt_kind) (may_have_receipt c and has_zero_timeouts_and_digest r)
+    (pick (eqb r.kind receipt_kind)
+    (may_have_receipt c and has_zero_timeouts_and_digest r and not (is_pruned c r.sequence))
     (pick (eqb r.kind timeout_receipt_kind)
     (may_have_timeout_receipt c r.sequence and has_zero_timeouts_and_digest r and not b)
     (eqb r.kind acknowledgement_kind and same_timeout r.timeout no_timeout and
-    pick (may_have_receipt c) b (ltb r.sequence c.next.receive))))
+    pick (may_have_receipt c) b (ltb r.sequence c.next.receive) and not (is_pruned c r.sequence))))

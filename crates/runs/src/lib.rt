@@ -1,5 +1,5 @@
 // Runs of packet records: neighbours of one kind and channel, whose sequences rise. So what a record is held against is
-// looked up once for its run, and of a limit only the last sequence is asked.
+// looked up once for its run, of a limit only the last sequence is asked, and of the mark only the first.
 #![tactic(auto)]
 
 ghost use Rattle.std.specs.Prelude.{◌≡◌, not, ◌+◌, ◌*◌, ◌-◌, ◌≤◌, ◌<◌, ltb, eqb, length};
@@ -7,12 +7,13 @@ ghost use Rattle.wire.specs.Choice.{◌and◌, pick};
 ghost use Rattle.wire.specs.Bytes.{part, are_zero};
 ghost use Rattle.slots.specs.Codes.{acknowledgement_kind, timeout_receipt_kind};
 ghost use Rattle.slots.specs.Layout.{records_from, slot_size, size_for};
+ghost use Rattle.slots.specs.Ordering.{is_pruned};
 ghost use Rattle.runs.specs.Each.{each};
 ghost use Rattle.runs.specs.Run.{record_at, key_at, plain_size, RunEnd, OwnRun, Passed, Beside, Reached};
 ghost use Rattle.runs.specs.Run.{has_before, has_companion, fits_beside};
 
 use slots::{Channel, Layout, Record};
-use tables::ordering::{may_have_receipt, may_have_timeout_receipt};
+use tables::ordering::{is_pruned, may_have_receipt, may_have_timeout_receipt};
 use wire::{are_zero, u16_at, u32_at, u64_at};
 
 // Eight bytes are zero, and sixteen, as two words that are both looked at.
@@ -152,17 +153,27 @@ fn are_beside(s: &[u8], q: usize, i: usize, e: usize, kind: u16, wanted: bool) -
     true
 }
 
-// On an unordered channel each has its receipt, else all are below next receive, as the last one is.
+// No record of the run from slot i on is below the mark, where the first one is not.
+fn none_pruned(s: &[u8], i: usize, c: Channel) -> bool
+    requires { size_for (i + 1) ≤ length s.now }
+    ensures { result ≡ not (is_pruned c (key_at s.now i).sequence) }
+{
+    !is_pruned(c, u64_at(s, Layout::RECORDS_FROM + Layout::SLOT * i + 8))
+}
+
+// On an unordered channel each has its receipt, else all are below next receive, as the last one is; and none is below
+// the mark.
 fn acknowledgements_fit(s: &[u8], p: usize, i: usize, e: usize, c: Channel) -> bool
     requires { ((size_for e ≤ length s.now) × (i < e) × OwnRun s.now i e × Passed s.now p i) ×
         ((key_at s.now i).kind ≡ acknowledgement_kind) }
     ensures { result ≡ each (λ k. fits_beside (has_companion s.now k) (record_at s.now k) c) i (e - i) }
 {
+    let kept = none_pruned(s, i, c);
     if may_have_receipt(c) {
         let q = companions_from(s, p, i, Record::RECEIPT);
-        return are_beside(s, q, i, e, Record::RECEIPT, true);
+        return are_beside(s, q, i, e, Record::RECEIPT, true) & kept;
     }
-    u64_at(s, Layout::RECORDS_FROM + Layout::SLOT * (e - 1) + 8) < c.next.receive
+    (u64_at(s, Layout::RECORDS_FROM + Layout::SLOT * (e - 1) + 8) < c.next.receive) & kept
 }
 
 // Where timeouts are allowed, below next receive; none beside its acknowledgement.
@@ -184,7 +195,7 @@ pub fn run_fits(s: &[u8], p: usize, i: usize, e: usize, c: Channel) -> bool
     match u16_at(s, Layout::RECORDS_FROM + Layout::SLOT * i) {
         Record::COMMITMENT => u64_at(s, Layout::RECORDS_FROM + Layout::SLOT * (e - 1) + 8)
             < c.next.send,
-        Record::RECEIPT => may_have_receipt(c),
+        Record::RECEIPT => may_have_receipt(c) & none_pruned(s, i, c),
         Record::ACKNOWLEDGEMENT => acknowledgements_fit(s, p, i, e, c),
         Record::TIMEOUT_RECEIPT => timeout_receipts_fit(s, p, i, e, c),
         _ => false,

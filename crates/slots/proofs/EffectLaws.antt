@@ -126,7 +126,7 @@ module _ (s : Store) where
       (simp (length-append, length-little)) (simp length-little) (simp append_assoc) (simp append_assoc)
 
 -- BYTES THAT ARE EXACT
-sizes-read : (bs : List ℕ) → Bytes bs → size_fits (length bs) ≡ true → Sizes (store_in bs)
+pub sizes-read : (bs : List ℕ) → Bytes bs → size_fits (length bs) ≡ true → Sizes (store_in bs)
 unfolding store_in channel_in record_in
 sizes-read bs b h =
     let z = fits-size (length bs) h in

@@ -1,7 +1,7 @@
 -- A fit store that is read fits its fields, and a store that fits is fit in bytes. Assumes nothing.
 use Rattle.wire.proofs.Prelude.{◌≡◌, refl, ◌∙◌, true, false, List, [], ◌∷◌, map, Option, none, some, ℕ, ◌+◌, ◌*◌, ◌-◌}
 use Rattle.wire.proofs.Prelude.{◌%◌, ◌≤◌, arith, eqb, length, drop, length-drop, length-map, leb-true, eqb-true, le-leb}
-use Rattle.wire.proofs.Prelude.{eq-eqb}
+use Rattle.wire.proofs.Prelude.{eq-eqb, not}
 use Rattle.wire.specs.Names.{◌and◌, Every, Bytes, are_zero, pieces}
 use Rattle.wire.proofs.Laws.{and_both, both-and, clash, cases, of-pick, every_drop, every-get_or, Byte, eq-same}
 use Rattle.wire.proofs.Laws.{field_below, length_part, bytes-part, length-pieces, every-pieces}
@@ -9,10 +9,10 @@ use Rattle.slots.specs.declared.Channel.{Channel}
 use Rattle.slots.specs.declared.Record.{Record}
 use Rattle.slots.specs.Names.{channel_limit, record_limit, no_timeout, same_timeout, channel_at, Store, header_size}
 use Rattle.slots.specs.Names.{slot_size, records_from, size_for, room_in, bytes_of, channel_in, record_in, slot_in}
-use Rattle.slots.specs.Names.{table_in, store_in, is_received, fits_end, record_fits, entries_fit, store_fits, size_fits}
-use Rattle.slots.specs.Names.{is_laid_out, is_fit, commitment_kind, receipt_kind, acknowledgement_kind}
+use Rattle.slots.specs.Names.{table_in, store_in, is_pruned, is_received, fits_end, record_fits, entries_fit, store_fits}
+use Rattle.slots.specs.Names.{size_fits, is_laid_out, is_fit, commitment_kind, receipt_kind, acknowledgement_kind}
 use Rattle.slots.specs.Names.{timeout_receipt_kind}
-use Rattle.slots.proofs.TableLaws.{Each, all-each}
+use Rattle.slots.proofs.TableLaws.{Each, all-each, each_map}
 use Rattle.slots.proofs.LayoutLaws.{ChannelFields, RecordFields, StoreFields, read_back, size_of}
 
 -- SIZES
@@ -70,11 +70,12 @@ channel-in p l b =
       own = record { port = field_below _ _ p b; channel = field_below _ _ p b };
       counterparty = record { port = field_below _ _ p b; channel = field_below _ _ p b };
       next = record { send = field_below _ _ p b; receive = field_below _ _ p b; acknowledge = field_below _ _ p b };
+      mark = field_below _ _ p b;
       size = length_part _ _ p (omega arith);
       bytes = bytes-part _ _ p b;
     }
 
-abbrev Known : Record → Type 0
+abbrev pub Known : Record → Type 0
 Known r = (commitment_kind ≤ r.kind) × (r.kind ≤ timeout_receipt_kind)
 
 -- all of a record but its kind, which a fit store tells
@@ -103,19 +104,20 @@ end-kind s r (some c) h =
     (λ q. cases (eqb r.kind timeout_receipt_kind) (λ x. omega (arith, eqb-true r.kind timeout_receipt_kind x))
     (λ x.
     let t = same_timeout r.timeout no_timeout in
-    let e : (eqb r.kind acknowledgement_kind and t and is_received s.records c r.sequence) ≡ true = cc in
-    omega (arith, eqb-true r.kind acknowledgement_kind (and_both (and_both e).0).0))))
+    let i = is_received s.records c r.sequence in
+    let e : (eqb r.kind acknowledgement_kind and t and i and not (is_pruned c r.sequence)) ≡ true = cc in
+    omega (arith, eqb-true r.kind acknowledgement_kind (and_both (and_both (and_both e).0).0).0))))
 
 record-kind : (s : Store) (r : Record) → record_fits s r ≡ true → Known r
 unfolding record_fits
 record-kind s r h = end-kind s r (channel_at r.channel s.channels) (and_both h).1
 
--- FIT, the packet records in order or not
-pub laid-fields : (bs : List ℕ) → Bytes bs → is_laid_out bs ≡ true → entries_fit (store_in bs) ≡ true →
+-- BYTES of a store's size, whose packet records are of known kinds
+pub known-fields : (bs : List ℕ) → Bytes bs → size_fits (length bs) ≡ true → Each Known (store_in bs).records →
     StoreFields (store_in bs)
-unfolding is_laid_out entries_fit store_in
-laid-fields bs b h f =
-    let z = fits-size (length bs) (and_both h).0 in
+unfolding store_in
+known-fields bs b h known =
+    let z = fits-size (length bs) h in
     let n = length-read record_in (room_in (length bs)) (drop records_from bs) in
     record {
       height = field_below _ _ bs b;
@@ -126,10 +128,18 @@ laid-fields bs b h f =
       high = omega arith;
       channels = each_read ChannelFields channel_in channel-in header_size channel_limit bs (omega arith) b;
       records =
-          each_both (λ r k f. k (record-kind (store_in bs) r f)) (store_in bs).records
-          (each_read Kinded record_in record-in records_from (room_in (length bs)) bs (omega arith) b)
-          (all-each (record_fits (store_in bs)) (store_in bs).records (and_both f).1);
+          each_both (λ r k f. k f) (store_in bs).records
+          (each_read Kinded record_in record-in records_from (room_in (length bs)) bs (omega arith) b) known;
     }
+
+-- FIT, the packet records in order or not
+pub laid-fields : (bs : List ℕ) → Bytes bs → is_laid_out bs ≡ true → entries_fit (store_in bs) ≡ true →
+    StoreFields (store_in bs)
+unfolding is_laid_out entries_fit
+laid-fields bs b h f =
+    let s = store_in bs in
+    known-fields bs b (and_both h).0
+    (each_map (record-kind s) s.records (all-each (record_fits s) s.records (and_both f).1))
 
 pub fit-store : (bs : List ℕ) → is_fit bs ≡ true → store_fits (store_in bs) ≡ true
 unfolding is_fit

@@ -8,7 +8,7 @@ pub use Rattle.slots.proofs.RecordLaws.{Single, Ordered, ordered-single, ordered
 pub use Rattle.slots.proofs.RecordLaws.{each-insert, length-insert, each-remove, length-remove, lookup_key}
 pub use Rattle.slots.proofs.RecordLaws.{lookup-insert, lookup-insert-other, commitments-insert, insert-from}
 pub use Rattle.slots.proofs.RecordLaws.{insert-keeps, lookup-remove, lookup-remove-other, remove-from}
-pub use Rattle.slots.proofs.RecordLaws.{commitments-remove}
+pub use Rattle.slots.proofs.RecordLaws.{commitments-remove, commitments-remove-other, each-found}
 pub use Rattle.slots.proofs.ChannelLaws.{channel-number, channel-own, channel-with, channel-with-other}
 pub use Rattle.slots.proofs.ChannelLaws.{channel-insert, channel-insert-other, numbers-with, numbers-insert}
 pub use Rattle.slots.proofs.ChannelLaws.{next_low, number-below, next-unused, fits-with, fits-insert}

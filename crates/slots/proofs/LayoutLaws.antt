@@ -35,6 +35,7 @@ pub record ChannelFields (c : Channel) : Type 0 where
   pub own : PortChannelFields c.own
   pub counterparty : PortChannelFields c.counterparty
   pub next : CounterFields c.next
+  pub mark : c.mark < 256 ^ 8
   pub size : length c.version ≡ version_size
   pub bytes : Bytes c.version
 
@@ -75,7 +76,7 @@ length-header h t n m = refl
 
 pub length-channel : (c : Channel) → length c.version ≡ version_size → length (channel_bytes c) ≡ slot_size
 unfolding channel_bytes little
-length-channel c h = omega arith
+length-channel c h = omega (arith, length-append c.version (little 8 c.mark))
 
 pub length-record : (r : Record) → length r.digest ≡ digest_size → length (record_bytes r) ≡ slot_size
 unfolding record_bytes little
@@ -138,6 +139,15 @@ channel-kept c h = record { size = length-channel c h.size; bytes = bytes-channe
     next : Counters
     next = c.next
 
+    marks : List ℕ
+    marks = little 8 c.mark
+
+    version : part 40 version_size (channel_bytes c) ≡ c.version
+    version = take_at c.version marks version_size h.size
+
+    mark : field 56 8 (channel_bytes c) ≡ c.mark
+    mark = rw (drop_at c.version marks version_size h.size) (read-little 8 c.mark h.mark)
+
     back : channel_in (channel_bytes c) ≡ c
     back = λ i.
         record {
@@ -151,7 +161,8 @@ channel-kept c h = record { size = length-channel c h.size; bytes = bytes-channe
                 receive = read-little 8 next.receive h.next.receive i;
                 acknowledge = read-little 8 next.acknowledge h.next.acknowledge i;
               };
-          version = take_all version_size c.version (omega (arith, h.size)) i;
+          version = version i;
+          mark = mark i;
         }
 
 record-kept : (r : Record) → RecordFields r → Kept record_bytes record_in r

@@ -209,6 +209,16 @@ module _ {A : Type 0} where
         of-pick (λ (l : List (Option A)). length l ≡ suc (length xs)) (t x) (xs ++ (none ∷ [])) (some x ∷ take_out t xs)
         (λ e. length-append xs (none ∷ []) ∙ omega arith) (λ e. ap suc (length-take-out xs))
 
+    pub count-take-out-other : (u : A → Bool) (xs : List (Option A)) → ((x : A) → t x ≡ true → u x ≡ true → ⊥) →
+        count u (take_out t xs) ≡ count u xs
+    unfolding take_out count
+    count-take-out-other u [] h = refl
+    count-take-out-other u (none ∷ xs) h = count-take-out-other u xs h
+    count-take-out-other u (some y ∷ xs) h =
+        let ih = count-take-out-other u xs h in
+        let n = count-end u xs in
+        cases (t y) (λ e. cases (u y) (λ f. absurd (h y e f)) (λ f. cc)) (λ e. cc)
+
     pub count-take-out : (u : A → Bool) (xs : List (Option A)) (x : A) → find t xs ≡ some x →
         count u xs ≡ pick (u x) (suc (count u (take_out t xs))) (count u (take_out t xs))
     unfolding find take_out count

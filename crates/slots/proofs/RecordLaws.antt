@@ -1,15 +1,16 @@
 -- Laws of the table of packet records: order, lookup and count after a record is written or becomes free. All above
 -- goes by these, so a table kept in another way has these to prove and no more. Assumes nothing.
 use Rattle.wire.proofs.Prelude.{◌≡◌, refl, sym, ap, ◌∙◌, true, false, not, List, [], ◌∷◌, ◌⊎◌, inl, inr, Option, none}
-use Rattle.wire.proofs.Prelude.{some, ℕ, ◌+◌, arith, eqb, length}
+use Rattle.wire.proofs.Prelude.{some, ℕ, ◌+◌, arith, eqb, length, eqb-true, not-true}
 use Rattle.wire.specs.Names.{◌and◌, pick, is_some}
-use Rattle.wire.proofs.Laws.{clash, cases, some-if}
+use Rattle.wire.proofs.Laws.{and_both, clash, cases, some-if}
 use Rattle.slots.specs.declared.Record.{Record}
 use Rattle.slots.specs.Names.{Key, commitment_key, key_of, has_key, same_key, precedes, lookup, find, count, remove}
 use Rattle.slots.specs.Names.{insert, has_free, distinct, in_order, is_commitment_on, commitments, commitment_kind}
 use Rattle.slots.proofs.TableLaws.{Each, find-passes, find-cons-none}
-use Rattle.slots.proofs.PlaceLaws.{find-take-out, find-take-out-other, count-take-out, each-take-out}
-use Rattle.slots.proofs.PlaceLaws.{length-take-out, find-place, find-place-other, count-place, each-place}
+use Rattle.slots.proofs.PlaceLaws.{find-take-out, find-take-out-other, count-take-out, count-take-out-other}
+use Rattle.slots.proofs.PlaceLaws.{each-take-out, length-take-out, find-place, find-place-other, count-place}
+use Rattle.slots.proofs.PlaceLaws.{each-place}
 use Rattle.slots.proofs.PlaceLaws.{length-place}
 use Rattle.slots.proofs.OrderLaws.{rising, in-order, rising-distinct, rising-place, rising-take-out}
 use Rattle.slots.proofs.KeyLaws.{key-of, has-key, not_key, before-other, strict, same-not-before}
@@ -116,3 +117,28 @@ commitments-remove c n m rs h =
     let e : is_commitment_on m f.0 ≡ eqb c m = cc in
     count-take-out (has_key (commitment_key c n)) (is_commitment_on m) rs f.0 f.1 ∙
     cases (eqb c m) (λ q. rw (e, q) (omega arith)) (λ q. rw (e, q) (omega arith))
+
+-- one that is no commitment leaves them
+pub commitments-remove-other : (k : Key) (m : ℕ) (rs : List (Option Record)) → (k.kind ≡ commitment_kind → ⊥) →
+    commitments m (remove k rs) ≡ commitments m rs
+unfolding is_commitment_on
+commitments-remove-other k m rs n =
+    count-take-out-other (has_key k) (is_commitment_on m) rs
+    (λ x p q. n (ap (λ (j : Key). j.kind) (sym (key-of k x p)) ∙ eqb-true x.kind commitment_kind (and_both q).0))
+
+-- WHAT IS FOUND tells what each record has
+pub each-found : (P : Record → Type 0) (rs : List (Option Record)) → Single rs →
+    ((k : Key) (r : Record) → lookup k rs ≡ some r → P r) → Each P rs
+unfolding find distinct
+each-found P [] s h = tt
+each-found P (none ∷ xs) s h = each-found P xs s h
+each-found P (some x ∷ xs) s h =
+    let a = and_both s in
+    let own = has-key (key_of x) x refl in
+    (h (key_of x) x (cc), each-found P xs a.1 (λ k r q. h k r (behind k r (not-true _ a.0) q)))
+  where
+    behind : (k : Key) (r : Record) → is_some (lookup (key_of x) xs) ≡ false → lookup k xs ≡ some r →
+        lookup k (some x ∷ xs) ≡ some r
+    behind k r n q =
+        cases (has_key k x)
+        (λ e. clash (ap (λ (j : Key). is_some (lookup j xs)) (key-of k x e) ∙ ap is_some q) n) (λ e. cc)

@@ -6,18 +6,19 @@ use Rattle.wire.proofs.Prelude.{le-ltb, lt-ltb}
 use native.Mathlib.Nat.{zero-add, add-zero, suc-add, add-suc}
 use lib.Dec.{leb-suc-suc}
 use Rattle.wire.specs.Names.{pick}
-use Rattle.wire.proofs.Laws.{clash, cases}
+use Rattle.wire.proofs.Laws.{clash, cases, some-if}
 use Rattle.slots.specs.declared.Record.{Record}
 use Rattle.slots.specs.declared.Found.TheVariants.{At, Nothing}
 use Rattle.slots.specs.Names.{push, place, has_free, count, Key, key_of, has_key, is_before, precedes, insert}
-use Rattle.slots.specs.Names.{no_timeout}
+use Rattle.slots.specs.Names.{lookup, remove, no_timeout}
 use Rattle.slots.specs.Scan.{index_where, is_free, holds, first_that, place_of, used_slots}
 use Rattle.slots.specs.Effect.{inserted_at}
 use Rattle.slots.proofs.TableLaws.{Each, each_map}
+use Rattle.slots.proofs.PlaceLaws.{count-take-out}
 use Rattle.slots.proofs.OrderLaws.{Free, each_free, Strict, Rising, rising}
 use Rattle.slots.proofs.KeyLaws.{key-of, strict}
 use Rattle.slots.proofs.RecordLaws.{Ordered}
-use Rattle.slots.proofs.ScanLaws.{First, first_of}
+use Rattle.slots.proofs.ScanLaws.{First, first_of, some-found}
 
 used_all : {A : Type 0} (xs : List (Option A)) → used_slots xs ≤ length xs
 unfolding count
@@ -243,6 +244,12 @@ module _ (rs : List (Option Record)) where
 
   pub used-length : used_slots rs ≤ length rs
   used-length = used_all rs
+
+  -- one less where a record that is found becomes free
+  pub used-remove : (k : Key) (i : ℕ) → first_that (has_key k) rs ≡ At i → used_slots rs ≡ suc (used_slots (remove k rs))
+  used-remove k i h =
+      let f = some-if (lookup k rs) (some-found (has_key k) i rs h) in
+      count-take-out (has_key k) (λ x. true) rs f.0 f.1
 
   module _ (order : Ordered rs) where
     pub free-behind : (n : ℕ) → used_slots rs ≤ n → Free (drop n rs)

@@ -33,9 +33,9 @@ module _ (at : ℕ) (bs : List ℕ) where
   number : (i n : ℕ) → i + n ≤ slot_size → {x : ℕ} → x ≡ field (at + i) n bs → x ≡ field i n (part at slot_size bs)
   number i n h p = p ∙ sym (field-part i n at slot_size bs h)
 
-  pub channel-read : {p c s r a : ℕ} {e : PortChannel} {v : List ℕ} → p ≡ field (at + 8) 2 bs →
+  pub channel-read : {p c s r a m : ℕ} {e : PortChannel} {v : List ℕ} → p ≡ field (at + 8) 2 bs →
       c ≡ field (at + 4) 4 bs → e ≡ port_channel_in (at + 10) bs → s ≡ field (at + 16) 8 bs → r ≡ field (at + 24) 8 bs →
-      a ≡ field (at + 32) 8 bs → v ≡ part (at + 40) version_size bs →
+      a ≡ field (at + 32) 8 bs → v ≡ part (at + 40) version_size bs → m ≡ field (at + 56) 8 bs →
       record {
         state = get_or bs (at + 2) 0;
         order = get_or bs (at + 3) 0;
@@ -43,9 +43,10 @@ module _ (at : ℕ) (bs : List ℕ) where
         counterparty = e;
         next = record { send = s; receive = r; acknowledge = a };
         version = v;
+        mark = m;
       } ≡ channel_in (part at slot_size bs)
   unfolding channel_in
-  channel-read p c e s r a v = λ i.
+  channel-read p c e s r a v m = λ i.
       record {
         state = sym (byte-part 2 at slot_size bs (omega arith)) i;
         order = sym (byte-part 3 at slot_size bs (omega arith)) i;
@@ -58,6 +59,7 @@ module _ (at : ℕ) (bs : List ℕ) where
               acknowledge = number 32 8 (omega arith) a i;
             };
         version = (v ∙ sym (part-part 40 version_size at slot_size bs (omega arith))) i;
+        mark = number 56 8 (omega arith) m i;
       }
 
   pub record-read : {k c n : ℕ} {t : Timeout} {d : List ℕ} → k ≡ field at 2 bs → c ≡ field (at + 4) 4 bs →
@@ -84,14 +86,14 @@ module _ (at : ℕ) (bs : List ℕ) where
   unfolding patch
   head-stored k x y n = bytes-stored k n (x ∷ []) (y ∷ []) refl refl
 
-  pub channel-stored : (c : Channel) → patch at (channel_bytes c) bs
-      ≡ patch (at + 40) c.version
+  pub channel-stored : (c : Channel) → length c.version ≡ version_size → patch at (channel_bytes c) bs
+      ≡ patch (at + 56) (little 8 c.mark) (patch (at + 40) c.version
       (patch (at + 16) (little 8 c.next.send ++ little 8 c.next.receive ++ little 8 c.next.acknowledge)
       (patch (at + 10) (little 2 c.counterparty.port ++ little 4 c.counterparty.channel)
       (patch (at + 8) (little 2 c.own.port)
-      (patch at (little 2 channel_kind ++ (c.state ∷ c.order ∷ []) ++ little 4 c.own.channel) bs))))
+      (patch at (little 2 channel_kind ++ (c.state ∷ c.order ∷ []) ++ little 4 c.own.channel) bs)))))
   unfolding channel_bytes
-  channel-stored c = simp (patch-append, length-append, length-little, add_assoc)
+  channel-stored c l = simp (patch-append, length-append, length-little, add_assoc, l)
 
   pub record-stored : (r : Record) → patch at (record_bytes r) bs
       ≡ patch (at + 32) r.digest

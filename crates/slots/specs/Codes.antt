@@ -48,7 +48,7 @@ timeout_receipt_kind = 4
 
 -- KINDS of a store and of a channel record
 abbrev pub store_kind : ℕ
-store_kind = 0x0401
+store_kind = 0x0402
 
 abbrev pub channel_kind : ℕ
 channel_kind = 1

@@ -12,18 +12,19 @@ use Rattle.slots.specs.Version.{is_padded}
 use Rattle.slots.specs.Height.{no_timeout, same_timeout}
 use Rattle.slots.specs.Table.{all, distinct, in_order, same_number, channel_at, same_key, precedes}
 use Rattle.slots.specs.Layout.{Store, slot_size, records_from, size_for, bytes_of, store_in}
-use Rattle.slots.specs.Ordering.{is_received, may_have_receipt, may_have_timeout_receipt}
+use Rattle.slots.specs.Ordering.{is_pruned, is_received, may_have_receipt, may_have_timeout_receipt, mark_fits}
 
 -- an INIT end does not know its counterparty's channel
 unfoldable pub names_none : Channel → Bool
 names_none c = not (eqb c.state state_init) or eqb c.counterparty.channel 0
 
--- INIT, TRYOPEN, OPEN or CLOSED, a known order, counters at least 1, a version with zeros behind it
+-- INIT, TRYOPEN, OPEN or CLOSED, a known order, counters at least 1, a version with zeros behind it; the mark is at
+-- least 1, and 1 except on unordered channels
 unfoldable pub channel_fits : Channel → Bool
 channel_fits c =
     is_state c.state and is_order c.order and
     (leb 1 c.next.send and leb 1 c.next.receive and leb 1 c.next.acknowledge) and
-    is_padded c.version and names_none c
+    is_padded c.version and names_none c and mark_fits c
 
 -- channel numbers differ
 unfoldable pub channels_fit : List (Option Channel) → Bool
@@ -41,15 +42,17 @@ unfoldable pub has_zero_timeouts_and_digest : Record → Bool
 has_zero_timeouts_and_digest r = same_timeout r.timeout no_timeout and are_zero r.digest
 
 -- a commitment is below next send; a receipt and a timeout receipt stand where the ordering lets them; an
--- acknowledgement is of a received packet, so never beside a timeout receipt, with zero timeouts
+-- acknowledgement is of a received packet, so never beside a timeout receipt, with zero timeouts; no receipt and no
+-- acknowledgement is below the mark
 unfoldable pub fits_end : Store → Record → Option Channel → Bool
 fits_end s r none = false
 fits_end s r (some c) =
     pick (eqb r.kind commitment_kind) (ltb r.sequence c.next.send)
-    (pick (eqb r.kind receipt_kind) (may_have_receipt c and has_zero_timeouts_and_digest r)
+    (pick (eqb r.kind receipt_kind)
+    (may_have_receipt c and has_zero_timeouts_and_digest r and not (is_pruned c r.sequence))
     (pick (eqb r.kind timeout_receipt_kind) (may_have_timeout_receipt c r.sequence and has_zero_timeouts_and_digest r)
     (eqb r.kind acknowledgement_kind and same_timeout r.timeout no_timeout and
-    is_received s.records c r.sequence)))
+    is_received s.records c r.sequence and not (is_pruned c r.sequence))))
 
 -- a sequence of at least 1, and a channel of the store
 unfoldable pub record_fits : Store → Record → Bool

@@ -42,7 +42,8 @@ unfoldable pub channel_bytes : Channel → List ℕ
 channel_bytes c =
     little 2 channel_kind ++ (c.state ∷ c.order ∷ []) ++ little 4 c.own.channel ++ little 2 c.own.port ++
     little 2 c.counterparty.port ++ little 4 c.counterparty.channel ++
-    little 8 c.next.send ++ little 8 c.next.receive ++ little 8 c.next.acknowledge ++ c.version
+    little 8 c.next.send ++ little 8 c.next.receive ++ little 8 c.next.acknowledge ++ c.version ++
+    little 8 c.mark
 
 unfoldable pub record_bytes : Record → List ℕ
 record_bytes r =
@@ -77,6 +78,7 @@ channel_in bs =
       counterparty = port_channel_in 10 bs;
       next = record { send = field 16 8 bs; receive = field 24 8 bs; acknowledge = field 32 8 bs };
       version = part 40 version_size bs;
+      mark = field 56 8 bs;
     }
 
 unfoldable pub record_in : List ℕ → Record

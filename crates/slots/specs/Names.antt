@@ -21,8 +21,9 @@ pub use Rattle.slots.specs.Table.{precedes, insert, remove, commitments}
 unfoldable pub use Rattle.slots.specs.Layout.{room_in, channel_bytes, record_bytes, slot_bytes, table_bytes}
 unfoldable pub use Rattle.slots.specs.Layout.{header_bytes, bytes_of, channel_in, record_in, slot_in, store_in}
 pub use Rattle.slots.specs.Layout.{Store, header_size, slot_size, records_from, size_for, table_in}
-unfoldable pub use Rattle.slots.specs.Ordering.{is_ordered, is_unordered, allows_timeouts, is_taken, is_lapsed}
-unfoldable pub use Rattle.slots.specs.Ordering.{is_received, may_have_receipt, may_have_timeout_receipt}
+unfoldable pub use Rattle.slots.specs.Ordering.{is_ordered, is_unordered, allows_timeouts, is_pruned, is_recorded}
+unfoldable pub use Rattle.slots.specs.Ordering.{is_taken, is_lapsed, is_received, may_have_receipt}
+unfoldable pub use Rattle.slots.specs.Ordering.{may_have_timeout_receipt, mark_fits}
 pub use Rattle.slots.specs.Ordering.{has_receipt, has_timeout_receipt}
 unfoldable pub use Rattle.slots.specs.Fit.{names_none, channel_fits, channels_fit, is_below, numbers_fit, fits_end}
 unfoldable pub use Rattle.slots.specs.Fit.{has_zero_timeouts_and_digest, record_fits, entries_fit, store_fits}

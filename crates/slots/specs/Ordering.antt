@@ -1,8 +1,8 @@
 -- What a channel end's ordering means for what is stored. Of the definitions only this module and the rules' Ordering
 -- test it; the statements name it.
-use Rattle.std.specs.Prelude.{Bool, not, List, ℕ, ltb, eqb}
+use Rattle.std.specs.Prelude.{Bool, not, List, ℕ, ltb, leb, eqb}
 use Rattle.std.proofs.Math.Option.{Option}
-use Rattle.wire.specs.Choice.{◌and◌, pick, is_some}
+use Rattle.wire.specs.Choice.{◌and◌, ◌or◌, pick, is_some}
 use Rattle.slots.specs.declared.Channel.{Channel}
 use Rattle.slots.specs.declared.Record.{Record}
 use Rattle.slots.specs.Codes.{order_ordered, order_unordered, order_allow_timeout}
@@ -24,22 +24,33 @@ has_receipt rs c n = is_some (lookup (receipt_key c.own.channel n) rs)
 abbrev pub has_timeout_receipt : List (Option Record) → Channel → (sequence : ℕ) → Bool
 has_timeout_receipt rs c n = is_some (lookup (timeout_receipt_key c.own.channel n) rs)
 
--- *taken*, and never again: unordered, a receipt is there; else the sequence is below next receive
+-- *pruned*: below the mark. Other orders have the mark 1, so nothing of theirs is pruned
+unfoldable pub is_pruned : Channel → (sequence : ℕ) → Bool
+is_pruned c n = ltb n c.mark
+
+-- *recorded*: unordered, a receipt is there; else the sequence is below next receive
+unfoldable pub is_recorded : List (Option Record) → Channel → (sequence : ℕ) → Bool
+is_recorded rs c n = pick (is_unordered c) (has_receipt rs c n) (ltb n c.next.receive)
+
+-- *taken*, and never again: recorded, or pruned
 unfoldable pub is_taken : List (Option Record) → Channel → (sequence : ℕ) → Bool
-is_taken rs c n = pick (is_unordered c) (has_receipt rs c n) (ltb n c.next.receive)
+is_taken rs c n = is_recorded rs c n or is_pruned c n
 
 -- *lapsed*: timeouts are allowed, and a timeout receipt is there
 unfoldable pub is_lapsed : List (Option Record) → Channel → (sequence : ℕ) → Bool
 is_lapsed rs c n = allows_timeouts c and has_timeout_receipt rs c n
 
--- *received*: taken, and not lapsed
+-- *received*: recorded, and not lapsed. A pruned packet may never have been received
 unfoldable pub is_received : List (Option Record) → Channel → (sequence : ℕ) → Bool
-is_received rs c n = is_taken rs c n and not (is_lapsed rs c n)
+is_received rs c n = is_recorded rs c n and not (is_lapsed rs c n)
 
 -- WHERE THEY MAY STAND: a receipt on an unordered channel, a timeout receipt where timeouts are allowed, below next
--- receive
+-- receive; a mark other than 1 on an unordered channel
 unfoldable pub may_have_receipt : Channel → Bool
 may_have_receipt c = is_unordered c
 
 unfoldable pub may_have_timeout_receipt : Channel → (sequence : ℕ) → Bool
 may_have_timeout_receipt c n = allows_timeouts c and ltb n c.next.receive
+
+unfoldable pub mark_fits : Channel → Bool
+mark_fits c = leb 1 c.mark and (is_unordered c or eqb c.mark 1)

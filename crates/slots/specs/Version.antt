@@ -1,4 +1,4 @@
--- A channel's version: at most 24 bytes, none of them zero, stored with zeros behind it.
+-- A channel's version: at most 16 bytes, none of them zero, stored with zeros behind it.
 use Rattle.std.specs.Prelude.{Bool, true, not, List, [], ◌∷◌, ◌++◌, ℕ, ◌-◌, leb, eqb, length, replicate}
 use Rattle.wire.specs.Choice.{◌and◌, pick}
 use Rattle.wire.specs.Bytes.{are_zero}

@@ -5,7 +5,7 @@
 pub mod part; // a port and a channel, and timeouts
 pub mod size; // how many bytes a store has
 pub mod slot; // a channel end or a packet record in 64 bytes
-pub mod version; // a version in 24 bytes
+pub mod version; // a version in 16 bytes
 
 use wire::DIGEST;
 
@@ -15,7 +15,7 @@ use wire::DIGEST;
 pub struct Layout;
 
 impl Layout {
-    pub const KIND: u16 = 0x0401;
+    pub const KIND: u16 = 0x0402;
 
     pub const CHANNELS: usize = 16;
 
@@ -66,9 +66,10 @@ pub struct Counters {
 }
 
 // The bytes of a version, as specs/Limits.antt has it.
-pub const VERSION: usize = 24;
+pub const VERSION: usize = 16;
 
 // A channel end. Its version has zeros behind it. An INIT end does not know its counterparty's channel: it is 0.
+// Sequences below the mark were pruned.
 #[derive(Clone, Copy)]
 pub struct Channel {
     pub state: u8,
@@ -77,6 +78,7 @@ pub struct Channel {
     pub counterparty: PortChannel,
     pub next: Counters,
     pub version: [u8; VERSION],
+    pub mark: u64,
 }
 
 // Its record's kind, its states and its orders, as specs/Codes.antt has them.

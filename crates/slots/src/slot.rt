@@ -6,7 +6,7 @@ ghost use Rattle.slots.specs.Layout.{slot_size, channel_in, channel_bytes, recor
 use super::part::{port_channel_at, put_port_channel, timeout_at};
 use super::version::{put_version, version_at};
 use super::{Channel, Counters, PortChannel, Record};
-use wire::{digest_at, put_digest, put_three, put_u16, put_u32, u16_at, u32_at, u64_at};
+use wire::{digest_at, put_digest, put_three, put_u16, put_u32, put_u64, u16_at, u32_at, u64_at};
 
 // A channel end's own side leads with the channel, its counterparty's with the port.
 pub fn channel_at(s: &[u8], at: usize) -> Channel
@@ -27,6 +27,7 @@ pub fn channel_at(s: &[u8], at: usize) -> Channel
             acknowledge: u64_at(s, at + 32),
         },
         version: version_at(s, at + 40),
+        mark: u64_at(s, at + 56),
     }
 }
 
@@ -64,6 +65,7 @@ pub fn put_channel(s: &mut [u8], at: usize, c: Channel)
     put_three(s, at + 16, c.next.send, c.next.receive, c.next.acknowledge);
     let v = c.version;
     put_version(s, at + 40, v);
+    put_u64(s, at + 56, c.mark);
 }
 
 pub fn put_record(s: &mut [u8], at: usize, r: Record)

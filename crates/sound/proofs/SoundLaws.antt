@@ -47,8 +47,8 @@ context-word d b l =
     word_below (field 30 8 d) (field 30 2 d) (get_or d 32 9) (field 33 5 d) (field_below 30 2 d b) (omega arith) ∙
     ap (λ (x : Bool). x and leb (get_or d 32 9) 1) (sym zeros)
 
--- the claims are those from 1 to 6
-above : (n : ℕ) → 7 ≤ n → is_some (claim_of n) ≡ is_in 1 6 n
+-- the claims are those from 1 to 8
+above : (n : ℕ) → 9 ≤ n → is_some (claim_of n) ≡ is_in 1 8 n
 unfolding with_number ◌and◌
 above n h =
     rw (
@@ -58,11 +58,13 @@ above n h =
       ne_eqb n 4 (λ e. omega arith),
       ne_eqb n 5 (λ e. omega arith),
       ne_eqb n 6 (λ e. omega arith),
+      ne_eqb n 7 (λ e. omega arith),
+      ne_eqb n 8 (λ e. omega arith),
       le-leb 1 n (omega arith),
-      lt-leb n 6 (omega arith),
+      lt-leb n 8 (omega arith),
     )
 
-pub claim-known : (n : ℕ) → is_some (claim_of n) ≡ is_in 1 6 n
+pub claim-known : (n : ℕ) → is_some (claim_of n) ≡ is_in 1 8 n
 unfolding with_number ◌and◌
 claim-known zero = refl
 claim-known (suc zero) = refl
@@ -71,8 +73,10 @@ claim-known (suc (suc (suc zero))) = refl
 claim-known (suc (suc (suc (suc zero)))) = refl
 claim-known (suc (suc (suc (suc (suc zero))))) = refl
 claim-known (suc (suc (suc (suc (suc (suc zero)))))) = refl
-claim-known (suc (suc (suc (suc (suc (suc (suc n))))))) =
-    above (suc (suc (suc (suc (suc (suc (suc n))))))) (omega arith)
+claim-known (suc (suc (suc (suc (suc (suc (suc zero))))))) = refl
+claim-known (suc (suc (suc (suc (suc (suc (suc (suc zero)))))))) = refl
+claim-known (suc (suc (suc (suc (suc (suc (suc (suc (suc n))))))))) =
+    above (suc (suc (suc (suc (suc (suc (suc (suc (suc n))))))))) (omega arith)
 
 -- THE TESTS in the order of the code: whether the kind is known comes last, with the body
 arranged : (framed known size context parts : Bool) → framed ≡ true →

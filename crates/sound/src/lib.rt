@@ -2,12 +2,13 @@
 #![tactic(auto)]
 
 ghost use Rattle.std.specs.Prelude.{◌≡◌, true, ◌+◌, ◌≤◌, ltb, length};
+ghost use Rattle.std.proofs.Math.Option.{some};
 ghost use Rattle.wire.specs.Choice.{is_some};
 ghost use Rattle.wire.specs.Frame.{frame_in};
 ghost use Rattle.wire.specs.declared.Frame.TheVariants.{Whole};
 ghost use Rattle.slots.specs.Codes.{is_order};
-ghost use Rattle.datagram.specs.Kind.{kind_of, body_from, packet_size, verdict_part, order_part, end_verdict_part, body_of};
-ghost use Rattle.datagram.specs.Kind.{has_part, size_of, is_sized};
+ghost use Rattle.datagram.specs.Kind.{prune, kind_of, body_from, packet_size, verdict_part, order_part, end_verdict_part};
+ghost use Rattle.datagram.specs.Kind.{body_of, has_part, size_of, is_sized};
 ghost use Rattle.datagram.specs.Claim.{claim_of};
 ghost use Rattle.datagram.specs.Datagram.{packet_in, verdict_from, end_verdict_from, order_from, is_context_sound, is_sound};
 ghost use Rattle.sound.specs.Sound.{is_body_sound};
@@ -39,6 +40,13 @@ const CLOSE_INIT: usize = BODY + 4;
 
 const TIME_OUT_ON_CLOSE: usize = BODY + PACKET + END_VERDICT + VERDICT;
 
+// Where the two verdicts of a prune lie, and its length.
+const FIRST: usize = BODY + 12;
+
+const SECOND: usize = FIRST + VERDICT;
+
+const PRUNE: usize = SECOND + VERDICT;
+
 // A time-out is as long as a receive, a close confirm as an open confirm. Unknown kinds have no body.
 fn is_sized(kind: u16, size: usize) -> bool
     ensures { result ≡ is_sized (kind_of kind) size }
@@ -54,6 +62,7 @@ fn is_sized(kind: u16, size: usize) -> bool
         9 | 11 => size == OPEN_CONFIRM,
         10 => size == CLOSE_INIT,
         12 => size == TIME_OUT_ON_CLOSE,
+        13 => size == PRUNE,
         _ => size == BODY,
     }
 }
@@ -66,11 +75,11 @@ fn is_context_sound(d: &[u8]) -> bool
     (u64_at(d, FRAME + 24) < 131072) & (0 < u64_at(d, FRAME))
 }
 
-// The claims, in either form of verdict, are those from 1 to 6.
+// The claims, in either form of verdict, are those from 1 to 8.
 fn is_claim(claim: u16) -> bool
     ensures { result ≡ is_some (claim_of claim) }
 {
-    (Verdict::COMMITMENT_PRESENT <= claim) & (claim <= Verdict::TIMEOUT_RECEIPT_PRESENT)
+    (Verdict::COMMITMENT_PRESENT <= claim) & (claim <= Verdict::NEXT_SEND_IS)
 }
 
 // A packet's sequence is not 0.
@@ -104,6 +113,14 @@ fn is_order_sound(d: &[u8], kind: u16) -> bool
     (Channel::ORDERED <= order) & (order <= Channel::ALLOW_TIMEOUT)
 }
 
+// A prune's sequence is not 0, and both claims are known.
+fn is_prune_sound(d: &[u8]) -> bool
+    requires { size_of (some prune) ≤ length d.now }
+    ensures { result ≡ is_body_sound (some prune) d.now }
+{
+    (0 < sequence_in(d)) & (is_claim(u16_at(d, FIRST)) & is_claim(u16_at(d, SECOND)))
+}
+
 // Unknown kinds have no body that is sound.
 fn is_body_sound(d: &[u8], kind: u16) -> bool
     requires { size_of (kind_of kind) ≤ length d.now }
@@ -117,6 +134,7 @@ fn is_body_sound(d: &[u8], kind: u16) -> bool
         7 => is_order_sound(d, 7) & is_end_verdict_sound(d, 7),
         8 | 9 | 11 => is_end_verdict_sound(d, kind),
         12 => is_packet_sound(d) & is_end_verdict_sound(d, 12) & is_verdict_sound(d, 12),
+        13 => is_prune_sound(d),
         _ => false,
     }
 }

@@ -2,11 +2,10 @@
 // line 15, what a verdict says of the packet's turn.
 #![tactic(auto)]
 
-ghost use Rattle.std.specs.Prelude.{◌≡◌};
-ghost use Rattle.wire.specs.Choice.{pick};
+ghost use Rattle.std.specs.Prelude.{◌≡◌, ℕ, eqb};
 ghost use Rattle.rules.specs.Verdict.{first_difference, block_difference};
-ghost use Rattle.rules.specs.Refusals.{commitment_difference, acknowledgement_difference, claims_next, absence_difference};
-ghost use Rattle.rules.specs.Refusals.{claims_taken};
+ghost use Rattle.rules.specs.Refusals.{commitment_difference, acknowledgement_difference, absence_difference};
+ghost use Rattle.rules.specs.Refusals.{pruned_difference, next_send_difference, claims_taken};
 
 use datagram::{Block, Packet, Verdict};
 use heights::{no_timeout, same_timeout};
@@ -14,15 +13,16 @@ use ordering::absence_claim;
 use slots::{Channel, PortChannel, Timeout};
 use wire::same_digest;
 
+// Whether the sequence fits is given: the one that is needed may not be a number of 64 bits.
 fn first_difference(
     v: Verdict,
     claim: u16,
     about: PortChannel,
-    sequence: u64,
+    fits: bool,
     timeout: Timeout,
     digest: [u8; 32],
 ) -> u8
-    ensures { result ≡ first_difference v claim about sequence timeout digest }
+    ensures { (n : ℕ) → eqb v.sequence n ≡ fits → result ≡ first_difference v claim about n timeout digest }
 {
     if v.claim != claim {
         return 140;
@@ -33,7 +33,7 @@ fn first_difference(
     if v.about.channel != about.channel {
         return 142;
     }
-    if v.sequence != sequence {
+    if !fits {
         return 143;
     }
     let found = v.timeout;
@@ -55,7 +55,8 @@ pub fn commitment_difference(p: Packet, v: Verdict) -> u8
     let source = p.source;
     let timeout = p.timeout;
     let digest = p.digest;
-    first_difference(v, claim, source, p.sequence, timeout, digest)
+    let fits = v.sequence == p.sequence;
+    first_difference(v, claim, source, fits, timeout, digest)
 }
 
 // For 4: the acknowledgement at the packet's destination.
@@ -64,27 +65,39 @@ pub fn acknowledgement_difference(p: Packet, digest: [u8; 32], v: Verdict) -> u8
 {
     let claim = Verdict::ACKNOWLEDGEMENT_PRESENT;
     let destination = p.destination;
-    first_difference(v, claim, destination, p.sequence, no_timeout(), digest)
+    let fits = v.sequence == p.sequence;
+    first_difference(v, claim, destination, fits, no_timeout(), digest)
 }
 
-// Next receive may be claimed of any sequence; a receipt and a timeout receipt are the packet's own.
-fn absence_sequence(v: Verdict, sequence: u64) -> u64
-    ensures { result ≡ pick (claims_next v) v.sequence sequence }
-{
-    if v.claim == Verdict::NEXT_RECEIVE_IS {
-        return v.sequence;
-    }
-    sequence
-}
-
-// For 5 and, by the other end's close, for 12: at the packet's destination, that it was not received.
+// For 5 and, by the other end's close, for 12: at the packet's destination, that it was not received. Next receive may
+// be claimed of any sequence; a receipt and a timeout receipt are the packet's own.
 pub fn absence_difference(on_close: bool, c: Channel, p: Packet, v: Verdict) -> u8
     ensures { result ≡ absence_difference on_close c p v }
 {
     let claim = absence_claim(on_close, c, v.claim);
     let destination = p.destination;
-    let sequence = absence_sequence(v, p.sequence);
-    first_difference(v, claim, destination, sequence, no_timeout(), [0u8; 32])
+    let fits = (v.claim == Verdict::NEXT_RECEIVE_IS) | (v.sequence == p.sequence);
+    first_difference(v, claim, destination, fits, no_timeout(), [0u8; 32])
+}
+
+// For 13: at the counterparty, that the commitment of the sequence is absent,
+pub fn pruned_difference(c: Channel, sequence: u64, v: Verdict) -> u8
+    ensures { result ≡ pruned_difference c sequence v }
+{
+    let claim = Verdict::COMMITMENT_ABSENT;
+    let counterparty = c.counterparty;
+    let fits = v.sequence == sequence;
+    first_difference(v, claim, counterparty, fits, no_timeout(), [0u8; 32])
+}
+
+// and that next send is above it, by any number.
+pub fn next_send_difference(c: Channel, sequence: u64, v: Verdict) -> u8
+    ensures { result ≡ next_send_difference c sequence v }
+{
+    let claim = Verdict::NEXT_SEND_IS;
+    let counterparty = c.counterparty;
+    let fits = sequence < v.sequence;
+    first_difference(v, claim, counterparty, fits, no_timeout(), [0u8; 32])
 }
 
 // 15, for 5 and 12: the next receive that the verdict claims is above the sequence, so the packet was taken.
@@ -94,7 +107,7 @@ pub fn claims_taken(v: Verdict, sequence: u64) -> bool
     (v.claim == Verdict::NEXT_RECEIVE_IS) & (sequence < v.sequence)
 }
 
-// For 12: 146 where the blocks of two verdicts are not one.
+// For 12 and 13: 146 where the blocks of two verdicts are not one.
 pub fn block_difference(a: Block, b: Block) -> u8
     ensures { result ≡ block_difference a b }
 {

@@ -1,4 +1,4 @@
-// Versions: whether the bytes behind a datagram's fixed part are one, and whether the 24 bytes of a channel record are
+// Versions: whether the bytes behind a datagram's fixed part are one, and whether the 16 bytes of a channel record are
 // one with zeros behind it. Both ask how many bytes stand before the first zero byte.
 #![tactic(auto)]
 
@@ -9,7 +9,7 @@ ghost use Rattle.slots.specs.Version.{version_fits, padded, is_padded};
 ghost use Rattle.versions.specs.Leading.{before_zero};
 
 use slots::VERSION;
-use wire::{are_zero, put_part, same_two, same_word, u8_at};
+use wire::{are_zero, put_part, same_two, u8_at};
 
 // How many of `size` bytes stand before the first zero byte.
 fn before_zero(s: &[u8], from: usize, size: usize) -> usize
@@ -38,7 +38,7 @@ pub fn is_padded(s: &[u8], at: usize) -> bool
     are_zero(s, at + size, VERSION - size)
 }
 
-// The bytes from `at` on: at most 24, none of them zero.
+// The bytes from `at` on: at most 16, none of them zero.
 pub fn version_fits(d: &[u8], at: usize) -> bool
     requires { at ≤ length d.now }
     ensures { result ≡ version_fits (drop at d.now) }
@@ -63,5 +63,5 @@ pub fn version_from(d: &[u8], at: usize) -> [u8; VERSION]
 pub fn same_version(a: [u8; VERSION], b: [u8; VERSION]) -> bool
     ensures { result ≡ same a b }
 {
-    same_two(&a, &b, 0) & same_word(&a, &b, 16)
+    same_two(&a, &b, 0)
 }

@@ -23,6 +23,19 @@ unfolding ◌or◌
 or-neither {a = true} {b} h = (h, cc)
 or-neither {a = false} {b} h = (refl, h)
 
+pub or_left : (a b : Bool) → a ≡ true → (a or b) ≡ true
+unfolding ◌or◌
+or_left a b p = cc
+
+pub or_right : (a b : Bool) → b ≡ true → (a or b) ≡ true
+unfolding ◌or◌
+or_right true b p = refl
+or_right false b p = p
+
+pub neither-or : (a b : Bool) → a ≡ false → b ≡ false → (a or b) ≡ false
+unfolding ◌or◌
+neither-or a b p q = cc
+
 -- in any order
 pub and_assoc : (a b c : Bool) → ((a and b) and c) ≡ (a and (b and c))
 unfolding ◌and◌
@@ -75,6 +88,10 @@ not-or-pick false b = refl
 pub not_some : {A : Type 0} (x : Option A) → not (is_some x) ≡ true → x ≡ none
 not_some none h = refl
 not_some (some a) h = cc
+
+-- none is not some
+pub none-some : {A : Type 0} {x : A} {y : Option A} → y ≡ none → y ≡ some x → ⊥
+none-some p q = let z : ◌≡◌ {A = ℕ} 0 1 = cc in omega arith
 
 pub none-if : {A : Type 0} (x : Option A) → ((a : A) → x ≡ some a → ⊥) → x ≡ none
 none-if none h = refl

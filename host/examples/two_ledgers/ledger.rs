@@ -1,8 +1,8 @@
 //! One ledger as a host keeps it, the light client that looks at the other one, and the calls with their verdicts.
 
 use route::{
-    Block, Context, Datagram, Digest, Emitted, End, EndVerdict, Order, OwnHeight, OwnTime, Packet, Refusal, Store,
-    Timeout, Verdict, Version,
+    Block, Context, Datagram, Digest, Emitted, End, EndVerdict, NotPrunable, Order, OwnHeight, OwnTime, Packet,
+    Refusal, Store, Timeout, Verdict, Version,
 };
 
 /// One ledger: its store, the port that uses it here, and the block that it works on.
@@ -158,6 +158,26 @@ pub fn time_out(at: &mut Ledger, other: &mut Ledger, packet: &Packet) -> Result<
     let verdict = not_received(other, packet, block);
     let context = at.context(block);
     at.call(Datagram::time_out(&context, packet, &verdict))
+}
+
+/// Prunes at an end what its sender has finished, one sequence after the other, until one is held back; says why. Both
+/// verdicts of a prune are of one block.
+pub fn prune(at: &mut Ledger, sender: &mut Ledger, end: End) -> Result<NotPrunable, Refusal> {
+    let block = sender.close_block();
+    loop {
+        let next = at.store.next_prune(end.channel);
+        let (next, next_send) = match next.and_then(|next| Ok((next, next.at_sender(&sender.store)?))) {
+            Ok(next) => next,
+            Err(why) => {
+                println!("  {} prunes no more: {why}", at.name);
+                return Ok(why);
+            }
+        };
+        let [absent, next_send] = next.verdicts(next_send, block).map(|verdict| found(sender, verdict));
+        println!("  {} prunes packet {}, which frees {} records.", at.name, next.sequence, next.freed().count());
+        let context = at.context(block);
+        at.call(Datagram::prune(&context, end.channel, next.sequence, &absent, &next_send))?;
+    }
 }
 
 pub fn close_init(at: &mut Ledger, other: &Ledger, end: End) -> Result<(), Refusal> {

@@ -1,14 +1,14 @@
 //! Two ledgers in one program. They open three channels, and warehouse receipts are moved: one arrives and is
-//! acknowledged, one does not arrive in time and is given back, one closes an ordered channel, and the one behind it is
-//! given back too. Where timeouts are allowed one comes late and lapses, and the channel stays open. At last a channel
-//! is closed, and a receipt that was on its way is given back.
+//! acknowledged, one does not arrive in time and is given back, and what is kept of both is pruned. One closes an
+//! ordered channel, and the one behind it is given back too. Where timeouts are allowed one comes late and lapses, and
+//! the channel stays open. At last a channel is closed, and a receipt that was on its way is given back.
 //!
 //! Run it with `cargo run --example two_ledgers`.
 
 mod ledger;
 
 use ledger::*;
-use route::{Datagram, Emitted, Order, OtherHeight, OtherTime, Refusal, Timeout, Verdict, VerdictPart};
+use route::{Datagram, Emitted, NotPrunable, Order, OtherHeight, OtherTime, Refusal, Timeout, Verdict, VerdictPart};
 
 /// A timeout so many blocks of the other ledger ahead.
 fn blocks_ahead(other: &Ledger, blocks: u64) -> Timeout {
@@ -76,13 +76,35 @@ fn late(north: &mut Ledger, south: &mut Ledger, channel: u32) -> Result<(), Refu
     Ok(())
 }
 
+fn pruned(north: &mut Ledger, south: &mut Ledger, channel: u32) -> Result<(), Refusal> {
+    println!(
+        "South prunes what north has finished on the unordered channel, and not the next one, which is on its way."
+    );
+    let packet = send(north, south, channel, blocks_ahead(south, 20), "receipt 3: 4 t of malt")?;
+    // As it can still be proved when the packet is finished.
+    let verdict = look_at(north, |block| Verdict::commitment_present(&packet, block));
+    let why = prune(south, north, packet.destination)?;
+    assert_eq!(why, NotPrunable::StillCommitted { sequence: packet.sequence });
+    println!("  It is delivered and acknowledged, and pruned too.");
+    receive(south, north, &packet)?;
+    write(south, north, &packet, "taken in")?;
+    acknowledge(north, south, &packet, "taken in")?;
+    let why = prune(south, north, packet.destination)?;
+    assert_eq!(why, NotPrunable::NotSent { sequence: packet.sequence + 1 });
+    println!("  Then it comes again, with a proof from before.");
+    let context = south.context(verdict.block);
+    let again = south.call(Datagram::receive(&context, &packet, &verdict));
+    assert_eq!(again, Err(Refusal::AlreadyThere));
+    Ok(())
+}
+
 fn closed(north: &mut Ledger, south: &mut Ledger, channel: u32) -> Result<(), Refusal> {
     println!("On an ordered channel a time-out closes the channel.");
-    let first = send(north, south, channel, blocks_ahead(south, 1), "receipt 3: 5 t of oats")?;
-    let behind = send(north, south, channel, blocks_ahead(south, 1), "receipt 4: 7 t of rye")?;
+    let first = send(north, south, channel, blocks_ahead(south, 1), "receipt 4: 5 t of oats")?;
+    let behind = send(north, south, channel, blocks_ahead(south, 1), "receipt 5: 7 t of rye")?;
     south.close_block();
     time_out(north, south, &first)?;
-    let refused = send(north, south, channel, blocks_ahead(south, 9), "receipt 5: 2 t of peas");
+    let refused = send(north, south, channel, blocks_ahead(south, 9), "receipt 6: 2 t of peas");
     assert_eq!(refused, Err(Refusal::NotOpen));
     println!("  The packet behind it is given back too.");
     time_out(north, south, &behind)?;
@@ -91,9 +113,9 @@ fn closed(north: &mut Ledger, south: &mut Ledger, channel: u32) -> Result<(), Re
 
 fn lapsed(north: &mut Ledger, south: &mut Ledger, channel: u32) -> Result<(), Refusal> {
     println!("Where timeouts are allowed, a receipt that comes late lapses, and the channel stays open.");
-    let first = send(north, south, channel, blocks_ahead(south, 10), "receipt 6: 3 t of rice")?;
-    let second = send(north, south, channel, blocks_ahead(south, 2), "receipt 7: 6 t of flax")?;
-    let third = send(north, south, channel, blocks_ahead(south, 10), "receipt 8: 1 t of hops")?;
+    let first = send(north, south, channel, blocks_ahead(south, 10), "receipt 7: 3 t of rice")?;
+    let second = send(north, south, channel, blocks_ahead(south, 2), "receipt 8: 6 t of flax")?;
+    let third = send(north, south, channel, blocks_ahead(south, 10), "receipt 9: 1 t of hops")?;
     receive(south, north, &first)?;
     println!("  South goes on without the second one. It is not timed out before it has come.");
     south.close_block();
@@ -119,7 +141,7 @@ fn lapsed(north: &mut Ledger, south: &mut Ledger, channel: u32) -> Result<(), Re
 
 fn on_its_way(north: &mut Ledger, south: &mut Ledger, channel: u32) -> Result<(), Refusal> {
     println!("South closes the unordered channel while a receipt is on its way.");
-    let packet = send(north, south, channel, blocks_ahead(south, 100), "receipt 9: 9 t of maize")?;
+    let packet = send(north, south, channel, blocks_ahead(south, 100), "receipt 10: 9 t of maize")?;
     // All that south sent is finished, and all that it received is acknowledged: nothing else is left open.
     close_init(south, north, packet.destination)?;
     let refused = receive(south, north, &packet);
@@ -151,6 +173,7 @@ fn main() -> Result<(), Refusal> {
     let rice = opened(&mut north, &mut south, Order::OrderedAllowTimeout)?;
     delivered(&mut north, &mut south, wheat)?;
     late(&mut north, &mut south, wheat)?;
+    pruned(&mut north, &mut south, wheat)?;
     closed(&mut north, &mut south, oats)?;
     other_end(&mut north, &mut south, oats)?;
     lapsed(&mut north, &mut south, rice)?;
@@ -159,7 +182,7 @@ fn main() -> Result<(), Refusal> {
     for Ledger { name, store, .. } in [&north, &south] {
         println!("  {name}: next channel {}, {} of 8 records free", store.next_channel(), store.free_records());
         for end in store.channels() {
-            println!("    {:?} end {} to {}, {:?}", end.state, end.own, end.counterparty, end.order);
+            println!("    {:?} end {} to {}, {:?}, mark {}", end.state, end.own, end.counterparty, end.order, end.mark);
         }
         for record in store.records() {
             println!("    {:?} of packet {} on channel {}", record.kind, record.sequence, record.channel);

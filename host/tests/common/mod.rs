@@ -103,6 +103,7 @@ pub fn others(end: Channel) -> Vec<Channel> {
         Channel { next_send: 1, ..end },
         Channel { next_receive: 1, ..end },
         Channel { next_acknowledge: 1, ..end },
+        Channel { mark: 1, ..end },
     ];
     let orders = ORDERS.into_iter().filter(|order| *order != end.order);
     others.extend(orders.map(|order| Channel { order, ..end }));

@@ -18,7 +18,15 @@ pub fn compare_call(subject: &Subject, call: &Call, store: &[u8], datagram: &[u8
         |store| subject.handle(store, &output, datagram, shift),
     );
     report.coverage.count_converter(call.origin, store, &expected);
-    let pairs = STEPS.iter().zip(expected.iter().zip(&given));
+    note_all(report, call, index, &expected, &given);
+    if let Some(fault) = reference_fault(call, store, &expected) {
+        report.reference_faults.push(format!("call {index}, converter, {:?}: {fault}", call.origin));
+    }
+}
+
+/// Notes everything in which the three are not as expected.
+pub fn note_all(report: &mut Report, call: &Call, index: u64, expected: &[Left; 3], given: &[Left; 3]) {
+    let pairs = STEPS.iter().zip(expected.iter().zip(given));
     let found: Vec<String> = pairs
         .flat_map(|(step, (expected, given))| differences(expected, given).into_iter().map(move |it| (step, it)))
         .map(|(step, text)| format!("{step}: {text}"))
@@ -26,13 +34,10 @@ pub fn compare_call(subject: &Subject, call: &Call, store: &[u8], datagram: &[u8
     if !found.is_empty() {
         note(report, call, index, found);
     }
-    if let Some(fault) = reference_fault(call, store, &expected) {
-        report.reference_faults.push(format!("call {index}, converter, {:?}: {fault}", call.origin));
-    }
 }
 
 /// The handler on the store as it is, the converter, and the handler on what that leaves.
-fn three(store: &[u8], convert: impl Fn(&[u8]) -> Left, handle: impl Fn(&[u8]) -> Left) -> [Left; 3] {
+pub fn three(store: &[u8], convert: impl Fn(&[u8]) -> Left, handle: impl Fn(&[u8]) -> Left) -> [Left; 3] {
     let converted = convert(store);
     let after = handle(&converted.store);
     [handle(store), converted, after]

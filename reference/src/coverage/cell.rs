@@ -6,16 +6,18 @@ use super::allow_timeout::Allowed;
 use super::clocks::Clocks;
 use super::closing::Circumstance;
 use super::converter::Disorder;
+use super::mark::Marked;
 use super::place::Place;
 use super::standing::Standing;
 use super::step::{Room, Text};
+use super::upgrader::Upgraded;
 use crate::generate::although::{self, Although};
 use crate::generate::{damage, malform, Row};
 use crate::refusal::Line;
 use crate::store::{INIT, OPEN, ORDERED, TRYOPEN, UNORDERED};
 
 /// Names of the kinds, from kind 1.
-pub const KINDS: [&str; 12] = [
+pub const KINDS: [&str; 13] = [
     "send",
     "receive",
     "write",
@@ -28,6 +30,7 @@ pub const KINDS: [&str; 12] = [
     "close",
     "close cf.",
     "on close",
+    "prune",
 ];
 
 /// One thing to reach.
@@ -76,12 +79,16 @@ pub enum Cell {
     Next(u64),
     /// The maker made an end of this order.
     Opened(u8),
+    /// A call met this, with the mark of an end.
+    Marked(Marked),
+    /// The converter of stores of the kind before met this.
+    Upgraded(Upgraded),
     /// The length of a store was asked for.
     Length,
 }
 
 /// The sorts of cells, as a run tells them.
-pub const SORTS: [&str; 22] = [
+pub const SORTS: [&str; 24] = [
     "answers by kind",
     "refusals alone",
     "pairs",
@@ -104,6 +111,8 @@ pub const SORTS: [&str; 22] = [
     "timeouts allowed",
     "maker's orders",
     "clocks",
+    "marks",
+    "kind before",
 ];
 
 impl Cell {
@@ -132,6 +141,8 @@ impl Cell {
             Cell::Allowed(_) => 19,
             Cell::Opened(_) => 20,
             Cell::Clocks(_) => 21,
+            Cell::Marked(_) => 22,
+            Cell::Upgraded(_) => 23,
         }
     }
 }
@@ -164,6 +175,8 @@ impl fmt::Display for Cell {
             Cell::OnClose(circumstance) => write!(out, "{circumstance}"),
             Cell::Allowed(allowed) => write!(out, "timeouts allowed: {allowed}"),
             Cell::Clocks(clocks) => write!(out, "{clocks}"),
+            Cell::Marked(marked) => write!(out, "{marked}"),
+            Cell::Upgraded(upgraded) => write!(out, "upgrade: {upgraded}"),
             Cell::InState(row, state, line) => write!(out, "{row}: {line} alone, end {}", state_name(*state)),
             Cell::Version(kind, text) => write!(out, "{}: version {text}", name(*kind)),
             Cell::Room(kind, room) => write!(out, "{}: {room}", name(*kind)),
@@ -182,7 +195,7 @@ impl fmt::Display for Cell {
     }
 }
 
-fn order_name(order: u8) -> &'static str {
+pub fn order_name(order: u8) -> &'static str {
     match order {
         ORDERED => "ordered",
         UNORDERED => "unordered",
@@ -190,7 +203,7 @@ fn order_name(order: u8) -> &'static str {
     }
 }
 
-fn state_name(state: u8) -> &'static str {
+pub fn state_name(state: u8) -> &'static str {
     match state {
         INIT => "INIT",
         TRYOPEN => "TRYOPEN",

@@ -25,10 +25,12 @@ enum Among {
     Last,
 }
 
-/// What each kind of datagram puts in; the others take out a commitment.
+/// What each kind of datagram puts in, and what the others take out: a prune a receipt, and with it an acknowledgement
+/// if there is one.
 const INSERTING: [(u16, u16); 4] =
     [(SEND, COMMITMENT), (RECEIVE, RECEIPT), (RECEIVE, TIMEOUT_RECEIPT), (WRITE, ACKNOWLEDGEMENT)];
-const REMOVING: [(u16, u16); 3] = [(ACKNOWLEDGE, COMMITMENT), (TIME_OUT, COMMITMENT), (TIME_OUT_ON_CLOSE, COMMITMENT)];
+const REMOVING: [(u16, u16); 4] =
+    [(ACKNOWLEDGE, COMMITMENT), (TIME_OUT, COMMITMENT), (TIME_OUT_ON_CLOSE, COMMITMENT), (PRUNE, RECEIPT)];
 
 /// The cells that a run can reach here.
 pub fn possible() -> Vec<Cell> {

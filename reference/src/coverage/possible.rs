@@ -1,7 +1,7 @@
 //! What a run has to reach, cell by cell.
 
 use super::cell::Cell;
-use super::{allow_timeout, clocks, closing, converter, place as places, standing, step};
+use super::{allow_timeout, clocks, closing, converter, mark, place as places, standing, step, upgrader};
 use crate::datagram::*;
 use crate::generate::draft::absence_claims;
 use crate::generate::{although, damage, fault, malform, Row};
@@ -23,7 +23,7 @@ pub fn answers(kind: u16) -> Vec<u8> {
 
 /// The lines that can be given alone in this row.
 fn alone(row: Row) -> Vec<Line> {
-    fault::aims(row).into_iter().filter(|line| fault::never_given(row, *line).is_none()).collect()
+    fault::aims(row).into_iter().filter(|line| fault::never_alone(row, *line).is_none()).collect()
 }
 
 /// The pairs of lines of this row, each in order.
@@ -40,12 +40,28 @@ fn pairs(row: Row) -> Vec<(Line, Line)> {
 pub fn impossible() -> Vec<(Cell, &'static str)> {
     let mut cells = Vec::new();
     for row in Row::all() {
-        let alone = |line: Line| Some((Cell::Alone(row, line), fault::never_given(row, line)?));
+        let alone = |line: Line| Some((Cell::Alone(row, line), fault::never_alone(row, line)?));
         let pair = |(first, second)| Some((Cell::Pair(row, first, second), fault::never_together(row, first, second)?));
         cells.extend(fault::aims(row).into_iter().filter_map(alone));
         cells.extend(pairs(row).into_iter().filter_map(pair));
     }
     cells
+}
+
+/// The same in words; of a row that has a refusal which always applies, the others alone are told together.
+pub fn impossible_by_row() -> Vec<(String, &'static str)> {
+    let always = |cell: &Cell| matches!(cell, Cell::Alone(row, _) if !row.is_accepted());
+    let (of_rows, others): (Vec<_>, Vec<_>) = impossible().into_iter().partition(|(cell, _)| always(cell));
+    let mut texts: Vec<(String, &str)> = others.into_iter().map(|(cell, reason)| (cell.to_string(), reason)).collect();
+    for row in Row::all() {
+        let of_row: Vec<&str> = of_rows
+            .iter()
+            .filter(|(cell, _)| matches!(cell, Cell::Alone(of, _) if *of == row))
+            .map(|it| it.1)
+            .collect();
+        texts.extend(of_row.first().map(|reason| (format!("{row}: {} refusals alone", of_row.len()), *reason)));
+    }
+    texts
 }
 
 fn of_row(row: Row) -> Vec<Cell> {
@@ -102,7 +118,7 @@ pub fn possible() -> Vec<Cell> {
         let ways = malform::WAYS.iter().enumerate().filter(|(_, (_, kinds, _))| kinds.contains(&kind));
         cells.extend(ways.map(|(way, _)| Cell::Way(kind, way)));
     }
-    cells.extend(Row::all().map(Cell::Accepted));
+    cells.extend(Row::all().filter(|row| row.is_accepted()).map(Cell::Accepted));
     cells.extend(Row::all().flat_map(|row| although::possible(row).map(move |index| Cell::Although(row, index))));
     let time_outs = Row::all().filter(|row| matches!(row.kind, TIME_OUT | TIME_OUT_ON_CLOSE));
     cells.extend(time_outs.flat_map(timed_out));
@@ -111,6 +127,8 @@ pub fn possible() -> Vec<Cell> {
     cells.extend(closing::possible());
     cells.extend(allow_timeout::possible());
     cells.extend(clocks::possible());
+    cells.extend(mark::possible());
+    cells.extend(upgrader::possible());
     cells.extend(places::possible());
     cells.extend(converter::possible());
     cells.extend(EMITTED.map(Cell::Emitted));

@@ -38,7 +38,7 @@ pub enum Room {
     Neither,
 }
 
-const ACCEPTED_TEXTS: [Text; 3] = [Text::Empty, Text::Short, Text::Full];
+pub const ACCEPTED_TEXTS: [Text; 3] = [Text::Empty, Text::Short, Text::Full];
 const REFUSED_TEXTS: [Text; 4] = [Text::OneTooLong, Text::Longer, Text::ZeroInside, Text::ZeroLast];
 const ROOMS: [Room; 7] =
     [Room::LastRecord, Room::LastNumber, Room::NoRecord, Room::JustUsedUp, Room::UsedUp, Room::AtTop, Room::Neither];
@@ -89,12 +89,12 @@ pub fn reached(store: &[u8], body: &Body, applying: &[Line]) -> Vec<Cell> {
 
 /// The version that a verdict shows, without the zeros behind it.
 fn shown(verdict: &EndVerdict) -> &[u8] {
-    let padded = &verdict.record[channel::VERSION..];
+    let padded = &verdict.record[channel::VERSION..channel::MARK];
     let length = padded.iter().rposition(|byte| *byte != 0).map_or(0, |last| last + 1);
     &padded[..length]
 }
 
-fn text(version: &[u8]) -> Text {
+pub fn text(version: &[u8]) -> Text {
     let room = NO_VERSION.len();
     match version.iter().position(|byte| *byte == 0) {
         Some(place) if place + 1 == version.len() && place < room => Text::ZeroLast,
@@ -128,8 +128,8 @@ impl fmt::Display for Text {
         out.write_str(match self {
             Text::Empty => "empty",
             Text::Short => "short",
-            Text::Full => "of 24 bytes",
-            Text::OneTooLong => "of 25 bytes",
+            Text::Full => "of 16 bytes",
+            Text::OneTooLong => "of 17 bytes",
             Text::Longer => "longer",
             Text::ZeroInside => "with a zero byte inside",
             Text::ZeroLast => "with a zero byte at its end",

@@ -41,6 +41,8 @@ fn channel_fit(bytes: &[u8], next: u64) -> bool {
         && end.next_sequence_recv >= 1
         && end.next_sequence_ack >= 1
         && is_padded(&end.version)
+        && end.mark >= FIRST_MARK
+        && (end.is_unordered() || end.mark == FIRST_MARK)
 }
 
 /// Behind the first zero byte stand only zeros.
@@ -73,8 +75,10 @@ fn record_allowed(store: &[u8], record: &Record, end: &Channel) -> bool {
     let has_zero_values = no_timeouts && record.digest == NO_DIGEST;
     match record.kind {
         COMMITMENT => record.sequence < end.next_sequence_send,
-        RECEIPT => end.is_unordered() && has_zero_values,
-        ACKNOWLEDGEMENT => no_timeouts && received_in_any_order(store, end, record.sequence),
+        RECEIPT => end.is_unordered() && has_zero_values && record.sequence >= end.mark,
+        ACKNOWLEDGEMENT => {
+            no_timeouts && record.sequence >= end.mark && received_in_any_order(store, end, record.sequence)
+        }
         TIMEOUT_RECEIPT => end.allows_timeouts() && record.sequence < end.next_sequence_recv && has_zero_values,
         _ => false,
     }

@@ -2,6 +2,7 @@
 
 mod closing;
 mod handshake;
+pub mod prune;
 
 use super::call::Row;
 use super::draft::{absence_claims, Draft, NO_VERDICT};
@@ -14,10 +15,10 @@ use crate::verdict::Verdict;
 
 /// A call of this kind that the store accepts, or nothing when the dice find none.
 pub fn accepted(rng: &mut Rng, store: &[u8], kind: u16) -> Option<Draft> {
-    of_orders(rng, store, kind, &ORDERS)
+    of_orders(rng, store, kind, if kind == PRUNE { &[UNORDERED] } else { &ORDERS })
 }
 
-/// The same for a call of this row.
+/// The same for a call of this row; where it can't be accepted, 29 alone applies to it.
 pub fn accepted_in(rng: &mut Rng, store: &[u8], row: Row) -> Option<Draft> {
     of_orders(rng, store, row.kind, &[row.order])
 }
@@ -44,6 +45,7 @@ fn of_orders(rng: &mut Rng, store: &[u8], kind: u16, orders: &[u8]) -> Option<Dr
         WRITE => fill_write(rng, &mut draft, &end)?,
         OPEN_ACKNOWLEDGE | OPEN_CONFIRM | CLOSE_INIT | CLOSE_CONFIRM => handshake::fill_step(rng, &mut draft, &end),
         TIME_OUT_ON_CLOSE => closing::fill_on_close(rng, &mut draft, &end)?,
+        PRUNE => prune::fill_prune(rng, &mut draft, &end)?,
         _ => fill_finish(rng, &mut draft, &end)?,
     }
     draft.match_verdict();
@@ -90,6 +92,7 @@ fn blank(rng: &mut Rng, store: &[u8], index: usize, kind: u16) -> Draft {
         packet,
         acknowledgement: rng.digest(),
         verdict: Verdict { proof_height: rng.number(), proof_time: rng.number(), ..NO_VERDICT },
+        next: NO_VERDICT,
         absence: rng.pick(absence_claims(kind, end.order)),
         claimed: 0,
         step: Step::default(),
@@ -133,7 +136,12 @@ fn fill_receive(rng: &mut Rng, draft: &mut Draft, end: &Channel) -> Option<()> {
     packet.timeout_timestamp = ahead(rng, draft.context.time);
     if end.is_unordered() {
         has_room(&draft.store).then_some(())?;
-        packet.sequence = rng.number_from_1();
+        // Where the mark has risen, often at it or little above it.
+        packet.sequence = if end.mark > FIRST_MARK && rng.one_in(2) {
+            rng.between(end.mark, end.mark.saturating_add(3))
+        } else {
+            rng.number_from_1().max(end.mark)
+        };
         return (!received(&draft.store, end, packet.sequence)).then_some(());
     }
     end.next_sequence_recv.checked_add(1)?;

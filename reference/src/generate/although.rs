@@ -25,7 +25,9 @@ const FINISHING: &[u16] = &[ACKNOWLEDGE, TIME_OUT, TIME_OUT_ON_CLOSE];
 /// About an end that is there, and nothing is stored beside it.
 const NEED_NO_ROOM: &[u16] = &[OPEN_ACKNOWLEDGE, OPEN_CONFIRM, CLOSE_INIT, CLOSE_CONFIRM, TIME_OUT_ON_CLOSE];
 
-pub const ALL: [Although; 9] = [
+const PRUNES: &[u16] = &[PRUNE];
+
+pub const ALL: [Although; 14] = [
     Although {
         name: "next send is 2^64 - 1",
         refusal: COUNTER_AT_END,
@@ -110,6 +112,48 @@ pub const ALL: [Although; 9] = [
         holds: |store, _, _| next_channel(store) > u64::from(u32::MAX),
         bring_about: |rng, draft| use_up_numbers(rng, &mut draft.store),
     },
+    Although {
+        name: "next receive is 2^64 - 1",
+        refusal: COUNTER_AT_END,
+        kinds: PRUNES,
+        orders: &[UNORDERED],
+        holds: |_, end, _| end.next_sequence_recv == u64::MAX,
+        bring_about: |_, draft| draft.set_end(Channel { next_sequence_recv: u64::MAX, ..draft.end() }),
+    },
+    Although {
+        name: "no packet record is free",
+        refusal: NO_FREE_RECORD,
+        kinds: PRUNES,
+        orders: &[UNORDERED],
+        holds: |store, _, _| !has_room(store),
+        bring_about: |rng, draft| {
+            fill(rng, &mut draft.store, 0, None);
+        },
+    },
+    Although {
+        name: "no channel record is free",
+        refusal: NO_FREE_CHANNEL,
+        kinds: PRUNES,
+        orders: &[UNORDERED],
+        holds: |store, _, _| first_free_channel(store).is_none(),
+        bring_about: |rng, draft| fill_channels(rng, &mut draft.store, 0),
+    },
+    Although {
+        name: "no packet of that sequence was received",
+        refusal: NOT_RECEIVED,
+        kinds: PRUNES,
+        orders: &[UNORDERED],
+        holds: |store, end, sequence| !received(store, end, sequence),
+        bring_about: |_, draft| forget(draft),
+    },
+    Although {
+        name: "the end has a commitment of that sequence",
+        refusal: OTHER_CLAIM,
+        kinds: PRUNES,
+        orders: &[UNORDERED],
+        holds: |store, end, sequence| find_record(store, COMMITMENT, end.channel, sequence).is_some(),
+        bring_about: |rng, draft| commit(rng, draft),
+    },
 ];
 
 /// The indices of those that calls of this row can meet.
@@ -135,7 +179,7 @@ pub fn bring_about(rng: &mut Rng, draft: &mut Draft) {
 fn put(draft: &mut Draft, kind: u16) {
     let (channel, sequence) = (draft.end().channel, draft.packet.sequence);
     let there = find_record(&draft.store, kind, channel, sequence).is_some();
-    if has_room(&draft.store) && !there {
+    if has_room(&draft.store) && !there && !draft.end().has_pruned(sequence) {
         insert(&mut draft.store, &Record { kind, channel, sequence, ..Record::FREE });
     }
 }
@@ -146,5 +190,23 @@ fn put_timeout_receipt(draft: &mut Draft) {
     if find_record(&draft.store, ACKNOWLEDGEMENT, end.channel, sequence).is_none() {
         draft.set_end(Channel { next_sequence_recv: end.next_sequence_recv.max(sequence + 1), ..end });
         put(draft, TIMEOUT_RECEIPT);
+    }
+}
+
+fn forget(draft: &mut Draft) {
+    let (channel, sequence) = (draft.end().channel, draft.packet.sequence);
+    for kind in [ACKNOWLEDGEMENT, RECEIPT] {
+        let found = find_record(&draft.store, kind, channel, sequence);
+        found.into_iter().for_each(|index| remove(&mut draft.store, index));
+    }
+}
+
+/// The end has sent a packet with that sequence itself.
+fn commit(rng: &mut Rng, draft: &mut Draft) {
+    let (end, sequence) = (draft.end(), draft.packet.sequence);
+    if has_room(&draft.store) && find_record(&draft.store, COMMITMENT, end.channel, sequence).is_none() {
+        draft.set_end(Channel { next_sequence_send: end.next_sequence_send.max(sequence + 1), ..end });
+        let (channel, digest) = (end.channel, rng.digest());
+        insert(&mut draft.store, &Record { kind: COMMITMENT, channel, sequence, digest, ..Record::FREE });
     }
 }

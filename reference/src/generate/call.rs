@@ -1,8 +1,8 @@
 //! One call, how it came about and what it was made for.
 
-use crate::datagram::ALL_KINDS;
+use crate::datagram::{ALL_KINDS, PRUNE};
 use crate::refusal::Line;
-use crate::store::ORDERS;
+use crate::store::{ORDERS, UNORDERED};
 
 /// What is called, with the bytes that it is lent.
 #[derive(Clone, Debug)]
@@ -21,6 +21,11 @@ pub enum Task {
         store: Vec<u8>,
         datagram: Vec<u8>,
     },
+    /// A store of the kind before, or another one, is converted to today's kind.
+    Upgrade {
+        store: Vec<u8>,
+        datagram: Vec<u8>,
+    },
     StoreLength(usize),
 }
 
@@ -28,7 +33,8 @@ impl Task {
     /// The store that is lent; to be asked for a length none is.
     pub fn store(&self) -> &[u8] {
         match self {
-            Task::Handle { store, .. } | Task::Make { store, .. } | Task::Convert { store, .. } => store,
+            Task::Handle { store, .. } | Task::Make { store, .. } => store,
+            Task::Convert { store, .. } | Task::Upgrade { store, .. } => store,
             Task::StoreLength(_) => &[],
         }
     }
@@ -47,6 +53,12 @@ impl Row {
     pub fn all() -> impl Iterator<Item = Row> {
         ALL_KINDS.into_iter().flat_map(|kind| ORDERS.map(|order| Row { kind, order }))
     }
+
+    /// Whether a call of this row can be accepted: a prune on an end that is not unordered is refused with 29 where
+    /// nothing else applies.
+    pub fn is_accepted(self) -> bool {
+        self.kind != PRUNE || self.order == UNORDERED
+    }
 }
 
 /// How a call came about.
@@ -63,6 +75,10 @@ pub enum Origin {
     Malformed(u16, usize),
     /// The store is fit, but perhaps for the order of its records.
     Scattered,
+    /// The store is fit by the rules of before.
+    Before,
+    /// The store was fit by the rules of before, but for this: see `upgrading`.
+    NotBefore(usize),
     Garbage,
     Flipped,
     Maker,

@@ -17,13 +17,14 @@ use run::Spot;
 type Damage = fn(&mut Rng, &mut Vec<u8>) -> Option<()>;
 
 /// Each kind of damage with its name. A kind answers nothing when the store has no place for it.
-pub const KINDS: [(&str, Damage); 62] = [
+pub const KINDS: [(&str, Damage); 69] = [
     ("slice cut short", cut_short),
     ("slice too long", too_long),
     ("record too few or many", record_more_or_less),
     ("no records, or 513", no_such_count),
     ("length field", |rng, store| flip(rng, store, frame::LENGTH, 4)),
     ("store kind", |rng, store| flip(rng, store, frame::KIND, 2)),
+    (STORE_OF_BEFORE, end::store_of_before),
     ("number 16", |rng, store| flip(rng, store, header::CHANNEL_COUNT, 2)),
     ("record count", |rng, store| flip(rng, store, header::RECORD_COUNT, 4)),
     ("next channel 0", end::next_zero),
@@ -35,6 +36,9 @@ pub const KINDS: [(&str, Damage); 62] = [
     ("INIT with a channel", end::init_with_channel),
     ("version not padded", end::version_not_padded),
     ("counter 0", end::counter_zero),
+    (MARK_ZERO, end::mark_zero),
+    ("mark on ordered", |rng, store| end::mark_on(rng, store, ORDERED)),
+    ("mark where timeouts are allowed", |rng, store| end::mark_on(rng, store, ALLOW_TIMEOUT)),
     ("channel twice", end::twice),
     ("free channel not zero", end::free_not_zero),
     ("record kind", record::kind),
@@ -76,6 +80,9 @@ pub const KINDS: [(&str, Damage); 62] = [
     ("last of a run not received", |rng, store| run::not_received(rng, store, Spot::Last)),
     ("receipt on the next channel", run::receipt_on_next),
     ("no receipts before acknowledgements", run::no_receipts),
+    ("first receipt below the mark", |rng, store| run::below_mark(rng, store, false)),
+    ("all receipts below the mark", |rng, store| run::below_mark(rng, store, true)),
+    ("acknowledgement below the mark", run::acknowledged_below_mark),
     ("first of a run acknowledged and lapsed", |rng, store| run::lapsed_beside(rng, store, Spot::First)),
     ("middle of a run acknowledged and lapsed", |rng, store| run::lapsed_beside(rng, store, Spot::Middle)),
     ("last of a run acknowledged and lapsed", |rng, store| run::lapsed_beside(rng, store, Spot::Last)),
@@ -97,6 +104,15 @@ pub const KINDS: [(&str, Damage); 62] = [
 const OF_ORDER: usize = 4;
 /// The kind before them needs two records, which may stand next to each other or apart.
 pub const TWO_OF_ONE_KEY: usize = KINDS.len() - OF_ORDER - 1;
+
+/// What a store of before has had, and so none is damaged by.
+const STORE_OF_BEFORE: &str = "store of before";
+const MARK_ZERO: &str = "mark 0";
+
+/// Whether a store of before is damaged in the way of this index too; the converter to today's kind mends none.
+pub fn damages_before(kind: usize) -> bool {
+    !matches!(KINDS[kind].0, STORE_OF_BEFORE | MARK_ZERO)
+}
 
 /// What the converter answers to a store that is damaged in the way of this index.
 pub fn converter_answer(kind: usize) -> u8 {

@@ -1,6 +1,7 @@
 //! A call in the making: a store and a datagram in parts, so that single parts can be spoiled.
 
 use super::call::Row;
+use super::prune;
 use super::step::Step;
 use crate::bytes::*;
 use crate::datagram::*;
@@ -10,8 +11,8 @@ use crate::store::*;
 use crate::verdict::*;
 
 /// One draft for all kinds. A send takes timeouts, digest and source channel from the packet; a written
-/// acknowledgement takes sequence and destination channel from it; the handshake and closing have their step instead,
-/// and a time-out on close has both.
+/// acknowledgement and a prune take sequence and destination channel from it; the handshake and closing have their step
+/// instead, and a time-out on close has both.
 #[derive(Clone, Debug)]
 pub struct Draft {
     pub store: Vec<u8>,
@@ -22,9 +23,11 @@ pub struct Draft {
     pub packet: Packet,
     pub acknowledgement: Digest,
     pub verdict: Verdict,
+    /// The second verdict of a prune.
+    pub next: Verdict,
     /// By which claim a time-out of either sort says that the packet was not received.
     pub absence: u16,
-    /// What the next receive is, where that is claimed.
+    /// What the next receive is, where that is claimed; in a prune, what the next send is.
     pub claimed: u64,
     pub step: Step,
 }
@@ -66,7 +69,7 @@ impl Draft {
     /// The number by which the datagram names the channel of this ledger.
     pub fn own_channel(&mut self) -> &mut u32 {
         match self.kind {
-            RECEIVE | WRITE => &mut self.packet.dest_channel,
+            RECEIVE | WRITE | PRUNE => &mut self.packet.dest_channel,
             OPEN_ACKNOWLEDGE | OPEN_CONFIRM | CLOSE_INIT | CLOSE_CONFIRM => &mut self.step.channel,
             _ => &mut self.packet.source_channel,
         }
@@ -81,6 +84,11 @@ impl Draft {
         if is_step(self.kind) {
             return;
         }
+        if self.kind == PRUNE {
+            let verdicts = prune::needed_verdicts(&end, self.packet.sequence, self.claimed);
+            [self.verdict, self.next] = prune::in_blocks(verdicts, [self.verdict, self.next]);
+            return;
+        }
         let Verdict { proof_height, proof_time, .. } = self.verdict;
         self.verdict = match self.kind {
             TIME_OUT | TIME_OUT_ON_CLOSE => absence_verdict(self.absence, &self.packet, self.claimed),
@@ -93,6 +101,10 @@ impl Draft {
     pub fn encode(&self) -> Vec<u8> {
         match self.kind {
             TIME_OUT_ON_CLOSE => encode_on_close(&self.context, &self.packet, &self.step.verdict, &self.verdict),
+            PRUNE => {
+                let (channel, sequence) = (self.packet.dest_channel, self.packet.sequence);
+                prune::encode(&self.context, channel, sequence, [&self.verdict, &self.next])
+            }
             kind if is_step(kind) => self.step.encode(kind, &self.context),
             kind => encode(kind, &self.context, &self.packet, self.acknowledgement, &self.verdict),
         }

@@ -1,6 +1,7 @@
 //! Spoils a call that would be accepted, so that one line of the table applies and none before it begins to.
 
 mod handshake;
+mod prune;
 mod row;
 mod verdict;
 
@@ -14,7 +15,7 @@ use crate::places::header;
 use crate::refusal::*;
 use crate::store::*;
 use crate::verdict::NEXT_RECV_EQUALS;
-pub use row::{aims, never_given, never_together, numbers};
+pub use row::{aims, never_alone, never_given, never_together, numbers};
 pub use verdict::parts;
 
 /// Brings these lines about, which are in order and from 4 on. The verdicts are matched when all else is as it will be,
@@ -23,6 +24,9 @@ pub fn spoil(rng: &mut Rng, draft: &mut Draft, lines: &[Line]) -> bool {
     if lines.contains(&Part::Sequence.into()) {
         // Of two claims, the last is of this very sequence.
         draft.absence = absence_claims(draft.kind, draft.end().order).last().copied().unwrap_or_default();
+    }
+    if lines == [Part::NextSequence.into()] && rng.one_in(6) {
+        prune::at_last(draft);
     }
     let mut numbers = lines.iter().rev().filter(|line| line.part().is_none());
     if !numbers.all(|line| spoil_number(rng, draft, line.number())) {
@@ -52,6 +56,9 @@ fn spoil_number(rng: &mut Rng, draft: &mut Draft, number: u8) -> bool {
         NO_COMMITMENT => other_commitment(rng, draft),
         OUT_OF_ORDER => return out_of_order(rng, draft),
         ALREADY_THERE => return already_there(rng, draft),
+        NOT_THE_MARK => return prune::not_the_mark(rng, draft),
+        // So it is in the rows that can be refused for it.
+        NOT_UNORDERED => {}
         NOT_RECEIVED => return not_received(rng, draft),
         EMPTY_ACKNOWLEDGEMENT => draft.acknowledgement = NO_DIGEST,
         COUNTER_AT_END => return counter_at_end(draft),
@@ -170,7 +177,16 @@ fn not_its_turn(rng: &mut Rng, draft: &mut Draft) -> bool {
     end.next_sequence_ack != draft.packet.sequence
 }
 
+/// A record is there, or the mark is above the sequence. What was not received has no acknowledgement.
 fn already_there(rng: &mut Rng, draft: &mut Draft) -> bool {
+    let end = draft.end();
+    let by_mark = end.is_unordered() && rng.one_in(2);
+    if by_mark || draft.kind == WRITE && !received(&draft.store, &end, draft.packet.sequence) {
+        return prune::below_mark(rng, draft);
+    }
+    if end.is_unordered() && rng.one_in(2) && !prune::raise_mark(rng, draft, draft.packet.sequence) {
+        return false;
+    }
     let kind = if draft.kind == RECEIVE { RECEIPT } else { ACKNOWLEDGEMENT };
     let digest = if kind == RECEIPT { NO_DIGEST } else { rng.digest() };
     let record = Record { kind, channel: draft.end().channel, sequence: draft.packet.sequence, digest, ..Record::FREE };
@@ -185,9 +201,13 @@ fn not_received(rng: &mut Rng, draft: &mut Draft) -> bool {
         return place(rng, &mut draft.store, &Record { kind: TIMEOUT_RECEIPT, channel, sequence, ..Record::FREE });
     }
     draft.packet.sequence = if end.is_unordered() {
-        // Next to a receipt, or anywhere.
+        // Next to a receipt, at the mark, or anywhere.
         let near = pick_record(rng, &draft.store, RECEIPT, end.channel).map_or(1, |(_, record)| record.sequence);
-        rng.other_than(near).max(1)
+        if rng.one_in(3) {
+            end.mark
+        } else {
+            rng.other_than(near).max(end.mark)
+        }
     } else {
         rng.between(end.next_sequence_recv, u64::MAX)
     };

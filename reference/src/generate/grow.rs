@@ -13,6 +13,7 @@ pub fn any_accepted(rng: &mut Rng, store: &[u8]) -> Option<Draft> {
         0 | 1 => rng.pick(&HANDSHAKE_KINDS),
         2 => rng.pick(&[CLOSE_INIT, CLOSE_CONFIRM]),
         3 | 4 => TIME_OUT_ON_CLOSE,
+        5 => PRUNE,
         _ => rng.pick(&PACKET_KINDS),
     };
     accept::accepted(rng, store, kind)

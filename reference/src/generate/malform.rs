@@ -6,15 +6,26 @@
 use super::rng::Rng;
 use crate::bytes::*;
 use crate::datagram::*;
-use crate::places::{confirm, context, frame, open_acknowledge, open_init, open_try, packet, time_out_on_close, write};
+use crate::places::{
+    confirm, context, frame, open_acknowledge, open_init, open_try, packet, prune, time_out_on_close, write,
+};
 use crate::store::ORDERS;
 
 type Way = fn(&mut Rng, &mut Vec<u8>) -> Option<()>;
 
-const WITH_SEQUENCE: &[u16] = &[RECEIVE, WRITE, ACKNOWLEDGE, TIME_OUT, TIME_OUT_ON_CLOSE];
-const WITH_VERDICT: &[u16] =
-    &[RECEIVE, ACKNOWLEDGE, TIME_OUT, OPEN_TRY, OPEN_ACKNOWLEDGE, OPEN_CONFIRM, CLOSE_CONFIRM, TIME_OUT_ON_CLOSE];
-const WITH_TWO_VERDICTS: &[u16] = &[TIME_OUT_ON_CLOSE];
+const WITH_SEQUENCE: &[u16] = &[RECEIVE, WRITE, ACKNOWLEDGE, TIME_OUT, TIME_OUT_ON_CLOSE, PRUNE];
+const WITH_VERDICT: &[u16] = &[
+    RECEIVE,
+    ACKNOWLEDGE,
+    TIME_OUT,
+    OPEN_TRY,
+    OPEN_ACKNOWLEDGE,
+    OPEN_CONFIRM,
+    CLOSE_CONFIRM,
+    TIME_OUT_ON_CLOSE,
+    PRUNE,
+];
+const WITH_TWO_VERDICTS: &[u16] = &[TIME_OUT_ON_CLOSE, PRUNE];
 const WITH_ORDER: &[u16] = &[OPEN_INIT, OPEN_TRY];
 
 /// Each way with its name and the kinds of datagrams that have a place for it. A way answers nothing when the dice
@@ -29,7 +40,7 @@ pub const WAYS: [(&str, &[u16], Way); 11] = [
     ("own height 0", &ALL_KINDS, |_, bytes| zero(bytes, frame::BODY + context::HEIGHT)),
     ("sequence 0", WITH_SEQUENCE, sequence_zero),
     ("claim", WITH_VERDICT, claim),
-    ("second claim", WITH_TWO_VERDICTS, |rng, bytes| unknown_claim(rng, bytes, time_out_on_close::VERDICT)),
+    ("second claim", WITH_TWO_VERDICTS, second_claim),
     ("order", WITH_ORDER, order),
 ];
 
@@ -82,7 +93,7 @@ fn length_field(rng: &mut Rng, bytes: &mut Vec<u8>) -> Option<()> {
 /// Kinds of other records, high bytes that a careless reader drops, neighbours.
 fn kind_unknown(rng: &mut Rng, bytes: &mut Vec<u8>) -> Option<()> {
     let kind = get_u16(bytes, frame::KIND);
-    let unknown = rng.pick(&[0, 13, 14, 0x0010, 0x0020, 0x0101, 0x0401, 0xffff, kind | 0x0100, kind | 0x8000]);
+    let unknown = rng.pick(&[0, 14, 15, 0x0010, 0x0020, 0x0101, 0x0401, 0xffff, kind | 0x0100, kind | 0x8000]);
     put_u16(bytes, frame::KIND, unknown);
     Some(())
 }
@@ -132,6 +143,7 @@ fn sequence_zero(_: &mut Rng, bytes: &mut Vec<u8>) -> Option<()> {
     let body = frame::BODY + context::LENGTH;
     match get_u16(bytes, frame::KIND) {
         WRITE => zero(bytes, body + write::SEQUENCE),
+        PRUNE => zero(bytes, body + prune::SEQUENCE),
         _ => zero(bytes, body + packet::SEQUENCE),
     }
 }
@@ -143,14 +155,20 @@ fn claim(rng: &mut Rng, bytes: &mut Vec<u8>) -> Option<()> {
         OPEN_TRY => open_try::VERDICT,
         OPEN_ACKNOWLEDGE => open_acknowledge::VERDICT,
         OPEN_CONFIRM | CLOSE_CONFIRM => confirm::VERDICT,
+        PRUNE => prune::ABSENT,
         _ => packet::LENGTH,
     };
     unknown_claim(rng, bytes, at)
 }
 
+fn second_claim(rng: &mut Rng, bytes: &mut Vec<u8>) -> Option<()> {
+    let at = if get_u16(bytes, frame::KIND) == PRUNE { prune::NEXT } else { time_out_on_close::VERDICT };
+    unknown_claim(rng, bytes, at)
+}
+
 /// In the verdict at this place behind the context.
 fn unknown_claim(rng: &mut Rng, bytes: &mut [u8], at: usize) -> Option<()> {
-    put_u16(bytes, frame::BODY + context::LENGTH + at, rng.pick(&[0, 7, 8, 0x0100, 0x0101, 0x0206, 0x8004, 0xffff]));
+    put_u16(bytes, frame::BODY + context::LENGTH + at, rng.pick(&[0, 9, 10, 0x0100, 0x0107, 0x0208, 0x8004, 0xffff]));
     Some(())
 }
 
@@ -162,7 +180,7 @@ fn order(rng: &mut Rng, bytes: &mut Vec<u8>) -> Option<()> {
 
 /// Bytes that nobody made as a datagram; some have a good frame, and those may even be well formed.
 pub fn garbage(rng: &mut Rng) -> Vec<u8> {
-    let kind = 1 + rng.below(13) as u16;
+    let kind = 1 + rng.below(14) as u16;
     let length = match (rng.below(3), length_of(kind)) {
         (0, _) => rng.index(300),
         (1, _) => rng.index(12),

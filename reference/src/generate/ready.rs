@@ -2,6 +2,7 @@
 
 use super::accept::{pick_record, some_received};
 use super::call::Row;
+use super::prune::{know_of_mark, set_mark, some_mark};
 use super::rng::Rng;
 use super::shape::{add_end, make_room, place, some_commitment, some_end};
 use crate::datagram::*;
@@ -23,6 +24,11 @@ pub fn make_ready(rng: &mut Rng, store: &mut [u8], row: Row) {
     match row.kind {
         WRITE => receive_one(rng, store, index),
         ACKNOWLEDGE | TIME_OUT | TIME_OUT_ON_CLOSE => commit_one(rng, store, index),
+        PRUNE if row.order == UNORDERED => {
+            let mark = some_mark(rng, row.order);
+            set_mark(store, index, mark);
+            know_of_mark(rng, store, index);
+        }
         _ => {}
     }
     if matches!(row.kind, SEND | RECEIVE | WRITE) {
@@ -49,7 +55,8 @@ fn receive_one(rng: &mut Rng, store: &mut [u8], index: usize) {
         return;
     }
     if end.is_unordered() {
-        let receipt = Record { kind: RECEIPT, channel: end.channel, sequence: rng.number_from_1(), ..Record::FREE };
+        let receipt =
+            Record { kind: RECEIPT, channel: end.channel, sequence: rng.number_from_1().max(end.mark), ..Record::FREE };
         place(rng, store, &receipt);
     } else {
         let next_sequence_recv = end.next_sequence_recv.saturating_add(1 + rng.below(3));

@@ -2,6 +2,7 @@
 
 use super::accept::{pick_record, some_received, some_taken};
 use super::making::port;
+use super::prune::{other_mark, some_mark};
 use super::rng::Rng;
 use super::step::{padded, some_version};
 use crate::bytes::*;
@@ -94,6 +95,7 @@ pub fn add_end(rng: &mut Rng, store: &mut [u8], index: usize, order: u8) {
         next_sequence_recv: rng.number_from_1(),
         next_sequence_ack: rng.number_from_1(),
         version: padded(&some_version(rng)),
+        mark: some_mark(rng, order),
     };
     end.write(&mut store[channel_place(index)..]);
 }
@@ -121,7 +123,7 @@ fn some_record(rng: &mut Rng, store: &mut [u8], at: usize) -> Option<Record> {
     let end = channel_at(store, at)?;
     let blank = Record { channel: end.channel, ..Record::FREE };
     match rng.below(4) {
-        0 if end.is_unordered() => Some(Record { kind: RECEIPT, sequence: rng.number_from_1(), ..blank }),
+        0 if end.is_unordered() => Some(Record { kind: RECEIPT, sequence: rng.number_from_1().max(end.mark), ..blank }),
         0 if end.allows_timeouts() => {
             let sequence = some_taken(rng, &end)?;
             let written = find_record(store, ACKNOWLEDGEMENT, end.channel, sequence);
@@ -149,7 +151,7 @@ pub fn some_commitment(rng: &mut Rng, store: &mut [u8], at: usize) -> Option<Rec
 
 /// One random change after which a fit store is still fit.
 pub fn reshape(rng: &mut Rng, store: &mut [u8]) {
-    match rng.below(11) {
+    match rng.below(13) {
         0 => swap_ends(store, channel_place(rng.index(CHANNELS)), channel_place(rng.index(CHANNELS))),
         1 => {
             put_u64(store, header::LAST_HEIGHT, rng.number());
@@ -167,6 +169,7 @@ pub fn reshape(rng: &mut Rng, store: &mut [u8]) {
             fill_channels(rng, store, left);
         }
         6 => without_timeouts(rng, store),
+        7 | 8 => other_mark(rng, store),
         _ => other_counters(rng, store),
     }
 }

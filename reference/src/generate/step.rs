@@ -61,7 +61,9 @@ impl Step {
             _ => naming_it(CLOSED, end.counterparty_channel),
         };
         self.verdict.claim = END_SHOWN;
-        self.verdict.record[..channel::VERSION].copy_from_slice(&needed.shown()[..channel::VERSION]);
+        let version = self.verdict.version();
+        self.verdict.record = needed.shown();
+        self.show_version(version);
     }
 
     /// Puts a version into the verdict's record.

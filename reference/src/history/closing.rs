@@ -55,7 +55,7 @@ impl History {
         let absent: Vec<Verdict> = moments
             .iter()
             .zip(claims)
-            .map(|(moment, claim)| absence(&self.ledgers[1 - at], self.truth, claim, &packet, *moment))
+            .map(|(moment, claim)| absence(&self.ledgers[1 - at], self.plan.truth, claim, &packet, *moment))
             .filter(|absence| self.may_show(at, Shown::Packet(*absence)))
             .collect();
         let good = |absence: &&Verdict| absence.sequence <= packet.sequence;
@@ -89,7 +89,7 @@ impl History {
     }
 
     fn may_show(&self, at: usize, shown: Shown) -> bool {
-        !self.truth.of(TIME_OUT_ON_CLOSE) || self.ledgers[1 - at].is_true(&shown)
+        !self.plan.truth.of(TIME_OUT_ON_CLOSE) || self.ledgers[1 - at].is_true(&shown)
     }
 }
 

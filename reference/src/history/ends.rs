@@ -91,12 +91,16 @@ impl Ends {
     /// A new end: its number is the next one, it has sent and received nothing, and it answers an end or begins.
     fn made(&mut self, at: End, end: &Channel) -> Vec<Broken> {
         let highest = self.last.keys().filter(|(ledger, _)| *ledger == at.0).map(|(_, number)| *number).max();
-        let counters = (end.next_sequence_send, end.next_sequence_recv, end.next_sequence_ack);
+        let counters = (end.next_sequence_send, end.next_sequence_recv, end.next_sequence_ack, end.mark);
         let answers =
             || self.last.get(&(1 - at.0, end.counterparty_channel)).is_some_and(|other| may_begin(other, end));
         let faults = [
             (Truth::Nothing, at.1 != highest.map_or(1, |highest| highest + 1), "a number is not the next"),
-            (Truth::Nothing, !matches!(end.state, INIT | TRYOPEN) || counters != (1, 1, 1), "a new end is not fresh"),
+            (
+                Truth::Nothing,
+                !matches!(end.state, INIT | TRYOPEN) || counters != (1, 1, 1, 1),
+                "a new end is not fresh",
+            ),
             (Truth::Everything, end.state == TRYOPEN && !answers(), "a try answers no init"),
         ];
         let broken = told(at, faults);
@@ -169,11 +173,14 @@ impl Ends {
     }
 }
 
-/// An end keeps its own end, order and version, gets its counterparty once, and goes back to no state.
+/// An end keeps its own end, order and version, gets its counterparty once, and goes back to no state; its mark rises
+/// by one if at all.
 fn changed(at: End, before: &Channel, after: &Channel) -> Vec<Broken> {
     let kept = |end: &Channel| (end.port, end.order, end.version, end.counterparty_port);
     let named_again = before.state != INIT && before.counterparty_channel != after.counterparty_channel;
+    let rise = after.mark.checked_sub(before.mark);
     let faults = [
+        (Truth::Nothing, !matches!(rise, Some(0 | 1)), "a mark fell or leapt"),
         (Truth::Nothing, kept(before) != kept(after), "an end changed"),
         (Truth::Nothing, named_again, "a counterparty changed"),
         (Truth::Nothing, after.state < before.state, "a state went back"),

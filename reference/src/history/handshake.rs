@@ -9,7 +9,7 @@ use crate::generate::shape::channels;
 use crate::generate::step::{other_order, padded, Step};
 use crate::store::*;
 
-const VERSIONS: [&[u8]; 4] = [b"", b"v1", b"v2", b"twenty-four bytes of it."];
+const VERSIONS: [&[u8]; 4] = [b"", b"v1", b"v2", b"sixteen bytes it"];
 /// With more ends than this a ledger makes few new ones, as there is room for 16.
 const MANY: usize = 8;
 
@@ -56,7 +56,7 @@ impl History {
             3 => step.counterparty_channel = step.counterparty_channel.wrapping_add(1),
             _ => {}
         }
-        let shown = if self.truth.of(OPEN_TRY) { initiator.version } else { padded(&step.version) };
+        let shown = if self.plan.truth.of(OPEN_TRY) { initiator.version } else { padded(&step.version) };
         self.proved_step(at, OPEN_TRY, step, &initiator, caller, shown)
     }
 
@@ -68,7 +68,7 @@ impl History {
             |other: &Channel| (other.counterparty_port, other.counterparty_channel) == (end.port, end.channel);
         let answer = self.some_end(&other, |other| other.state == TRYOPEN && names_it(other))?;
         let step = Step { channel: end.channel, counterparty_channel: answer.channel, ..Step::default() };
-        let shown = if self.truth.of(OPEN_ACKNOWLEDGE) { answer.version } else { end.version };
+        let shown = if self.plan.truth.of(OPEN_ACKNOWLEDGE) { answer.version } else { end.version };
         self.proved_step(at, OPEN_ACKNOWLEDGE, step, &end, end.port, shown)
     }
 
@@ -114,7 +114,7 @@ impl History {
         let mut version = self.rng.pick(&VERSIONS).to_vec();
         match self.rng.below(20) {
             0 => version.push(0),
-            1 => version.resize(25, b'v'),
+            1 => version.resize(NO_VERSION.len() + 1, b'v'),
             _ => {}
         }
         version

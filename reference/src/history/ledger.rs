@@ -28,6 +28,7 @@ impl Shown {
             Body::TimeOutOnClose { end_verdict, verdict, .. } => {
                 vec![Shown::End(*end_verdict), Shown::Packet(*verdict)]
             }
+            Body::Prune { absent, next, .. } => vec![Shown::Packet(*absent), Shown::Packet(*next)],
             Body::Send { .. } | Body::Write { .. } | Body::OpenInit { .. } | Body::CloseInit { .. } => Vec::new(),
         }
     }
@@ -129,6 +130,11 @@ impl Ledger {
         Some(find_channel(&self.blocks[self.block_at(height)].store, channel)?.1.next_sequence_recv)
     }
 
+    /// What next send was then.
+    pub fn next_send_at(&self, height: u64, channel: u32) -> Option<u64> {
+        Some(find_channel(&self.blocks[self.block_at(height)].store, channel)?.1.next_sequence_send)
+    }
+
     /// The store as it was after some height, often as it is now.
     pub fn some_store(&self, rng: &mut Rng) -> &[u8] {
         let index = if rng.one_in(4) { rng.index(self.blocks.len()) } else { self.blocks.len() - 1 };
@@ -191,11 +197,14 @@ fn holds(store: &[u8], verdict: &Verdict) -> bool {
         RECEIPT_ABSENT => found(RECEIPT).is_none(),
         NEXT_RECV_EQUALS => end.next_sequence_recv == verdict.sequence,
         TIMEOUT_RECEIPT_PRESENT => found(TIMEOUT_RECEIPT).is_some(),
+        // Whatever its timeouts and digest.
+        COMMITMENT_ABSENT => found(COMMITMENT).is_none(),
+        NEXT_SEND_EQUALS => end.next_sequence_send == verdict.sequence,
         _ => false,
     }
 }
 
-/// The end that the record names is there, with exactly these bytes once its counters are set to zero.
+/// The end that the record names is there, with exactly these bytes once its counters and its mark are set to zero.
 fn end_holds(store: &[u8], verdict: &EndVerdict) -> bool {
     let found = find_channel(store, get_u32(&verdict.record, channel::CHANNEL));
     verdict.claim == END_SHOWN && found.is_some_and(|(_, end)| end.shown() == verdict.record)

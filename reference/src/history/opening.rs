@@ -42,6 +42,12 @@ pub fn two_lists(rng: &mut Rng) -> ([Vec<u8>; 2], BTreeSet<End>) {
     (lists, paired)
 }
 
+/// One unordered channel between two ends.
+pub fn one_channel() -> ([Vec<u8>; 2], BTreeSet<End>) {
+    let lists = [one_opening(1, 10, 2, 20, UNORDERED), one_opening(2, 20, 1, 10, UNORDERED)].map(Vec::from);
+    (lists, BTreeSet::from([(0, 10), (1, 20)]))
+}
+
 fn one_opening(port: u16, channel: u32, other_port: u16, other_channel: u32, order: u8) -> [u8; opening::LENGTH] {
     let mut bytes = [0; opening::LENGTH];
     put_u32(&mut bytes, frame::LENGTH, opening::LENGTH as u32);

@@ -8,12 +8,15 @@ use crate::rules::passed;
 use crate::store::*;
 use crate::verdict::*;
 
+/// In a long history most packets can be taken for long.
+const LONG: u64 = 300;
+
 impl History {
     pub fn send(&mut self, at: usize) -> Option<Vec<u8>> {
         let store = self.ledgers[at].store.clone();
         let end = self.some_end(&store, Channel::is_open)?;
         let (height, time) = self.ledgers[1 - at].now();
-        let far = self.rng.pick(&[4, 16, 60, 200]);
+        let far = if self.plan.long { LONG } else { self.rng.pick(&[4, 16, 60, 200]) };
         let mut timeout = |now: u64| match self.rng.below(12) {
             0..=3 => 0,
             // It has passed there, whether the client knows that or not.
@@ -55,6 +58,10 @@ impl History {
             })?;
             (packet.dest_port, packet.dest_channel) = (other.port, other.channel);
         }
+        self.receive_of(at, packet)
+    }
+
+    pub fn receive_of(&mut self, at: usize, mut packet: Packet) -> Option<Vec<u8>> {
         // Nobody sent it so: that takes a lie.
         if self.rng.one_in(12) {
             packet.digest = self.rng.other_digest(packet.digest);
@@ -70,9 +77,12 @@ impl History {
     }
 
     pub fn write(&mut self, at: usize) -> Option<Vec<u8>> {
+        let even_if_written = !self.plan.long;
         let packet = self.some_sent(1 - at, |ledgers, packet| {
             let store = &ledgers[at].store;
-            find_channel(store, packet.dest_channel).is_some_and(|(_, end)| received(store, &end, packet.sequence))
+            let written = find_record(store, ACKNOWLEDGEMENT, packet.dest_channel, packet.sequence).is_some();
+            let end = find_channel(store, packet.dest_channel).map(|(_, end)| end);
+            (even_if_written || !written) && end.is_some_and(|end| received(store, &end, packet.sequence))
         })?;
         let digest = self.rng.nonzero_digest();
         Some(encode(WRITE, &self.context(at, packet.dest_port), &packet, digest, &NO_VERDICT))
@@ -95,10 +105,14 @@ impl History {
     pub fn time_out(&mut self, at: usize) -> Option<Vec<u8>> {
         let even_if_taken = self.rng.one_in(4);
         let packet = self.some_sent(at, |ledgers, packet| may_time_out(ledgers, at, packet, even_if_taken))?;
+        self.time_out_of(at, packet, even_if_taken)
+    }
+
+    pub fn time_out_of(&mut self, at: usize, packet: Packet, even_if_taken: bool) -> Option<Vec<u8>> {
         let (_, end) = find_channel(&self.ledgers[at].store, packet.source_channel)?;
         let claim = self.absence_claim(TIME_OUT, &end, even_if_taken);
         let other = &self.ledgers[1 - at];
-        let claim_at = |moment: (u64, u64)| absence(other, self.truth, claim, &packet, moment);
+        let claim_at = |moment: (u64, u64)| absence(other, self.plan.truth, claim, &packet, moment);
         let good = |verdict: &Verdict| other.is_true(&Shown::Packet(*verdict)) && verdict.sequence <= packet.sequence;
         let late = |verdict: &Verdict| passed(&packet, verdict.proof_height, verdict.proof_time);
         let moments = other.moments(&mut self.rng);
@@ -106,7 +120,7 @@ impl History {
         let best = verdicts.clone().find(|verdict| late(verdict) && good(verdict));
         let mut verdict = best.filter(|_| !self.rng.one_in(4)).or(verdicts.clone().next())?;
         // A block that is not there yet: that takes a lie.
-        if !self.truth.of(TIME_OUT) && self.rng.one_in(6) {
+        if !self.plan.truth.of(TIME_OUT) && self.rng.one_in(6) {
             verdict.proof_height = verdict.proof_height.max(packet.timeout_height);
         }
         Some(encode(TIME_OUT, &self.context(at, packet.source_port), &packet, [0; 32], &verdict))
@@ -120,7 +134,7 @@ impl History {
         self.rng.pick(claims)
     }
 
-    fn proved_packet(&mut self, other: usize, kind: u16, verdict: Verdict) -> Option<Verdict> {
+    pub fn proved_packet(&mut self, other: usize, kind: u16, verdict: Verdict) -> Option<Verdict> {
         match self.proved(other, kind, Shown::Packet(verdict))? {
             Shown::Packet(verdict) => Some(verdict),
             Shown::End(_) => None,

@@ -1,17 +1,21 @@
 //! Counts what two ledgers emit and says which promise is broken. It knows nothing of how calls are decided.
 
+mod marks;
+mod totals;
+
 use std::collections::{BTreeMap, BTreeSet};
 
 use super::ends::{Broken, End, Ends};
 use super::sequences::{Fault, Sequences};
 use super::Truth;
 use crate::bytes::*;
-use crate::datagram::{read, Body, Context, Packet, TIME_OUT, TIME_OUT_ON_CLOSE};
+use crate::datagram::{Context, Packet, TIME_OUT_ON_CLOSE};
 use crate::generate::shape::channels;
 use crate::places::{frame, packet};
-use crate::refusal::TIMEOUT_PASSED;
-use crate::rules::{passed, reached};
+use crate::rules::passed;
 use crate::store::*;
+use marks::Pruned;
+pub use totals::{OF_LONG, TOTALS};
 
 /// A packet's name: its sender's ledger, source channel and sequence.
 type Name = (usize, u32, u64);
@@ -23,36 +27,6 @@ struct Sums {
     acknowledged: u64,
     timed_out: u64,
 }
-
-/// What is counted, besides the promises.
-pub const TOTALS: [&str; 26] = [
-    "packets sent",
-    "delivered at paired ends",
-    "of them at ends of the handshake",
-    "acknowledged",
-    "timed out",
-    "of them on a closed end",
-    "ends made by init",
-    "by try",
-    "opened by acknowledge",
-    "by confirm",
-    "inits that were tried twice",
-    "crossing handshakes that both opened",
-    "ends closed by init",
-    "by confirm",
-    "packets timed out on close",
-    "delivered packets stranded on a closed end",
-    "packets that lapsed",
-    "of them timed out",
-    "of them timed out on close",
-    "timed out on close and not lapsed, where timeouts are allowed",
-    "acknowledged there",
-    "timed out there by the same counter",
-    "and on an end that was not OPEN",
-    "ends that did both by one counter",
-    "packets sent with a timeout time",
-    "sends refused for the client's time",
-];
 
 #[derive(Default)]
 pub struct Tally {
@@ -77,6 +51,7 @@ pub struct Tally {
     /// Sends with a timeout time: those accepted, and those refused with 11 that the client's time had reached.
     timed: u64,
     refused_for_time: u64,
+    pruned: Pruned,
     /// Each fault is told once.
     told: BTreeSet<String>,
     pub broken: Vec<String>,
@@ -89,63 +64,9 @@ impl Tally {
         Tally { truth, ends: Ends::new(stores, paired), ..Tally::default() }
     }
 
-    pub fn totals(&self) -> [u64; TOTALS.len()] {
-        let (finished, timed_out) = (self.finished.len() as u64, self.timed_out.len() as u64);
-        let [inits, tries, by_acknowledge, by_confirm] = self.ends.steps();
-        let (twice, crossing) = (self.ends.answered_twice(), self.ends.crossing());
-        let [by_close_init, by_close_confirm] = self.ends.closes();
-        let of_kind = |kind: u16| self.timed_out.iter().filter(move |(_, by)| **by == kind).map(|(name, _)| name);
-        let lapsed = |kind: u16| of_kind(kind).filter(|name| self.lapsed.contains(name)).count() as u64;
-        let [acknowledged_there, timed_out_there, not_open, by_one_counter] = self.sequences.totals();
-        [
-            self.sent.len() as u64,
-            self.delivered.len() as u64,
-            self.at_handshake,
-            finished - timed_out,
-            timed_out,
-            self.on_closed,
-            inits,
-            tries,
-            by_acknowledge,
-            by_confirm,
-            twice,
-            crossing,
-            by_close_init,
-            by_close_confirm,
-            of_kind(TIME_OUT_ON_CLOSE).count() as u64,
-            self.stranded(),
-            self.lapsed.len() as u64,
-            lapsed(TIME_OUT),
-            lapsed(TIME_OUT_ON_CLOSE),
-            self.not_taken,
-            acknowledged_there,
-            timed_out_there,
-            not_open,
-            by_one_counter,
-            self.timed,
-            self.refused_for_time,
-        ]
-    }
-
-    /// Packets that stay committed for good, unless a verdict lies: they were delivered, so they are not timed out, and
-    /// their end is CLOSED, so they are not acknowledged.
-    fn stranded(&self) -> u64 {
-        let committed = self.sent.keys().filter(|name| !self.finished.contains(name));
-        let delivered = committed.filter(|name| self.delivered.contains(name));
-        delivered.filter(|(ledger, channel, _)| self.ends.is_closed(&(*ledger, *channel))).count() as u64
-    }
-
-    /// Takes a call that was refused with this number.
-    pub fn take_refused(&mut self, bytes: &[u8], number: u8) {
-        let by_time = read(bytes).is_some_and(|it| match it.body {
-            Body::Send { timeout_timestamp, .. } => reached(it.context.client_time, timeout_timestamp),
-            _ => false,
-        });
-        self.refused_for_time += u64::from(by_time && number == TIMEOUT_PASSED);
-    }
-
     /// Takes what an accepted call of this kind on this ledger emitted, if anything, and the store that it left.
     pub fn take(&mut self, ledger: usize, datagram: u16, context: &Context, emitted: &[u8], store: &[u8]) {
+        self.check_marks(ledger, store);
         let (kind, bytes) = match emitted.get(frame::BODY..) {
             Some(bytes) => (get_u16(emitted, frame::KIND), bytes),
             None => (0, emitted),

@@ -91,6 +91,7 @@ fn fresh(port: u16, channel: u32, counterparty: (u16, u32), order: u8, version: 
         next_sequence_recv: 1,
         next_sequence_ack: 1,
         version,
+        mark: FIRST_MARK,
     }
 }
 

@@ -8,7 +8,7 @@ use crate::datagram::*;
 use crate::generate::shape::channels;
 use crate::generate::step::Step;
 use crate::places::{
-    channel, confirm, context, end_verdict, frame, header, open_acknowledge, open_try, time_out_on_close,
+    channel, confirm, context, end_verdict, frame, header, open_acknowledge, open_try, time_out_on_close, RECORD,
 };
 use crate::refusal::*;
 use crate::store::*;
@@ -69,7 +69,10 @@ pub fn compares_nothing(store: &mut [u8], output: &mut [u8], datagram: &[u8], ki
     let at = verdict_place(kind);
     put_u16(&mut matched, at + end_verdict::CLAIM, step.verdict.claim);
     let record = at + end_verdict::RECORD;
-    matched[record..record + channel::VERSION].copy_from_slice(&step.verdict.record[..channel::VERSION]);
+    let compared = [0..channel::VERSION, channel::MARK..RECORD];
+    for part in compared {
+        matched[record..][part.clone()].copy_from_slice(&step.verdict.record[part]);
+    }
     crate::handle(store, output, &matched)
 }
 

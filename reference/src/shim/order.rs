@@ -6,9 +6,11 @@ use super::tools::remove_all;
 use crate::bytes::*;
 use crate::fit::direct::{entries_fit, fit_in_any_order};
 use crate::fit::fit;
-use crate::places::{header, PACKET_RECORDS};
+use crate::generate::shape::channels;
+use crate::places::{channel, header, PACKET_RECORDS};
 use crate::store::*;
 use crate::subject::{ConvertStore, Handle};
+use crate::upgrade::before;
 
 pub const WRONG: [(&str, Handle); 5] = [
     ("puts a record in by its sequence only", BY_SEQUENCE),
@@ -18,7 +20,7 @@ pub const WRONG: [(&str, Handle); 5] = [
     ("takes a free record in between", free_in_between),
 ];
 
-pub const WRONG_CONVERTERS: [(&str, ConvertStore); 8] = [
+pub const WRONG_CONVERTERS: [(&str, ConvertStore); 10] = [
     ("answers 0 and does nothing", does_nothing),
     ("loses a record", loses_one),
     ("touches the header", touches_header),
@@ -27,6 +29,8 @@ pub const WRONG_CONVERTERS: [(&str, ConvertStore); 8] = [
     ("converts two of one key that stand apart", compares_neighbours),
     ("leaves free records in between", leaves_free),
     ("changes what it refuses", changes_refused),
+    ("converts stores of before", converts_before),
+    ("converts whatever the marks are", converts_any_marks),
 ];
 
 pub const BY_SEQUENCE: Handle = by_sequence;
@@ -155,4 +159,31 @@ converter!(changes_refused, |store| {
         sort_records(store);
     }
     number
+});
+
+converter!(converts_before, |store| {
+    let mut sorted = store.to_vec();
+    if records_in(store.len()).is_some() {
+        sort_records(&mut sorted);
+    }
+    if !before::fit(&sorted) {
+        return crate::convert_store(store);
+    }
+    store.copy_from_slice(&sorted);
+    0
+});
+
+converter!(converts_any_marks, |store| {
+    let mut marked = store.to_vec();
+    if records_in(store.len()).is_some() {
+        let ends = channels(store).into_iter();
+        ends.for_each(|(index, _)| put_u64(&mut marked, channel_place(index) + channel::MARK, FIRST_MARK));
+    }
+    match crate::convert_store(&mut marked) {
+        0 => {
+            sort_records(store);
+            0
+        }
+        number => number,
+    }
 });

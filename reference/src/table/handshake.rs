@@ -23,7 +23,8 @@ fn is_version_wrong(body: &Body) -> bool {
     match body {
         Body::OpenInit { version, .. } => no_version(version),
         Body::OpenTry { version, verdict, .. } => {
-            let (front, behind) = verdict.record[channel::VERSION..].split_at(version.len().min(NO_VERSION.len()));
+            let shown = &verdict.record[channel::VERSION..channel::MARK];
+            let (front, behind) = shown.split_at(version.len().min(NO_VERSION.len()));
             no_version(version) || front != *version || !all_zero(behind)
         }
         _ => false,

@@ -62,7 +62,38 @@ pub fn of_end(datagram: &Datagram, end: &Channel) -> Vec<(Part, bool)> {
             let of_packet = of_packet(verdict, not_received(packet, claim));
             [of_shown(end_verdict, other(CLOSED)), of_packet, of_blocks(end_verdict, verdict)].concat()
         }
+        Body::Prune { sequence, absent, next, .. } => of_prune(end, *sequence, absent, next),
         _ => Vec::new(),
+    }
+}
+
+/// The two verdicts are about the counterparty. Of the second every number above the sequence will do.
+fn of_prune(end: &Channel, sequence: u64, absent: &Verdict, next: &Verdict) -> Vec<(Part, bool)> {
+    let about = (end.counterparty_port, end.counterparty_channel);
+    let needed = |claim, sequence| Needed { claim, about, sequence, timeouts: (0, 0), digest: NO_DIGEST };
+    let mut lines = of_packet(absent, needed(COMMITMENT_ABSENT, Some(sequence)));
+    let second = of_packet(next, needed(NEXT_SEND_EQUALS, None)).into_iter();
+    lines.extend(
+        second.map(|(part, differs)| (of_next(part), differs || part == Part::Sequence && next.sequence <= sequence)),
+    );
+    lines.extend([
+        (Part::ProofHeight, absent.proof_height != next.proof_height),
+        (Part::ProofTime, absent.proof_time != next.proof_time),
+    ]);
+    lines
+}
+
+/// The same part of the second verdict.
+fn of_next(part: Part) -> Part {
+    match part {
+        Part::Claim => Part::NextClaim,
+        Part::Port => Part::NextPort,
+        Part::Channel => Part::NextChannel,
+        Part::Sequence => Part::NextSequence,
+        Part::TimeoutHeight => Part::NextTimeoutHeight,
+        Part::TimeoutTimestamp => Part::NextTimeoutTimestamp,
+        Part::Digest => Part::NextDigest,
+        other => other,
     }
 }
 
@@ -114,7 +145,7 @@ fn of_shown(verdict: &EndVerdict, shown: Shown) -> Vec<(Part, bool)> {
         && (end.state, end.order) == (shown.state, shown.order)
         && (end.port, end.channel) == shown.own
         && (end.counterparty_port, end.counterparty_channel) == shown.named
-        && (end.next_sequence_send, end.next_sequence_recv, end.next_sequence_ack) == (0, 0, 0);
+        && (end.next_sequence_send, end.next_sequence_recv, end.next_sequence_ack, end.mark) == (0, 0, 0, 0);
     vec![(Part::EndClaim, verdict.claim != END_SHOWN), (Part::EndRecord, !same)]
 }
 

@@ -19,6 +19,9 @@ pub const CONFIRM_VERDICT: usize = BODY + 4;
 pub const END_VERDICT: usize = BEHIND_PACKET;
 pub const VERDICT: usize = END_VERDICT + 82;
 
+/// The bytes of the record in an end verdict between two places, with their numbers: the version and the mark are last.
+pub const END_RECORD: [(usize, usize, u8); 3] = [(18, 58, 145), (58, 74, 27), (74, 82, 145)];
+
 #[derive(Clone, Copy)]
 pub struct End {
     pub index: usize,
@@ -34,10 +37,10 @@ pub const ALLOWED: End = End { index: 2, own: 6, other: 11, order: 3 };
 pub const ENDS: [End; 3] = [ORDERED, UNORDERED, ALLOWED];
 
 impl End {
-    /// Its record with this next send; the version is at its end.
+    /// Its record with this next send; version and mark are at its end.
     pub fn record(self, state: u8, next_send: u64) -> Vec<u8> {
         let front = Bytes::default().n16(1).n8(state).n8(self.order).n32(self.own).n16(5).n16(6).n32(self.other);
-        front.n64(next_send).n64(1).n64(1).text(VERSION).zeros(22).0
+        front.n64(next_send).n64(1).n64(1).text(VERSION).zeros(14).n64(1).0
     }
 
     /// An end verdict of the block 51, 777 with claim 5 on its counterparty.
@@ -66,6 +69,28 @@ impl End {
 
     pub fn send(self) -> Vec<u8> {
         start(98, 1, 5).n32(self.own).n64(60).n64(0).digest(0xd1).0
+    }
+
+    /// The verdicts of a prune of this sequence: claim 7, and claim 8 with this next send.
+    pub fn absent_commitment(self, sequence: u64) -> Vec<u8> {
+        self.claims(7, sequence)
+    }
+
+    pub fn next_send(self, next: u64) -> Vec<u8> {
+        self.claims(8, next)
+    }
+
+    /// Of a packet that was sent last.
+    pub fn prune(self, sequence: u64) -> Vec<u8> {
+        self.prune_with(sequence, &self.absent_commitment(sequence), &self.next_send(sequence + 1))
+    }
+
+    pub fn prune_with(self, sequence: u64, absent: &[u8], next: &[u8]) -> Vec<u8> {
+        start(218, 13, 5).n32(self.own).n64(sequence).text(absent).text(next).0
+    }
+
+    pub fn write(self, sequence: u64) -> Vec<u8> {
+        start(90, 3, 5).n32(self.own).n64(sequence).digest(0xac).0
     }
 
     pub fn close_init(self) -> Vec<u8> {
@@ -170,7 +195,7 @@ pub fn assert_malformed(store: &[u8], datagram: &[u8]) {
         resized[..4].copy_from_slice(&(length as u32).to_le_bytes());
         assert_eq!(answer(&resized), 3, "{length}");
     }
-    for change in [(0, 0), (4, 13), (5, 1), (6, 0), (CONNECTION, 2), (33, 1), (37, 1)] {
+    for change in [(0, 0), (4, 14), (5, 1), (6, 0), (CONNECTION, 2), (33, 1), (37, 1)] {
         assert_eq!(answer(&with(datagram.to_vec(), &[change])), 3, "{change:?}");
     }
 }

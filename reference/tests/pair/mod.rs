@@ -163,10 +163,10 @@ impl Pair {
         Some(front.n64(0).n64(0).digest(0).0)
     }
 
-    /// The end verdict about an end: its record with the three counters zero.
+    /// The end verdict about an end: its record with the three counters and the mark zero.
     fn shown(&self, at: usize) -> Vec<u8> {
         let record = channel(&self.stores[at], 0);
         let block = Bytes::default().n16(5).n64(self.clock).n64(10 * self.clock);
-        block.text(&record[..16]).zeros(24).text(&record[40..]).0
+        block.text(&record[..16]).zeros(24).text(&record[40..56]).zeros(8).0
     }
 }

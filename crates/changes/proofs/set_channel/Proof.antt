@@ -5,13 +5,14 @@ use native.Mathlib.Omega.{arith}
 use lib.ListN.{length}
 use borrow.Author.Rules.{rules}
 use Rattle.wire.proofs.PartLaws.{bytes-array}
+use Rattle.slots.specs.Limits.{version_size}
 use Rattle.slots.specs.Layout.{slot_bytes}
 use Rattle.slots.proofs.LayoutLaws.{length-channel}
 use Rattle.slots.proofs.EffectLaws.{exact-channel, exact-room}
 use Rattle.changes.proofs.set_channel.Statement.{statement}
 use Rattle.changes.proofs.set_channel.Tie as tie
 
-full : (o : tie.Start) → length o.args.c.version ≡ 24
+full : (o : tie.Start) → length o.args.c.version ≡ version_size
 full o = search rules
 
 returns : tie.Need-returns
@@ -20,12 +21,12 @@ returns c =
     let first = c.before.before.before.before in
     let o = first.before in
     let a = o.args in
-    let bytes = bytes-array a.s.now first.slice_known-1.given in
-    c.before.before.put_channel.ensures ∙
+    let bytes = bytes-array a.s.now first.slice-known.given in
+    c.before.before.put-channel.ensures ∙
     exact-channel a.s.now o.requires.0 bytes a.j (some a.c) (length-channel a.c (full o), tt) o.requires.1
 
-pub set_channel_spec : {M : Type 1} → statement M
-set_channel_spec =
+pub set-channel-spec : {M : Type 1} → statement M
+set-channel-spec =
     tie.close
     (tie.spec
     (λ c. search rules) (λ c. search rules) (λ c κs. omega (arith, exact-room _ c.before.before.requires.0))

@@ -1,4 +1,4 @@
--- Both tests. Assumes nothing.
+-- The three tests. Assumes nothing.
 use Rattle.wire.specs.Choice.{◌and◌}
 use borrow.Author.Rules.{rules}
 use Rattle.entries.proofs.acknowledgement_fits.Statement.{statement}
@@ -6,8 +6,9 @@ use Rattle.entries.proofs.acknowledgement_fits.Tie as tie
 
 returns : tie.Need-returns
 unfolding ◌and◌
-returns c = rw (← c.is_no_timeout.ensures, ← c.is_received.ensures)
+returns c =
+    rw (← c.before.before.is-no-timeout.ensures, ← c.before.is-received.ensures, ← c.is-pruned.ensures)
 
-pub acknowledgement_fits_spec : {M : Type 1} → statement M
-acknowledgement_fits_spec =
-    tie.close (tie.spec (λ c κs. search rules) (λ c κs. search rules) returns)
+pub acknowledgement-fits-spec : {M : Type 1} → statement M
+acknowledgement-fits-spec =
+    tie.close (tie.spec (λ c κs. search rules) (λ c κs. search rules) (λ c κs. search rules) returns)

@@ -1,4 +1,5 @@
 -- The case of an acknowledgement. Assumes nothing.
+use mathlib.Core.Path.{refl}
 use borrow.Author.Rules.{rules}
 use Rattle.rules.specs.Refusals.{acknowledgement_difference}
 use Rattle.verdicts.proofs.acknowledgement_difference.Statement.{statement}
@@ -6,10 +7,10 @@ use Rattle.verdicts.proofs.acknowledgement_difference.Tie as tie
 
 returns : tie.Need-returns
 unfolding acknowledgement_difference
-returns c = rw (c.first_difference.ensures, c.no_timeout.ensures)
+returns c = rw (c.first-difference.ensures _ refl, c.before.no-timeout.ensures)
 
-pub acknowledgement_difference_spec : {M : Type 1} → statement M
-acknowledgement_difference_spec =
+pub acknowledgement-difference-spec : {M : Type 1} → statement M
+acknowledgement-difference-spec =
     tie.close
     (tie.spec
     (λ c κs. search rules) (λ c κs. search rules) returns)

@@ -1,4 +1,5 @@
 -- The case of a commitment. Assumes nothing.
+use mathlib.Core.Path.{refl}
 use borrow.Author.Rules.{rules}
 use Rattle.rules.specs.Refusals.{commitment_difference}
 use Rattle.verdicts.proofs.commitment_difference.Statement.{statement}
@@ -6,8 +7,8 @@ use Rattle.verdicts.proofs.commitment_difference.Tie as tie
 
 returns : tie.Need-returns
 unfolding commitment_difference
-returns c = c.first_difference.ensures
+returns c = c.first-difference.ensures _ refl
 
-pub commitment_difference_spec : {M : Type 1} → statement M
-commitment_difference_spec =
+pub commitment-difference-spec : {M : Type 1} → statement M
+commitment-difference-spec =
     tie.close (tie.spec (λ c κs. search rules) returns)

@@ -13,68 +13,70 @@ use Rattle.verdicts.proofs.TestedLaws.{holds, fails}
 use Rattle.verdicts.proofs.first_difference.Statement.{statement}
 use Rattle.verdicts.proofs.first_difference.Tie as tie
 
--- the answer, and what is left of it behind the third part and behind the fifth
-abbrev whole : tie.Start → ℕ
-whole o = let a = o.args in first_difference a.v a.claim a.about a.sequence a.timeout a.digest
+-- the answer, and what is left of it behind the third part and behind the fifth, for a sequence
+abbrev whole : tie.Start → (sequence : ℕ) → ℕ
+whole o n = let a = o.args in first_difference a.v a.claim a.about n a.timeout a.digest
 
 abbrev last : tie.Start → ℕ
 last o = pick (not (same o.args.v.digest o.args.digest)) 145 0
 
-abbrev last-three : tie.Start → ℕ
-last-three o =
+abbrev last-three : tie.Start → (sequence : ℕ) → ℕ
+last-three o n =
     let a = o.args in
-    pick (not (eqb a.v.sequence a.sequence)) 143
-    (pick (not (same_timeout a.v.timeout a.timeout)) 144 (last o))
+    pick (not (eqb a.v.sequence n)) 143 (pick (not (same_timeout a.v.timeout a.timeout)) 144 (last o))
 
-past-3 : (e : tie.Else-v-about-2) →
-    let o = e.before.before.before.before.before.before.before.before in whole o ≡ last-three o
+past-3 : (e : tie.Else3) (n : ℕ) →
+    let o = e.before.before.before.before.before.before.before.before in whole o n ≡ last-three o n
 unfolding first_difference
-past-3 e =
-    let e2 = e in
-    let e1 = e in
-    rw (eq-eqb _ _ e1.if-v-claim.false, eq-eqb _ _ e2.if-v-about.false, eq-eqb _ _ e.if-v-about-2.false)
+past-3 e n =
+    let e2 = e.before.before.before in
+    let e1 = e2.before.before.before in
+    rw (eq-eqb _ _ e1.if1.false, eq-eqb _ _ e2.if2.false, eq-eqb _ _ e.if3.false)
 
-abbrev fourth : tie.Else-not-same_timeout → tie.Else-v-sequence
+abbrev fourth : tie.Else5 → tie.Else4
 fourth e = e.before.before.before
 
-past-5 : (e : tie.Else-not-same_timeout) →
-    let o = (fourth e).before.before.before.before.before.before.before.before.before.before in whole o ≡ last o
-past-5 e =
-    past-3 (fourth e).before.before ∙
-    rw (eq-eqb _ _ (fourth e).if-v-sequence.false, holds e.same_timeout.ensures e.if-not-same_timeout.false)
+past-5 : (e : tie.Else5) (n : ℕ) →
+    let o = (fourth e).before.before.before.before.before.before.before.before.before in
+    eqb o.args.v.sequence n ≡ o.args.fits → whole o n ≡ last o
+past-5 e n fits =
+    past-3 (fourth e).before n ∙
+    rw (holds (sym fits) (fourth e).if4.false, holds e.before.same-timeout.ensures e.if5.false)
 
-returns : tie.Need-returns-then-v-claim
+returns : tie.Need-returns
 unfolding first_difference
-returns c = rw (ne_eqb _ _ c.if-v-claim.true)
+returns c n fits = rw (ne_eqb _ _ c.if1.true)
 
-returns-2 : tie.Need-returns-then-v-about
+returns-2 : tie.Need-returns-2
 unfolding first_difference
-returns-2 c = rw (eq-eqb _ _ c.if-v-claim.false, ne_eqb _ _ c.if-v-about.true)
+returns-2 c n fits = rw (eq-eqb _ _ c.before.before.before.if1.false, ne_eqb _ _ c.if2.true)
 
-returns-3 : tie.Need-returns-then-v-about-2
+returns-3 : tie.Need-returns-3
 unfolding first_difference
-returns-3 c =
-    let e2 = c in
-    let e1 = c in
-    rw (eq-eqb _ _ e1.if-v-claim.false, eq-eqb _ _ e2.if-v-about.false, ne_eqb _ _ c.if-v-about-2.true)
+returns-3 c n fits =
+    let e2 = c.before.before.before in
+    let e1 = e2.before.before.before in
+    rw (eq-eqb _ _ e1.if1.false, eq-eqb _ _ e2.if2.false, ne_eqb _ _ c.if3.true)
 
-returns-4 : tie.Need-returns-then-v-sequence
-returns-4 c = sym (past-3 c.before.before ∙ rw (ne_eqb _ _ c.if-v-sequence.true))
+returns-4 : tie.Need-returns-4
+returns-4 c n fits = sym (past-3 c.before n ∙ rw (fails (sym fits) c.if4.true))
 
-returns-5 : tie.Need-returns-then-not-same_timeout
-returns-5 c =
+returns-5 : tie.Need-returns-5
+returns-5 c n fits =
     let e4 = c.before.before.before in
-    sym (past-3 e4.before.before ∙
-    rw (eq-eqb _ _ e4.if-v-sequence.false, fails c.same_timeout.ensures c.if-not-same_timeout.true))
+    sym (past-3 e4.before n ∙
+    rw (holds (sym fits) e4.if4.false, fails c.before.same-timeout.ensures c.if5.true))
 
-returns-6 : tie.Need-returns-then-not-same_digest
-returns-6 c = sym (past-5 c.before.before.before ∙ rw (fails c.same_digest.ensures c.if-not-same_digest.true))
+returns-6 : tie.Need-returns-6
+returns-6 c n fits =
+    sym (past-5 c.before.before.before n fits ∙ rw (fails c.before.same-digest.ensures c.if6.true))
 
-returns-7 : tie.Need-returns
-returns-7 c = sym (past-5 c.before.before.before ∙ rw (holds c.same_digest.ensures c.if-not-same_digest.false))
+returns-7 : tie.Need-returns-7
+returns-7 c n fits =
+    sym (past-5 c.before.before.before n fits ∙ rw (holds c.before.same-digest.ensures c.if6.false))
 
-pub first_difference_spec : {M : Type 1} → statement M
-first_difference_spec =
+pub first-difference-spec : {M : Type 1} → statement M
+first-difference-spec =
     tie.close
     (tie.spec
     returns returns-2 returns-3 returns-4 (λ c κs. search rules) returns-5 (λ c κs. search rules) returns-6 returns-7)

@@ -1,26 +1,20 @@
--- By words: two, and the third. Assumes nothing.
+-- All of both arrays, as two words. Assumes nothing.
 use mathlib.Core.Path.{◌≡◌}
 use lib.ListN.{length}
 use borrow.Author.Rules.{rules}
-use Rattle.wire.specs.Choice.{◌and◌}
-use Rattle.wire.proofs.PartLaws.{same-arrays}
+use Rattle.wire.proofs.PartLaws.{part-all}
 use Rattle.versions.proofs.same_version.Statement.{statement}
 use Rattle.versions.proofs.same_version.Tie as tie
 
 returns : tie.Need-returns
-unfolding ◌and◌
 returns c =
-    let first = c.before.before.before in
-    let o = first.before.before.before in
-    let xs = o.args.a in
-    let ys = o.args.b in
-    let l : length xs ≡ 24 = search rules in
-    let m : length ys ≡ 24 = search rules in
-    rw (c.same_word.ensures, first.same_two.ensures) (same-arrays 16 8 xs ys l m)
+    let o = c.before.before.before in
+    let xs = o.args.t1 in
+    let ys = o.args.t2 in
+    let l : length xs ≡ 16 = search rules in
+    let m : length ys ≡ 16 = search rules in
+    rw (c.same-two.ensures, part-all 16 xs l, part-all 16 ys m)
 
-pub same_version_spec : {M : Type 1} → statement M
-same_version_spec =
-    tie.close
-    (tie.spec
-    (λ c. search rules) (λ c. search rules) (λ c κs. search rules) (λ c. search rules) (λ c. search rules)
-    (λ c κs. search rules) returns)
+pub same-version-spec : {M : Type 1} → statement M
+same-version-spec =
+    tie.close (tie.spec (λ c. search rules) (λ c. search rules) (λ c κs. search rules) returns)

@@ -5,9 +5,10 @@
 use super::flip;
 use crate::bytes::*;
 use crate::generate::rng::Rng;
-use crate::generate::shape::channels;
-use crate::places::{channel, header, CHANNELS, HEADER, RECORD};
+use crate::generate::shape::{channels, some_end};
+use crate::places::{channel, frame, header, CHANNELS, HEADER, RECORD};
 use crate::store::*;
+use crate::upgrade::before;
 
 pub fn some_channel(rng: &mut Rng, store: &[u8]) -> Option<(usize, Channel)> {
     rng.pick_any(&channels(store))
@@ -84,5 +85,26 @@ pub fn version_not_padded(rng: &mut Rng, store: &mut Vec<u8>) -> Option<()> {
     let behind = rng.pick(&[zero + 1, last, any]);
     (end.version[zero], end.version[behind]) = (0, 1 << rng.below(8));
     end.write(&mut store[channel_place(index)..]);
+    Some(())
+}
+
+/// A store of the kind before, which had no marks.
+pub fn store_of_before(_: &mut Rng, store: &mut Vec<u8>) -> Option<()> {
+    put_u16(store, frame::KIND, before::STORE_KIND);
+    channels(store).iter().for_each(|(index, _)| put_u64(store, channel_place(*index) + channel::MARK, 0));
+    Some(())
+}
+
+pub fn mark_zero(rng: &mut Rng, store: &mut Vec<u8>) -> Option<()> {
+    let (index, _) = some_channel(rng, store)?;
+    put_u64(store, channel_place(index) + channel::MARK, 0);
+    Some(())
+}
+
+/// An end of this order, which is not unordered, with a mark above 1.
+pub fn mark_on(rng: &mut Rng, store: &mut [u8], order: u8) -> Option<()> {
+    let (index, _) = some_end(rng, store, order)?;
+    let any = rng.number().max(2);
+    put_u64(store, channel_place(index) + channel::MARK, rng.pick(&[2, 2, 1 << 8, 1 << 32, u64::MAX, any]));
     Some(())
 }

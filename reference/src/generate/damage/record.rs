@@ -136,7 +136,8 @@ pub fn not_received_unordered(rng: &mut Rng, store: &mut Vec<u8>) -> Option<()> 
     if rng.one_in(2) {
         let (_, other) = some_channel(rng, store)?;
         let moved = Record { channel: other.channel, ..record_at(store, receipt) };
-        let may_have_it = other.is_unordered() && !received(store, &other, moved.sequence);
+        let is_new = !received(store, &other, moved.sequence) && !other.has_pruned(moved.sequence);
+        let may_have_it = other.is_unordered() && is_new;
         remove(store, receipt);
         if may_have_it {
             insert(store, &moved);

@@ -49,7 +49,7 @@ fn add(rng: &mut Rng, store: &mut [u8], at: usize, kind: u16) -> Option<()> {
     let blank = Record { kind, channel: end.channel, ..Record::FREE };
     let added = match (kind, end.order) {
         (COMMITMENT, _) => some_commitment(rng, store, at)?,
-        (RECEIPT, _) => Record { sequence: rng.number_from_1(), ..blank },
+        (RECEIPT, _) => Record { sequence: rng.number_from_1().max(end.mark), ..blank },
         (ACKNOWLEDGEMENT, UNORDERED) => {
             add(rng, store, at, RECEIPT);
             let (_, receipt) = pick_record(rng, store, RECEIPT, end.channel)?;
@@ -139,7 +139,7 @@ pub fn receipt_on_next(rng: &mut Rng, store: &mut Vec<u8>) -> Option<()> {
     let receipt = find_record(store, RECEIPT, end.channel, written.sequence)?;
     let moved = Record { channel: next.channel, ..record_at(store, receipt) };
     remove(store, receipt);
-    if find_record(store, RECEIPT, next.channel, moved.sequence).is_none() {
+    if find_record(store, RECEIPT, next.channel, moved.sequence).is_none() && !next.has_pruned(moved.sequence) {
         insert(store, &moved);
     }
     Some(())
@@ -165,6 +165,31 @@ pub fn lapsed_beside(rng: &mut Rng, store: &mut [u8], spot: Spot) -> Option<()> 
     let Record { channel, sequence, .. } = record_at(store, index);
     let written = Record { kind: ACKNOWLEDGEMENT, channel, sequence, digest: rng.digest(), ..Record::FREE };
     place(rng, store, &written).then_some(())
+}
+
+/// The mark is above the first of several receipts, or above all of them.
+pub fn below_mark(rng: &mut Rng, store: &mut [u8], all: bool) -> Option<()> {
+    let (at, end) = some_run(rng, store, RECEIPT, UNORDERED)?;
+    let sequences: Vec<u64> =
+        run_of(store, RECEIPT, end.channel).map(|index| record_at(store, index).sequence).collect();
+    let [first, second, ..] = sequences[..] else {
+        return None;
+    };
+    let last = sequences[sequences.len() - 1];
+    let mark = if all { rng.between(last.checked_add(1)?, u64::MAX) } else { rng.between(first + 1, second) };
+    Channel { mark, ..end }.write(&mut store[channel_place(at)..]);
+    Some(())
+}
+
+/// The mark is above a packet that is acknowledged, and above no receipt of another one.
+pub fn acknowledged_below_mark(rng: &mut Rng, store: &mut Vec<u8>) -> Option<()> {
+    let (at, end) = some_run(rng, store, ACKNOWLEDGEMENT, UNORDERED)?;
+    let index = run_of(store, ACKNOWLEDGEMENT, end.channel).next()?;
+    let mark = record_at(store, index).sequence.checked_add(1)?;
+    let before = place_of(store, key(RECEIPT, end.channel, 0))..find_record(store, RECEIPT, end.channel, mark - 1)?;
+    before.rev().for_each(|index| remove(store, index));
+    Channel { mark, ..end }.write(&mut store[channel_place(at)..]);
+    Some(())
 }
 
 /// The last of several has the very sequence that is next, to send or to receive.

@@ -14,6 +14,8 @@ pub fn numbers(row: Row) -> &'static [u8] {
         (RECEIVE, UNORDERED) => &[4, 5, 6, 7, 8, 9, 11, 16, 20],
         (RECEIVE, _) => &[4, 5, 6, 7, 8, 9, 15, 19, 20],
         (WRITE, _) => &[4, 5, 6, 7, 16, 17, 18, 20],
+        (PRUNE, UNORDERED) => &[4, 5, 6, 7, 28],
+        (PRUNE, _) => &[4, 5, 6, 7, 28, 29],
         (ACKNOWLEDGE, UNORDERED) => &[4, 5, 6, 7, 8, 9, 13],
         (ACKNOWLEDGE, _) => &[4, 5, 6, 7, 8, 9, 13, 15, 19],
         (OPEN_INIT, _) => &[4, 25, 27],
@@ -46,12 +48,20 @@ pub fn never_given(row: Row, line: Line) -> Option<&'static str> {
     (finishes && line.number() == COUNTER_AT_END).then_some("a commitment is below next send")
 }
 
+/// Why the refusal never applies alone in this row, if so. Behind an unfit store, malformed bytes or a missing channel
+/// no other is asked.
+pub fn never_alone(row: Row, line: Line) -> Option<&'static str> {
+    let hides = matches!(line.number(), STORE_NOT_FIT | MALFORMED | NO_CHANNEL | NOT_UNORDERED);
+    let always = (!row.is_accepted() && !hides).then_some("29 applies to every prune there");
+    never_given(row, line).or(always)
+}
+
 /// Why the two never apply with the first one given, if so; they are in order.
 pub fn never_together(row: Row, first: Line, second: Line) -> Option<&'static str> {
     let claim_and_sequence = (first.part(), second.part()) == (Some(Part::Claim), Some(Part::Sequence));
     match (first.number(), second.number()) {
         (NO_TIMEOUT, TIMEOUT_PASSED) => Some("a send without timeouts has none to pass"),
-        (ALREADY_THERE, NOT_RECEIVED) => Some("only a received packet is acknowledged"),
+        (ALREADY_THERE, NOT_RECEIVED) if row.order != UNORDERED => Some("only a received packet is acknowledged"),
         _ if claim_and_sequence && (row.kind, row.order) == (TIME_OUT_ON_CLOSE, ALLOW_TIMEOUT) => {
             Some("another claim is compared with claim 4, which any sequence will do for")
         }

@@ -1,4 +1,4 @@
--- All 24 bytes of the array are the array. Assumes nothing.
+-- All 16 bytes of the array are the array. Assumes nothing.
 use mathlib.Core.Path.{◌≡◌}
 use lib.ListN.{length}
 use borrow.Author.Rules.{rules}
@@ -9,10 +9,10 @@ use Rattle.slots.proofs.version.put_version.Tie as tie
 returns : tie.Need-returns
 returns c =
     let call = c.before.before in
-    let v = call.before.before.before.before.args.v in
-    let full : length v ≡ 24 = search rules in
-    rw (call.put_part.ensures, part-all 24 v full)
+    let v = call.before.before.before.before.args.t3 in
+    let full : length v ≡ 16 = search rules in
+    rw (call.put-part.ensures, part-all 16 v full)
 
-pub put_version_spec : {M : Type 1} → statement M
-put_version_spec =
+pub put-version-spec : {M : Type 1} → statement M
+put-version-spec =
     tie.close (tie.spec (λ c. search rules) (λ c κs. search rules) (λ c. search rules) returns)

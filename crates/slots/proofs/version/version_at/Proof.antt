@@ -1,4 +1,4 @@
--- All 24 bytes are stored over zeros. Assumes nothing.
+-- All 16 bytes are stored over zeros. Assumes nothing.
 use native.Mathlib.Omega.{arith}
 use borrow.Author.Rules.{rules}
 use Rattle.wire.proofs.PatchLaws.{patch-array}
@@ -9,8 +9,8 @@ returns : tie.Need-returns
 returns c =
     let call = c.before in
     let a = call.before.before.before.args in
-    rw call.put_part.ensures (patch-array 24 a.at a.s.now (omega arith))
+    rw call.put-part.ensures (patch-array 16 a.at a.s.now (omega arith))
 
-pub version_at_spec : {M : Type 1} → statement M
-version_at_spec =
+pub version-at-spec : {M : Type 1} → statement M
+version-at-spec =
     tie.close (tie.spec (λ c. search rules) (λ c κs. search rules) returns)

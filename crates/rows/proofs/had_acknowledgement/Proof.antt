@@ -1,0 +1,13 @@
+-- Either test. Assumes nothing.
+use borrow.Author.Rules.{rules}
+use Rattle.wire.specs.Choice.{◌or◌}
+use Rattle.rules.specs.Refusals.{had_acknowledgement}
+use Rattle.rows.proofs.had_acknowledgement.Statement.{statement}
+use Rattle.rows.proofs.had_acknowledgement.Tie as tie
+
+returns : tie.Need-returns
+unfolding had_acknowledgement ◌or◌
+returns c = rw (← c.before.has-record.ensures, ← c.is-pruned.ensures)
+
+pub had-acknowledgement-spec : {M : Type 1} → statement M
+had-acknowledgement-spec = tie.close (tie.spec (λ c κs. search rules) (λ c κs. search rules) returns)

@@ -1,0 +1,5 @@
+pub mod MarkLaws
+pub mod StoredLaws
+pub mod RewrittenLaws
+pub mod OlderLaws
+pub mod UpgradeLaws

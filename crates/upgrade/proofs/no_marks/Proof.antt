@@ -1,0 +1,41 @@
+-- The answer for all slots is the answer for those that are left: `NoneLeft`. Assumes nothing.
+use mathlib.Core.Path.{refl}
+use Prim.Native.Nat.{◌-◌}
+use native.Mathlib.Omega.{arith}
+use Rattle.slots.specs.Limits.{channel_limit}
+use Rattle.upgrade.proofs.StoredLaws.{NoneLeft, none-stop, none-next, none-all}
+use Rattle.upgrade.proofs.no_marks.Statement.{statement}
+use Rattle.upgrade.proofs.no_marks.Tie as tie
+
+abbrev invariant-loop : tie.invariant-loop
+invariant-loop s i₀ i = NoneLeft s i
+
+abbrev decreases-loop : tie.decreases-loop
+decreases-loop s i₀ i = channel_limit - i
+
+loop-holds : tie.Need-loop-init invariant-loop decreases-loop
+loop-holds c = refl
+
+returns : tie.Need-returns invariant-loop decreases-loop
+returns c =
+    let l = c.before.before.before in
+    let bs = l.before.before.args.s.now in
+    none-stop bs l.loop.i l.loop.invariant (omega arith) c.before.u64-at.ensures c.if1.true
+
+loop-again : tie.Need-loop-preserved invariant-loop decreases-loop
+loop-again c =
+    let l = c.before.before.before in
+    let bs = l.before.before.args.s.now in
+    none-next bs l.loop.i l.loop.invariant (omega arith) c.before.u64-at.ensures c.if1.false
+
+returns-2 : tie.Need-returns-2 invariant-loop decreases-loop
+returns-2 c =
+    let l = c.before in
+    none-all l.before.before.args.s.now l.loop.i l.loop.invariant (omega arith)
+
+pub no-marks-spec : {M : Type 1} → statement M
+no-marks-spec =
+    tie.close
+    (tie.spec
+    invariant-loop decreases-loop loop-holds (λ c. omega arith) (λ c. omega arith) (λ c. omega arith) (λ c κs. omega arith) returns
+    (λ c. omega arith) (λ c. omega arith) loop-again returns-2)
