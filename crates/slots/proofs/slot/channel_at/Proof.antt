@@ -6,17 +6,17 @@ use Rattle.slots.proofs.slot.channel_at.Tie as tie
 
 returns : tie.Need-returns
 returns c =
-    let counters = c.before.before in
-    let other = counters.before.before.before in
-    let own = other.before.before in
-    let a = own.before.before.before.before.args in
-    channel-read a.at a.s.now own.u16-at.ensures other.before.u32-at.ensures
-    other.port-channel-at.ensures
-    counters.before.before.u64-at.ensures counters.before.u64-at2.ensures counters.u64-at3.ensures
-    c.before.version-at.ensures c.u64-at4.ensures
+    let counters = c in
+    let other = c in
+    let own = c in
+    let a = own.args in
+    channel-read a.at a.s.now own.u16_at.ensures other.u32_at.ensures
+    other.port_channel_at.ensures
+    counters.u64_at.ensures counters.u64_at-2.ensures counters.u64_at-3.ensures
+    c.version_at.ensures c.u64_at-4.ensures
 
-pub channel-at-spec : {M : Type 1} → statement M
-channel-at-spec =
+pub channel_at_spec : {M : Type 1} → statement M
+channel_at_spec =
     tie.close
     (tie.spec
     (λ c. search rules) (λ c. search rules) (λ c. search rules) (λ c. search rules) (λ c. search rules)

@@ -20,17 +20,17 @@ returns c =
     let start = head.before.before.before in
     let a = start.args in
     rw (
-      mark.put-u64.ensures,
-      version.put-version.ensures,
+      mark.put_u64.ensures,
+      version.put_version.ensures,
       counters.put_three.ensures,
-      counterparty.put-port-channel.ensures,
-      port.put-u16.ensures,
-      head.put-head.ensures,
+      counterparty.put_port_channel.ensures,
+      port.put_u16.ensures,
+      head.put_head.ensures,
       channel-stored a.at a.s.now a.c (full start),
     )
 
-pub put-channel-spec : {M : Type 1} → statement M
-put-channel-spec =
+pub put_channel_spec : {M : Type 1} → statement M
+put_channel_spec =
     tie.close
     (tie.spec
     (λ c κs. search rules) (λ c. search rules) (λ c κs. search rules) (λ c. search rules) (λ c κs. search rules)

@@ -8,11 +8,11 @@ use Rattle.slots.proofs.version.put_version.Tie as tie
 
 returns : tie.Need-returns
 returns c =
-    let call = c.before.before in
-    let v = call.before.before.before.before.args.t3 in
+    let call = c in
+    let v = call.args.v in
     let full : length v ≡ 16 = search rules in
-    rw (call.put-part.ensures, part-all 16 v full)
+    rw (call.put_part.ensures, part-all 16 v full)
 
-pub put-version-spec : {M : Type 1} → statement M
-put-version-spec =
+pub put_version_spec : {M : Type 1} → statement M
+put_version_spec =
     tie.close (tie.spec (λ c. search rules) (λ c κs. search rules) (λ c. search rules) returns)

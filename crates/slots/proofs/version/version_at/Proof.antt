@@ -7,10 +7,10 @@ use Rattle.slots.proofs.version.version_at.Tie as tie
 
 returns : tie.Need-returns
 returns c =
-    let call = c.before in
-    let a = call.before.before.before.args in
-    rw call.put-part.ensures (patch-array 16 a.at a.s.now (omega arith))
+    let call = c in
+    let a = call.args in
+    rw call.put_part.ensures (patch-array 16 a.at a.s.now (omega arith))
 
-pub version-at-spec : {M : Type 1} → statement M
-version-at-spec =
+pub version_at_spec : {M : Type 1} → statement M
+version_at_spec =
     tie.close (tie.spec (λ c. search rules) (λ c κs. search rules) returns)
