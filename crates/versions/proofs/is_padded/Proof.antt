@@ -10,28 +10,28 @@ use Rattle.versions.proofs.LeadingLaws.{before-upto, zeros-padded, padded-before
 use Rattle.versions.proofs.is_padded.Statement.{statement}
 use Rattle.versions.proofs.is_padded.Tie as tie
 
-upto : (b : tie.After-before-zero) → b.before-zero.result ≤ 16
+upto : (b : tie.After-before_zero-size) → b.before_zero-size.result ≤ 16
 upto b =
-    let a = b.before.before.before.before.args in
+    let a = b.args in
     let s = a.s.now in
     omega (arith, before-upto (part a.at 16 s), length_part a.at 16 s (omega arith))
 
-returns : tie.Need-returns
+returns : tie.Need-returns-then-are_zero
 returns c =
-    let a = c.before.before.before.args in
-    sym (zeros-padded (part a.at 16 a.s.now) (sym c.before.are-zero.ensures ∙ c.if1.true))
+    let a = c.args in
+    sym (zeros-padded (part a.at 16 a.s.now) (sym c.are_zero.ensures ∙ c.if-are_zero.true))
 
-returns-2 : tie.Need-returns-2
+returns-2 : tie.Need-returns
 returns-2 c =
-    let b = c.before in
-    let a = b.before.before.before.before.args in
+    let b = c in
+    let a = b.args in
     let s = a.s.now in
     let p = part a.at 16 s in
-    rw (padded-before p, ← b.before-zero.ensures, drop-part b.before-zero.result a.at 16 s)
-    c.are-zero2.ensures
+    rw (padded-before p, ← b.before_zero-size.ensures, drop-part b.before_zero-size.result a.at 16 s)
+    c.are_zero-2.ensures
 
-pub is-padded-spec : {M : Type 1} → statement M
-is-padded-spec =
+pub is_padded_spec : {M : Type 1} → statement M
+is_padded_spec =
     tie.close
     (tie.spec
     (λ c κs. search rules) returns (λ c κs. search rules) (λ c. omega (arith, upto c)) (λ c. omega (arith, upto c))

@@ -8,13 +8,13 @@ use Rattle.versions.proofs.same_version.Tie as tie
 
 returns : tie.Need-returns
 returns c =
-    let o = c.before.before.before in
-    let xs = o.args.t1 in
-    let ys = o.args.t2 in
+    let o = c in
+    let xs = o.args.a in
+    let ys = o.args.b in
     let l : length xs ≡ 16 = search rules in
     let m : length ys ≡ 16 = search rules in
-    rw (c.same-two.ensures, part-all 16 xs l, part-all 16 ys m)
+    rw (c.same_two.ensures, part-all 16 xs l, part-all 16 ys m)
 
-pub same-version-spec : {M : Type 1} → statement M
-same-version-spec =
+pub same_version_spec : {M : Type 1} → statement M
+same_version_spec =
     tie.close (tie.spec (λ c. search rules) (λ c. search rules) (λ c κs. search rules) returns)

@@ -15,7 +15,7 @@ short : (o : tie.Start) → length (drop o.args.at o.args.d.now) ≤ 16
 unfolding version_fits
 short o = leb-true _ 16 (and_both o.requires.1).0
 
-put-part-requires : tie.Need-put-part-requires
+put-part-requires : tie.Need-put_part-requires
 put-part-requires c κs =
     let o = c.before.before in
     let s = short o in
@@ -29,8 +29,8 @@ returns c =
     let o = call.before.before.before in
     let d = o.args.d.now in
     let at = o.args.at in
-    rw (call.put-part.ensures, part-drop at d) (patch-zeros 16 (drop at d) (short o))
+    rw (call.put_part.ensures, part-drop at d) (patch-zeros 16 (drop at d) (short o))
 
-pub version-from-spec : {M : Type 1} → statement M
-version-from-spec =
+pub version_from_spec : {M : Type 1} → statement M
+version_from_spec =
     tie.close (tie.spec (λ c. search rules) (λ c. search rules) put-part-requires returns)
