@@ -21,65 +21,62 @@ Lies i d n = (i + 4 ≤ size_of (kind_of n)) × (field i 4 d ≡ channel_from (k
 abbrev arms : List (List ℕ)
 arms = (1 ∷ 3 ∷ 13 ∷ []) ∷ (2 ∷ []) ∷ (12 ∷ []) ∷ []
 
-own : (c : tie.At-match-branch-2) → let a = c.before.before.args in Lies body_from a.d.now a.kind
+own : (c : tie.In-1-2) → let a = c.args in Lies body_from a.d.now a.kind
 unfolding with_number body parts_size size_before channel_from
 own c =
-    let a = c.before.before.args in
+    let a = c.args in
     let P = Lies body_from a.d.now in
-    elim c.match.branch [
-      | inl w ↦
-          by_key P (1 ∷ 3 ∷ 13 ∷ []) (omega arith, refl) (omega arith, refl) (omega arith, refl) a.kind w.keys1
+    elim c.in-1-1.branch-raw [
+      | inl w ↦ by_key P (1 ∷ 3 ∷ 13 ∷ []) (omega arith, refl) (omega arith, refl) (omega arith, refl) a.kind w.in-1-1.keys1
       | inr w ↦
           by-range P arms 8 4 (omega arith, refl) (omega arith, refl) (omega arith, refl) (omega arith, refl) a.kind
-          w.0.rest (w.3.left, w.4.taken)
+          w.in_default-1.rest (w.if-kind-lt8-1.false, w.if-kind-lt12-1.true)
     ]
 
-source : (c : tie.At-match-branch) → let a = c.before.before.args in Lies (body_from + 26) a.d.now a.kind
+source : (c : tie.In-4-1) → let a = c.args in Lies (body_from + 26) a.d.now a.kind
 unfolding with_number body parts_size size_before channel_from packet_from packet_in
 source c =
-    let a = c.before.before.args in
+    let a = c.args in
     let P = Lies (body_from + 26) a.d.now in
-    elim c.match.branch [
-      | inl w ↦ by_key P (12 ∷ []) (omega arith, refl) a.kind w.keys3
+    elim c.in-4-1.branch-raw [
+      | inl w ↦ by_key P (12 ∷ []) (omega arith, refl) a.kind w.in-12-1.keys3
       | inr w ↦
-          by-range P arms 1 5 (omega arith, refl) (omega arith, refl) a.kind w.0.rest (w.1.left, w.2.taken)
+          by-range P arms 1 5 (omega arith, refl) (omega arith, refl) a.kind w.in_default-1.rest (w.if-kind-lt1-1.false, w.if-kind-lt6-1.true)
     ]
 
-u32-at-requires : tie.Need-u32-at-requires
+u32-at-requires : tie.Need-u32_at-requires
 unfolding with_number body parts_size
-u32-at-requires c κs = omega (arith, rw c.match.keys2 at c.before.before.requires)
+u32-at-requires c κs = omega (arith, rw c.in-2.is at c.requires)
 
-returns : tie.Need-returns
+returns : tie.Need-returns-in-2
 unfolding with_number body size_before channel_from packet_from packet_in
-returns c = rw c.before.match.keys2 c.u32-at.ensures
+returns c = rw c.in-2.is c.u32_at.ensures
 
 -- those of no arm
-returns-2 : tie.Need-returns-2
+returns-2 : tie.Need-returns-in_default
 unfolding with_number channel_from
 returns-2 c =
-    let zero : c.before.before.before.args.kind ≡ 0 = omega arith in
+    let zero : c.args.kind ≡ 0 = omega arith in
     rw zero
 
-returns-3 : tie.Need-returns-3
+returns-3 : tie.Need-returns-in_default-2
 unfolding with_number channel_from
 returns-3 c =
-    let m = c.before.before.before in
-    let a = m.before.before.args in
-    by-range (λ (n : ℕ). 0 ≡ channel_from (kind_of n) a.d.now) arms 6 2 refl refl a.kind m.match.rest
-    (c.before.if2.false, c.if3.true)
+    let a = c.args in
+    by-range (λ (n : ℕ). 0 ≡ channel_from (kind_of n) a.d.now) arms 6 2 refl refl a.kind c.in_default.in_default-own.rest
+    (c.in_default.if-kind-lt6-own.false, c.in_default.if-kind-lt8-own.true)
 
-returns-4 : tie.Need-returns-4
+returns-4 : tie.Need-returns-in_default-3
 unfolding channel_from
 returns-4 c =
-    let m = c.before.before.before.before in
-    let a = m.before.before.args in
-    by_kind (λ (n : ℕ). 0 ≡ channel_from (kind_of n) a.d.now) arms 12 a.kind m.match.rest
-    (c.if4.false, λ e. rw e)
+    let a = c.args in
+    by_kind (λ (n : ℕ). 0 ≡ channel_from (kind_of n) a.d.now) arms 12 a.kind c.in_default.in_default-own.rest
+    (c.in_default.if-kind-lt12-own.false, λ e. rw e)
 
-pub channel-in-spec : {M : Type 1} → statement M
-channel-in-spec =
+pub channel_in_spec : {M : Type 1} → statement M
+channel_in_spec =
     tie.close
     (tie.spec
     (λ c. search rules) u32-at-requires (λ c. search rules) (λ c κs. omega (arith, (source c).0))
     (λ c κs. omega (arith, (own c).0)) returns returns-2 returns-3
-    returns-4 (λ c. c.u32-at2.ensures ∙ (source c.before).1) (λ c. c.u32-at3.ensures ∙ (own c.before).1))
+    returns-4 (λ c. c.u32_at-in-4.ensures ∙ (source c.before).1) (λ c. c.u32_at-in-1.ensures ∙ (own c.before).1))
