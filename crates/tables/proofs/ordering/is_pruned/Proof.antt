@@ -8,5 +8,5 @@ returns : tie.Need-returns
 unfolding is_pruned
 returns c = refl
 
-pub is-pruned-spec : {M : Type 1} → statement M
-is-pruned-spec = tie.close (tie.spec returns)
+pub is_pruned_spec : {M : Type 1} → statement M
+is_pruned_spec = tie.close (tie.spec returns)
