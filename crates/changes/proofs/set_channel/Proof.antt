@@ -21,13 +21,13 @@ returns c =
     let first = c.before.before.before.before in
     let o = first.before in
     let a = o.args in
-    let bytes = bytes-array a.s.now first.slice-known.given in
-    c.before.before.put-channel.ensures ∙
+    let bytes = bytes-array a.s.now first.slice_known-1.given in
+    c.put_channel.ensures ∙
     exact-channel a.s.now o.requires.0 bytes a.j (some a.c) (length-channel a.c (full o), tt) o.requires.1
 
-pub set-channel-spec : {M : Type 1} → statement M
-set-channel-spec =
+pub set_channel_spec : {M : Type 1} → statement M
+set_channel_spec =
     tie.close
     (tie.spec
-    (λ c. search rules) (λ c. search rules) (λ c κs. omega (arith, exact-room _ c.before.before.requires.0))
+    (λ c. search rules) (λ c. search rules) (λ c κs. omega (arith, exact-room _ c.requires.0))
     (λ c. search rules) returns)
