@@ -12,25 +12,25 @@ use Rattle.sound.proofs.is_prune_sound.Statement.{statement}
 use Rattle.sound.proofs.is_prune_sound.Tie as tie
 
 -- all of it is there
-long : (c : tie.After-shared-slice-known) → 218 ≤ length c.before.args.d.now
+long : (c : tie.After-shared_slice_known-1) → 218 ≤ length c.args.d.now
 unfolding body parts_size
-long c = c.before.requires
+long c = c.requires
 
 returns : tie.Need-returns
 unfolding verdict_in sequence_from verdict_from second_from is_body_sound are_parts_sound is_part_sound body size_before ◌and◌
 returns c =
-    let first = c.before.before in
+    let first = c in
     rw (
-      first.before.before.sequence-in.ensures,
-      first.is-claim.ensures,
-      first.before.u16-at.ensures,
-      c.is-claim2.ensures,
-      c.before.u16-at2.ensures,
+      first.sequence_in.ensures,
+      first.is_claim.ensures,
+      first.u16_at.ensures,
+      c.is_claim-2.ensures,
+      c.u16_at-2.ensures,
       and-true,
     )
 
-pub is-prune-sound-spec : {M : Type 1} → statement M
-is-prune-sound-spec =
+pub is_prune_sound_spec : {M : Type 1} → statement M
+is_prune_sound_spec =
     tie.close
     (tie.spec
     (λ c κs. omega (arith, long c)) (λ c κs. omega (arith, long c.before)) (λ c κs. search rules)
