@@ -7,8 +7,8 @@ use Rattle.entries.proofs.acknowledgement_fits.Tie as tie
 returns : tie.Need-returns
 unfolding ◌and◌
 returns c =
-    rw (← c.before.before.is-no-timeout.ensures, ← c.before.is-received.ensures, ← c.is-pruned.ensures)
+    rw (← c.is_no_timeout.ensures, ← c.is_received.ensures, ← c.is_pruned.ensures)
 
-pub acknowledgement-fits-spec : {M : Type 1} → statement M
-acknowledgement-fits-spec =
+pub acknowledgement_fits_spec : {M : Type 1} → statement M
+acknowledgement_fits_spec =
     tie.close (tie.spec (λ c κs. search rules) (λ c κs. search rules) (λ c κs. search rules) returns)

@@ -10,25 +10,25 @@ use borrow.Author.Rules.{rules}
 use Rattle.entries.proofs.fits_end.Statement.{statement}
 use Rattle.entries.proofs.fits_end.Tie as tie
 
-returns : tie.Need-returns
+returns : tie.Need-returns-in-1
 unfolding fits_end
-returns c = rw c.before.before.match.keys1
+returns c = rw c.in-1.is
 
-returns-2 : tie.Need-returns-2
+returns-2 : tie.Need-returns-in-2
 unfolding fits_end ◌and◌
 returns-2 c =
-    let zero = c.before in
-    let may = zero.before in
+    let zero = c in
+    let may = c in
     rw (
-      ← may.may-have-receipt.ensures,
-      ← zero.has-zero-timeouts-and-digest.ensures,
-      ← c.is-pruned.ensures,
-      may.before.match.keys2,
+      ← may.may_have_receipt.ensures,
+      ← zero.has_zero_timeouts_and_digest.ensures,
+      ← c.is_pruned.ensures,
+      may.in-2.is,
     )
 
-returns-3 : tie.Need-returns-3
+returns-3 : tie.Need-returns-in-3
 unfolding fits_end ◌and◌
-returns-3 c = rw c.before.match.keys3 c.acknowledgement-fits.ensures
+returns-3 c = rw c.in-3.is c.acknowledgement_fits.ensures
 
 -- of the other kinds that of a timeout receipt alone
 last : (k m z : Bool) → ((k && m) && z) ≡ pick k (m and z) false
@@ -36,23 +36,23 @@ unfolding ◌and◌
 last true m z = refl
 last false m z = refl
 
-returns-4 : tie.Need-returns-4
+returns-4 : tie.Need-returns-in_default
 unfolding fits_end ◌and◌
 returns-4 c =
-    let may = c.before in
-    let k = may.before.before.before.args.r.kind in
-    let none = may.before.match.rest in
+    let may = c in
+    let k = may.args.r.kind in
+    let none = may.in_default.in_default-own.rest in
     rw (
       ne_eqb k commitment_kind none.0.0.1,
       ne_eqb k receipt_kind none.0.1,
       ne_eqb k acknowledgement_kind none.1,
-      ← may.may-have-timeout-receipt.ensures,
-      ← c.has-zero-timeouts-and-digest2.ensures,
+      ← may.may_have_timeout_receipt.ensures,
+      ← c.has_zero_timeouts_and_digest-in_default.ensures,
     )
-    (last (eqb k timeout_receipt_kind) may.may-have-timeout-receipt.result c.has-zero-timeouts-and-digest2.result)
+    (last (eqb k timeout_receipt_kind) may.may_have_timeout_receipt.result c.has_zero_timeouts_and_digest-in_default.result)
 
-pub fits-end-spec : {M : Type 1} → statement M
-fits-end-spec =
+pub fits_end_spec : {M : Type 1} → statement M
+fits_end_spec =
     tie.close
     (tie.spec
     (λ c κs. search rules) (λ c κs. search rules) (λ c κs. search rules) (λ c κs. search rules)
