@@ -18,27 +18,27 @@ use Rattle.runs.proofs.acknowledgements_fit.Tie as tie
 abbrev bytes : tie.Start → List ℕ
 bytes o = o.args.s.now
 
-known : (o : tie.After-shared-slice-known) → Bytes (bytes o.before)
-known o = bytes-array (bytes o.before) o.shared-slice-known.given
+known : (o : tie.After-shared_slice_known-1) → Bytes (bytes o.before)
+known o = bytes-array (bytes o.before) o.shared_slice_known-1.given
 
-none-pruned-requires : tie.Need-none-pruned-requires
-none-pruned-requires c κs = let o = c.before in omega (arith, o.requires.0.0, o.requires.0.1)
+none-pruned-requires : tie.Need-none_pruned-kept-requires
+none-pruned-requires c κs = let o = c in omega (arith, o.requires.0.0, o.requires.0.1)
 
-companions-from-requires : tie.Need-companions-from-requires
+companions-from-requires : tie.Need-companions_from-q-requires
 companions-from-requires c κs =
-    let o = c.before.before.before.before in
+    let o = c in
     (omega (arith, o.requires.0.0, o.requires.0.1), o.requires.0.3.low)
 
-are-beside-requires : tie.Need-are-beside-requires
+are-beside-requires : tie.Need-are_beside-requires
 are-beside-requires c κs =
     let o = c.before.before.before.before.before in
     let a = o.args in (
       o.requires.0.0,
-      subst (λ (q : ℕ). Beside (bytes o) receipt_kind q a.i a.e) (sym c.companions-from.ensures)
+      subst (λ (q : ℕ). Beside (bytes o) receipt_kind q a.i a.e) (sym c.companions_from-q.ensures)
           (beside-run (bytes o) receipt_kind a.p a.i a.e o.requires.0.2 o.requires.0.3 o.requires.1),
     )
 
-returns : tie.Need-returns
+returns : tie.Need-returns-then-may_have_receipt
 unfolding ◌and◌
 returns c =
     let may = c.before.before.before in
@@ -47,10 +47,10 @@ returns c =
     let o = k.before in
     let a = o.args in
     let receipts = with-receipts (bytes o) (known k) a.i a.e o.requires.0.2 o.requires.0.1 a.c o.requires.1
-    (sym may.may-have-receipt.ensures ∙ c.before.before.if1.true) in
-    rw (receipts, ← c.are-beside.ensures, ← kept.none-pruned.ensures)
+    (sym may.may_have_receipt.ensures ∙ c.if-may_have_receipt.true) in
+    rw (receipts, ← c.are_beside.ensures, ← kept.none_pruned-kept.ensures)
 
-returns-2 : tie.Need-returns-2
+returns-2 : tie.Need-returns
 unfolding ◌and◌
 returns-2 c =
     let may = c.before.before.before in
@@ -59,15 +59,15 @@ returns-2 c =
     let o = k.before in
     let a = o.args in
     let counter = with-counter (bytes o) (known k) a.i a.e o.requires.0.2 o.requires.0.1 a.c o.requires.1
-    (sym may.may-have-receipt.ensures ∙ c.before.before.if1.false) in
-    rw (counter, sequence-at (bytes o) (a.e - 1), ← c.before.u64-at.ensures, ← kept.none-pruned.ensures)
+    (sym may.may_have_receipt.ensures ∙ c.if-may_have_receipt.false) in
+    rw (counter, sequence-at (bytes o) (a.e - 1), ← c.u64_at.ensures, ← kept.none_pruned-kept.ensures)
 
 -- the last record of the run
-last : (k : tie.Else1) → let a = k.before.before.before.before.args in a.i < a.e
-last k = k.before.before.before.before.requires.0.1
+last : (k : tie.Else-may_have_receipt) → let a = k.args in a.i < a.e
+last k = k.requires.0.1
 
-pub acknowledgements-fit-spec : {M : Type 1} → statement M
-acknowledgements-fit-spec =
+pub acknowledgements_fit_spec : {M : Type 1} → statement M
+acknowledgements_fit_spec =
     tie.close
     (tie.spec
     none-pruned-requires (λ c κs. search rules) companions-from-requires are-beside-requires returns

@@ -7,11 +7,11 @@ use Rattle.runs.proofs.none_pruned.Tie as tie
 
 returns : tie.Need-returns
 returns c =
-    let a = c.before.before.before.args in
-    rw (sequence-at a.s.now a.i, ← c.before.u64-at.ensures, ← c.is-pruned.ensures)
+    let a = c.args in
+    rw (sequence-at a.s.now a.i, ← c.u64_at.ensures, ← c.is_pruned.ensures)
 
-pub none-pruned-spec : {M : Type 1} → statement M
-none-pruned-spec =
+pub none_pruned_spec : {M : Type 1} → statement M
+none_pruned_spec =
     tie.close
     (tie.spec
     (λ c. omega arith) (λ c. omega arith) (λ c. omega arith) (λ c κs. omega arith) (λ c κs. search rules) returns)

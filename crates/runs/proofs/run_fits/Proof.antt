@@ -14,68 +14,68 @@ use Rattle.runs.proofs.KindLaws.{commitments, receipts, no_kind}
 use Rattle.runs.proofs.run_fits.Statement.{statement}
 use Rattle.runs.proofs.run_fits.Tie as tie
 
-abbrev bytes : tie.After-u16-at → List ℕ
-bytes k = k.before.before.args.s.now
+abbrev bytes : tie.After-u16_at → List ℕ
+bytes k = k.args.s.now
 
-known : (k : tie.After-u16-at) → Bytes (bytes k)
-known k = bytes-array (bytes k) k.before.shared-slice-known.given
+known : (k : tie.After-u16_at) → Bytes (bytes k)
+known k = bytes-array (bytes k) k.shared_slice_known-1.given
 
 -- what was read is the kind of the run
-kind : (k : tie.After-u16-at) → (key_at (bytes k) k.before.before.args.i).kind ≡ k.u16-at.result
-kind k = kind_at (bytes k) k.before.before.args.i ∙ sym k.u16-at.ensures
+kind : (k : tie.After-u16_at) → (key_at (bytes k) k.args.i).kind ≡ k.u16_at.result
+kind k = kind_at (bytes k) k.args.i ∙ sym k.u16_at.ensures
 
-low : (k : tie.After-u16-at) → let a = k.before.before.args in a.i < a.e
-low k = k.before.before.requires.1
+low : (k : tie.After-u16_at) → let a = k.args in a.i < a.e
+low k = k.requires.1
 
-first : (k : tie.After-shared-slice-known) → let a = k.before.args in a.i < a.e
-first k = k.before.requires.1
+first : (k : tie.After-shared_slice_known-1) → let a = k.args in a.i < a.e
+first k = k.requires.1
 
-acknowledgements-fit-requires : tie.Need-acknowledgements-fit-requires
+acknowledgements-fit-requires : tie.Need-acknowledgements_fit-requires
 acknowledgements-fit-requires c κs =
     let k = c.before in
-    let p = k.before.before.requires in
-    ((p.0, p.1, p.2, p.3), kind k ∙ c.match.keys3)
+    let p = k.requires in
+    ((p.0, p.1, p.2, p.3), kind k ∙ c.in-3.is)
 
-timeout-receipts-fit-requires : tie.Need-timeout-receipts-fit-requires
+timeout-receipts-fit-requires : tie.Need-timeout_receipts_fit-requires
 timeout-receipts-fit-requires c κs =
     let k = c.before in
-    let p = k.before.before.requires in
-    ((p.0, p.1, p.2, p.3), kind k ∙ c.match.keys4)
+    let p = k.requires in
+    ((p.0, p.1, p.2, p.3), kind k ∙ c.in-4.is)
 
-returns : tie.Need-returns
+returns : tie.Need-returns-in-1
 returns c =
     let k = c.before.before.before in
-    let o = k.before.before in
+    let o = c in
     let a = o.args in
-    ap (λ (n : ℕ). ltb n a.c.next.send) (c.before.u64-at.ensures ∙ sym (sequence-at (bytes k) (a.e - 1))) ∙
+    ap (λ (n : ℕ). ltb n a.c.next.send) (c.u64_at.ensures ∙ sym (sequence-at (bytes k) (a.e - 1))) ∙
     sym (commitments (bytes k) (known k) a.i a.e o.requires.2 o.requires.1 a.c
-    (kind k ∙ c.before.before.match.keys1))
+    (kind k ∙ c.in-1.is))
 
-returns-2 : tie.Need-returns-2
+returns-2 : tie.Need-returns-in-2
 unfolding ◌and◌
 returns-2 c =
     let may = c.before in
     let k = may.before.before in
-    let o = k.before.before in
+    let o = c in
     let a = o.args in
     rw (
-      receipts (bytes k) (known k) a.i a.e o.requires.2 o.requires.1 a.c (kind k ∙ may.before.match.keys2),
-      ← may.may-have-receipt.ensures,
-      ← c.none-pruned.ensures,
+      receipts (bytes k) (known k) a.i a.e o.requires.2 o.requires.1 a.c (kind k ∙ may.in-2.is),
+      ← may.may_have_receipt.ensures,
+      ← c.none_pruned.ensures,
     )
 
-returns-5 : tie.Need-returns-5
+returns-5 : tie.Need-returns-in_default
 returns-5 c =
     let k = c.before in
-    let o = k.before.before in
+    let o = c in
     let a = o.args in
-    let none = c.match.rest in
+    let none = c.in_default.in_default-own.rest in
     sym (no_kind (bytes k) (known k) a.i a.e o.requires.2 o.requires.1 a.c
     (λ h. none.0.0.0.1 (sym (kind k) ∙ h)) (λ h. none.0.0.1 (sym (kind k) ∙ h))
     (λ h. none.0.1 (sym (kind k) ∙ h)) (λ h. none.1 (sym (kind k) ∙ h)))
 
-pub run-fits-spec : {M : Type 1} → statement M
-run-fits-spec =
+pub run_fits_spec : {M : Type 1} → statement M
+run_fits_spec =
     tie.close
     (tie.spec
     (λ c. omega (arith, first c)) (λ c. omega (arith, first c)) (λ c κs. omega (arith, first c))
