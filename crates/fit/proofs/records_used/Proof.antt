@@ -26,191 +26,191 @@ use Rattle.fit.proofs.PassLaws.{passed, unfit-first, unfit-run, checked-run}
 use Rattle.fit.proofs.records_used.Statement.{statement}
 use Rattle.fit.proofs.records_used.Tie as tie
 
-abbrev invariant-loop : tie.invariant-loop
+abbrev invariant-loop : tie.invariant-loop-i
 invariant-loop s count i₀ p₀ j₀ i p j = Checked s count i j p
 
-abbrev decreases-loop : tie.decreases-loop
+abbrev decreases-loop : tie.decreases-loop-i
 decreases-loop s count i₀ p₀ j₀ i p j = count - i
 
-loop-holds : tie.Need-loop-init invariant-loop decreases-loop
-loop-holds c = checked-none c.before.args.s.now c.before.args.count
+loop-holds : tie.Need-loop-i-init invariant-loop decreases-loop
+loop-holds c = checked-none c.args.s.now c.args.count
 
-abbrev bytes : tie.At-loop invariant-loop decreases-loop → List ℕ
-bytes l = l.before.before.args.s.now
+abbrev bytes : tie.At-loop-i invariant-loop decreases-loop → List ℕ
+bytes l = l.args.s.now
 
-known : (l : tie.At-loop invariant-loop decreases-loop) → Bytes (bytes l)
-known l = bytes-array (bytes l) l.before.shared-slice-known.given
+known : (l : tie.At-loop-i invariant-loop decreases-loop) → Bytes (bytes l)
+known l = bytes-array (bytes l) l.shared_slice_known-1.given
 
-returns : tie.Need-returns invariant-loop decreases-loop
+returns : tie.Need-returns-then-are_zero-2 invariant-loop decreases-loop
 returns c =
     let l = c.before.before.before.before.before in
-    let o = l.before.before in
-    let call = c.before.are-zero2 in
-    checked-rest (bytes l) (known l) o.args.count o.requires l.loop.i l.loop.j l.loop.p l.loop.invariant
-    (sym call.ensures ∙ c.if2.true)
+    let o = c in
+    let call = c.are_zero-then-are_zero in
+    checked-rest (bytes l) (known l) o.args.count o.requires l.loop-i.i l.loop-i.j l.loop-i.p l.loop-i.invariant
+    (sym call.ensures ∙ c.if-are_zero-2.true)
 
-returns-2 : tie.Need-returns-2 invariant-loop decreases-loop
+returns-2 : tie.Need-returns-then-are_zero invariant-loop decreases-loop
 returns-2 c =
     let free = c.before.before in
     let l = free.before.before.before in
-    let o = l.before.before in
-    let call = c.before.are-zero2 in
-    unfit-rest (bytes l) (known l) o.args.count o.requires l.loop.i l.loop.j l.loop.p l.loop.invariant
-    (omega arith) (sym free.before.are-zero.ensures ∙ free.if1.true) (sym call.ensures ∙ c.if2.false)
+    let o = c in
+    let call = c.are_zero-then-are_zero in
+    unfit-rest (bytes l) (known l) o.args.count o.requires l.loop-i.i l.loop-i.j l.loop-i.p l.loop-i.invariant
+    (omega arith) (sym free.are_zero.ensures ∙ free.if-are_zero.true) (sym call.ensures ∙ c.if-are_zero-2.false)
 
 -- AT A SLOT in use
-abbrev head : tie.Else1 invariant-loop decreases-loop → tie.At-loop invariant-loop decreases-loop
+abbrev head : tie.Else-are_zero invariant-loop decreases-loop → tie.At-loop-i invariant-loop decreases-loop
 head k = k.before.before.before
 
-taken : (k : tie.Else1 invariant-loop decreases-loop) → are_zero (slot_at records_from (bytes (head k)) (head k).loop.i) ≡ false
-taken k = sym k.before.are-zero.ensures ∙ k.if1.false
+taken : (k : tie.Else-are_zero invariant-loop decreases-loop) → are_zero (slot_at records_from (bytes (head k)) (head k).loop-i.i) ≡ false
+taken k = sym k.are_zero.ensures ∙ k.if-are_zero.false
 
-inside : (k : tie.Else1 invariant-loop decreases-loop) → (head k).loop.i < (head k).before.before.args.count
+inside : (k : tie.Else-are_zero invariant-loop decreases-loop) → (head k).loop-i.i < (head k).args.count
 inside k = omega arith
 
-starts-run-requires : tie.Need-starts-run-requires invariant-loop decreases-loop
-starts-run-requires c κs = (omega arith, (head c).loop.invariant.low)
+starts-run-requires : tie.Need-starts_run-requires invariant-loop decreases-loop
+starts-run-requires c κs = (omega arith, (head c).loop-i.invariant.low)
 
-returns-3 : tie.Need-returns-3 invariant-loop decreases-loop
+returns-3 : tie.Need-returns-then-not-starts_run invariant-loop decreases-loop
 returns-3 c =
     let call = c.before in
     let k = call.before in
     let l = head k in
-    let o = l.before.before in
-    unfit-start (bytes l) (known l) o.args.count o.pre l.loop.i l.loop.j l.loop.p l.loop.inv
+    let o = l in
+    unfit-start (bytes l) (known l) o.args.count o.requires l.loop-i.i l.loop-i.j l.loop-i.p l.loop-i.invariant
     (omega arith) (taken k)
-    (sym call.starts-run.ensures ∙ not-true call.starts-run.result c.if3.true)
+    (sym call.starts_run.ensures ∙ c.if-not-starts_run.true)
 
 -- WHERE A RUN STARTS
-abbrev first : tie.Else3 invariant-loop decreases-loop → tie.Else1 invariant-loop decreases-loop
+abbrev first : tie.Else-not-starts_run invariant-loop decreases-loop → tie.Else-are_zero invariant-loop decreases-loop
 first k = k.before.before
 
-starts : (k : tie.Else3 invariant-loop decreases-loop) → let l = head (first k) in
-    starts_run (bytes l) l.loop.p l.loop.i ≡ true
-starts k = sym k.before.starts-run.ensures ∙ not-false k.before.starts-run.result k.if3.false
+starts : (k : tie.Else-not-starts_run invariant-loop decreases-loop) → let l = head (first k) in
+    starts_run (bytes l) l.loop-i.p l.loop-i.i ≡ true
+starts k = sym k.starts_run.ensures ∙ k.if-not-starts_run.false
 
-end-index-requires : tie.Need-end-index-requires invariant-loop decreases-loop
+end-index-requires : tie.Need-end_index-requires invariant-loop decreases-loop
 end-index-requires c κs =
     let l = head (first c) in
-    ((omega arith, l.loop.inv.low), l.loop.inv.end)
+    ((omega arith, l.loop-i.invariant.low), l.loop-i.invariant.end)
 
-returns-4 : tie.Need-returns-4 invariant-loop decreases-loop
+returns-4 : tie.Need-returns-in_default invariant-loop decreases-loop
 returns-4 c =
-    let call = c.before.before in
+    let call = c.before in
     let k = first call.before in
     let l = head k in
-    let o = l.before.before in
-    unfit-end (bytes l) (known l) o.args.count o.pre l.loop.i l.loop.j l.loop.p l.loop.inv
-    (omega arith) (taken k) (sym call.end-index.ensures ∙ c.enum_told.given.1)
+    let o = l in
+    unfit-end (bytes l) (known l) o.args.count o.requires l.loop-i.i l.loop-i.j l.loop-i.p l.loop-i.invariant
+    (omega arith) (taken k) (sym call.end_index.ensures ∙ c.in_default.is)
 
 -- ON ITS CHANNEL END
-abbrev start : tie.After-known-told invariant-loop decreases-loop → tie.Else3 invariant-loop decreases-loop
-start k = k.before.before.before.before
+abbrev start : tie.In-At invariant-loop decreases-loop → tie.Else-not-starts_run invariant-loop decreases-loop
+start k = k.before.before
 
-abbrev loop : tie.After-known-told invariant-loop decreases-loop → tie.At-loop invariant-loop decreases-loop
+abbrev loop : tie.In-At invariant-loop decreases-loop → tie.At-loop-i invariant-loop decreases-loop
 loop k = head (first (start k))
 
-abbrev index : tie.After-known-told invariant-loop decreases-loop → ℕ
-index k = k.before.end.given.0.0
+abbrev index : tie.In-At invariant-loop decreases-loop → ℕ
+index k = k.in-At.end
 
-found : (k : tie.After-known-told invariant-loop decreases-loop) → let l = loop k in
-    first_that (is_numbered (key_at (bytes l) l.loop.i).channel) (store_in (bytes l)).channels ≡ At (index k)
-found k = sym k.before.before.before.end-index.ensures ∙ k.before.end.given.1
+found : (k : tie.In-At invariant-loop decreases-loop) → let l = loop k in
+    first_that (is_numbered (key_at (bytes l) l.loop-i.i).channel) (store_in (bytes l)).channels ≡ At (index k)
+found k = sym k.end_index.ensures ∙ k.in-At.is
 
-below : (k : tie.After-known-told invariant-loop decreases-loop) → index k < channel_limit
+below : (k : tie.In-At invariant-loop decreases-loop) → index k < channel_limit
 below k =
     let l = loop k in
-    channel-index (index k) (bytes l) (holds (is_numbered (key_at (bytes l) l.loop.i).channel)) (found k)
+    channel-index (index k) (bytes l) (holds (is_numbered (key_at (bytes l) l.loop-i.i).channel)) (found k)
 
-own-run-end-requires : tie.Need-own-run-end-requires invariant-loop decreases-loop
-own-run-end-requires c κs = ((loop c).before.before.requires, inside (first (start c)))
+own-run-end-requires : tie.Need-own_run_end-e-requires invariant-loop decreases-loop
+own-run-end-requires c κs = ((loop c).requires, inside (first (start c)))
 
-returns-5 : tie.Need-returns-5 invariant-loop decreases-loop
+returns-5 : tie.Need-returns-then-e-i invariant-loop decreases-loop
 returns-5 c =
     let run = c.before in
     let k = run.before in
     let l = loop k in
-    let o = l.before.before in
-    unfit-first (bytes l) (known l) o.args.count o.pre l.loop.i l.loop.j l.loop.p l.loop.inv
-    (inside (first (start k))) (starts (start k)) (taken (first (start k))) run.own-run-end.result
-    run.own-run-end.ensures c.if4.true
+    let o = l in
+    unfit-first (bytes l) (known l) o.args.count o.requires l.loop-i.i l.loop-i.j l.loop-i.p l.loop-i.invariant
+    (inside (first (start k))) (starts (start k)) (taken (first (start k))) run.own_run_end-e.result
+    run.own_run_end-e.ensures c.if-e-i.true
 
 -- A RUN that has a record
-abbrev known-end : tie.Else4 invariant-loop decreases-loop → tie.After-known-told invariant-loop decreases-loop
+abbrev known-end : tie.Else-e-i invariant-loop decreases-loop → tie.In-At invariant-loop decreases-loop
 known-end r = r.before.before
 
-more : (r : tie.Else4 invariant-loop decreases-loop) → (loop (known-end r)).loop.i < r.before.own-run-end.result
+more : (r : tie.Else-e-i invariant-loop decreases-loop) → (loop (known-end r)).loop-i.i < r.own_run_end-e.result
 more r =
-    let low = r.before.own-run-end.ensures.run.low in
-    cases (eqb (loop (known-end r)).loop.i r.before.own-run-end.result)
-    (λ e. absurd (r.if4.false (sym (eqb-true _ _ e))))
-    (λ e. omega (arith, low, eqb-false (loop (known-end r)).loop.i r.before.own-run-end.result e))
+    let low = r.own_run_end-e.ensures.run.low in
+    cases (eqb (loop (known-end r)).loop-i.i r.own_run_end-e.result)
+    (λ e. absurd (r.if-e-i.false (sym (eqb-true _ _ e))))
+    (λ e. omega (arith, low, eqb-false (loop (known-end r)).loop-i.i r.own_run_end-e.result e))
 
-run-fits-requires : tie.Need-run-fits-requires invariant-loop decreases-loop
+run-fits-requires : tie.Need-run_fits-requires invariant-loop decreases-loop
 run-fits-requires c κs =
     let r = c.before in
     let k = known-end r in
     let l = loop k in
-    let o = l.before.before in
-    let stop = r.before.own-run-end.ensures in (
+    let o = l in
+    let stop = r.own_run_end-e.ensures in (
       omega (arith, stop.high),
       more r,
       stop.run,
-      passed (bytes l) (known l) o.args.count o.pre l.loop.i l.loop.j l.loop.p l.loop.inv
+      passed (bytes l) (known l) o.args.count o.requires l.loop-i.i l.loop-i.j l.loop-i.p l.loop-i.invariant
           (inside (first (start k))) (starts (start k)),
     )
 
 -- what the test of the run tells
-tested : (t : tie.After-run-fits invariant-loop decreases-loop) → let r = t.before.before in let k = known-end r in
+tested : (t : tie.After-run_fits invariant-loop decreases-loop) → let r = t.before.before in let k = known-end r in
     let l = loop k in
-    t.run-fits.result ≡
+    t.run_fits.result ≡
     each (λ m. fits_beside (has_companion (bytes l) m) (record_at (bytes l) m)
-    (channel_in (slot_at header_size (bytes l) (index k)))) l.loop.i (r.before.own-run-end.result - l.loop.i)
+    (channel_in (slot_at header_size (bytes l) (index k)))) l.loop-i.i (r.own_run_end-e.result - l.loop-i.i)
 tested t =
     let r = t.before.before in
     let l = loop (known-end r) in
-    t.run-fits.ensures ∙
-    ap (λ (x : Channel). each (λ m. fits_beside (has_companion (bytes l) m) (record_at (bytes l) m) x) l.loop.i
-    (r.before.own-run-end.result - l.loop.i)) t.before.channel-at.ensures
+    t.run_fits.ensures ∙
+    ap (λ (x : Channel). each (λ m. fits_beside (has_companion (bytes l) m) (record_at (bytes l) m) x) l.loop-i.i
+    (r.own_run_end-e.result - l.loop-i.i)) t.channel_at-c.ensures
 
-returns-6 : tie.Need-returns-6 invariant-loop decreases-loop
+returns-6 : tie.Need-returns-then-not-run_fits invariant-loop decreases-loop
 returns-6 c =
     let call = c.before in
     let r = call.before.before in
     let k = known-end r in
     let l = loop k in
-    let o = l.before.before in
-    let run = r.before.own-run-end in
-    unfit-run (bytes l) (known l) o.args.count o.pre l.loop.i l.loop.j l.loop.p l.loop.inv
+    let o = l in
+    let run = r.own_run_end-e in
+    unfit-run (bytes l) (known l) o.args.count o.requires l.loop-i.i l.loop-i.j l.loop-i.p l.loop-i.invariant
     (inside (first (start k))) (starts (start k)) (index k) (found k) run.result run.ensures (more r)
-    (sym (tested call) ∙ not-true call.run-fits.result c.if5.true)
+    (sym (tested call) ∙ c.if-not-run_fits.true)
 
-loop-less : tie.Need-loop-smaller invariant-loop decreases-loop
+loop-less : tie.Need-loop-i-smaller invariant-loop decreases-loop
 loop-less c =
     let r = c.before.before.before in
-    omega (arith, more r, r.before.own-run-end.ensures.high)
+    omega (arith, more r, r.own_run_end-e.ensures.high)
 
-loop-again : tie.Need-loop-preserved invariant-loop decreases-loop
+loop-again : tie.Need-loop-i-preserved invariant-loop decreases-loop
 loop-again c =
     let call = c.before in
     let r = call.before.before in
     let k = known-end r in
     let l = loop k in
-    let o = l.before.before in
-    let run = r.before.own-run-end in
-    checked-run (bytes l) (known l) o.args.count o.pre l.loop.i l.loop.j l.loop.p l.loop.inv
+    let o = l in
+    let run = r.own_run_end-e in
+    checked-run (bytes l) (known l) o.args.count o.requires l.loop-i.i l.loop-i.j l.loop-i.p l.loop-i.invariant
     (inside (first (start k))) (starts (start k)) (index k) (found k) run.result run.ensures (more r)
-    (sym (tested call) ∙ not-false call.run-fits.result c.if5.false)
+    (sym (tested call) ∙ c.if-not-run_fits.false)
 
-returns-7 : tie.Need-returns-7 invariant-loop decreases-loop
+returns-7 : tie.Need-returns invariant-loop decreases-loop
 returns-7 c =
     let l = c.before in
-    let o = l.before.before in
-    checked-all (bytes l) (known l) o.args.count o.requires l.loop.i l.loop.j l.loop.p l.loop.invariant
+    let o = c in
+    checked-all (bytes l) (known l) o.args.count o.requires l.loop-i.i l.loop-i.j l.loop-i.p l.loop-i.invariant
     (omega arith)
 
-pub records-used-spec : {M : Type 1} → statement M
-records-used-spec =
+pub records_used_spec : {M : Type 1} → statement M
+records_used_spec =
     tie.close
     (tie.spec
     invariant-loop decreases-loop loop-holds (λ c. omega arith) (λ c. omega arith) (λ c κs. omega arith) (λ c. omega arith)
