@@ -14,34 +14,34 @@ use Rattle.upgrade.proofs.is_older.Statement.{statement}
 use Rattle.upgrade.proofs.is_older.Tie as tie
 
 -- behind the first test the number of bytes fits
-abbrev bytes : tie.Else1 → List ℕ
-bytes k = k.before.before.before.args.s.now
+abbrev bytes : tie.Else-not-size_fits → List ℕ
+bytes k = k.args.s.now
 
-fits : (k : tie.Else1) → size_fits (length (bytes k)) ≡ true
-fits k = sym k.before.size_fits.ensures ∙ not-false k.before.size_fits.result k.if1.false
+fits : (k : tie.Else-not-size_fits) → size_fits (length (bytes k)) ≡ true
+fits k = sym k.size_fits.ensures ∙ k.if-not-size_fits.false
 
-sized : (k : tie.Else1) → Sized (length (bytes k))
+sized : (k : tie.Else-not-size_fits) → Sized (length (bytes k))
 sized k = fits-size (length (bytes k)) (fits k)
 
-returns : tie.Need-returns
+returns : tie.Need-returns-then-not-size_fits
 unfolding is_older ◌and◌
 returns c =
-    let call = c.before.size_fits in
-    let unfit = sym call.ensures ∙ not-true call.result c.if1.true in
+    let call = c.size_fits in
+    let unfit = sym call.ensures ∙ c.if-not-size_fits.true in
     rw unfit
 
-u16-at-requires : tie.Need-u16-at-requires
+u16-at-requires : tie.Need-u16_at-requires
 u16-at-requires c κs = omega (arith, (sized c).whole)
 
-no-marks-requires : tie.Need-no-marks-requires
+no-marks-requires : tie.Need-no_marks-requires
 no-marks-requires c κs = omega (arith, (sized c.before).whole)
 
-returns-2 : tie.Need-returns-2
+returns-2 : tie.Need-returns
 unfolding is_older ◌and◌
 returns-2 c =
     let k = c.before.before in
     let fit = fits k in
-    rw (is_older, fit, ← c.before.u16-at.ensures, ← c.no-marks.ensures)
+    rw (is_older, fit, ← c.u16_at.ensures, ← c.no_marks.ensures)
 
-pub is-older-spec : {M : Type 1} → statement M
-is-older-spec = tie.close (tie.spec (λ c κs. tt) returns u16-at-requires no-marks-requires returns-2)
+pub is_older_spec : {M : Type 1} → statement M
+is_older_spec = tie.close (tie.spec (λ c κs. tt) returns u16-at-requires no-marks-requires returns-2)

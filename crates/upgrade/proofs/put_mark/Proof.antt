@@ -4,18 +4,18 @@ use borrow.Author.Rules.{rules}
 use Rattle.upgrade.proofs.put_mark.Statement.{statement}
 use Rattle.upgrade.proofs.put_mark.Tie as tie
 
-returns : tie.Need-returns
-returns c = let e = sym c.before.are-zero.ensures ∙ c.if1.true in rw e
+returns : tie.Need-returns-then-are_zero
+returns c = let e = sym c.are_zero.ensures ∙ c.if-are_zero.true in rw e
 
-returns-2 : tie.Need-returns-2
+returns-2 : tie.Need-returns
 returns-2 c =
-    let call = c.before.before in
-    let test = call.before.before in
-    let e = sym test.before.are-zero.ensures ∙ test.if1.false in
-    rw e call.put-u64.ensures
+    let call = c in
+    let test = c in
+    let e = sym test.are_zero.ensures ∙ test.if-are_zero.false in
+    rw e call.put_u64.ensures
 
-pub put-mark-spec : {M : Type 1} → statement M
-put-mark-spec =
+pub put_mark_spec : {M : Type 1} → statement M
+put_mark_spec =
     tie.close
     (tie.spec
     (λ c κs. search rules) (λ c. search rules) returns (λ c. search rules) (λ c κs. search rules) (λ c. search rules)

@@ -20,26 +20,26 @@ use Rattle.upgrade.proofs.UpgradeLaws.{not-older, fit-left, unfit-left, tests-ro
 use Rattle.upgrade.proofs.upgrade_store.Statement.{statement}
 use Rattle.upgrade.proofs.upgrade_store.Tie as tie
 
-returns : tie.Need-returns
+returns : tie.Need-returns-then-not-is_older
 returns c =
-    let call = c.before.is-older in
-    let first = c.before.before.before in
-    let bs = first.before.args.s.now in
-    let other = sym call.ensures ∙ not-true call.result c.if1.true in
-    let told = not-older bs (bytes-array bs first.slice-known.given) other in
+    let call = c.is_older in
+    let first = c in
+    let bs = first.args.s.now in
+    let other = sym call.ensures ∙ c.if-not-is_older.true in
+    let told = not-older bs (bytes-array bs first.slice_known-1.given) other in
     (sym told.0, sym told.1)
 
 -- behind the first test
-abbrev entry : tie.Else1 → List ℕ
-entry k = k.before.before.before.before.args.s.now
+abbrev entry : tie.Else-not-is_older → List ℕ
+entry k = k.args.s.now
 
-bytes : (k : tie.Else1) → Bytes (entry k)
-bytes k = bytes-array (entry k) k.before.before.before.slice-known.given
+bytes : (k : tie.Else-not-is_older) → Bytes (entry k)
+bytes k = bytes-array (entry k) k.slice_known-1.given
 
-tests : (k : tie.Else1) → is_older (entry k) ≡ true
-tests k = sym k.before.is-older.ensures ∙ not-false k.before.is-older.result k.if1.false
+tests : (k : tie.Else-not-is_older) → is_older (entry k) ≡ true
+tests k = sym k.is_older.ensures ∙ k.if-not-is_older.false
 
-room : (k : tie.Else1) → records_from ≤ length (entry k)
+room : (k : tie.Else-not-is_older) → records_from ≤ length (entry k)
 room k = tests-room (entry k) (bytes k) (tests k)
 
 -- the second one is that of the rewritten store
@@ -47,43 +47,43 @@ is-at-if : (b : Bool) (bs : List ℕ) → is_at (used_if b bs) ≡ b
 is-at-if true bs = refl
 is-at-if false bs = refl
 
-abbrev first : tie.After-is-found → tie.Else1
-first k = k.before.before.before.before.before.before.before
+abbrev first : tie.After-is_found → tie.Else-not-is_older
+first k = k.before.before.before.before.before.before
 
-fits : (k : tie.After-is-found) → k.is_found.result ≡ is_fit (rewritten store_kind 1 (entry (first k)))
+fits : (k : tie.After-is_found) → k.is_found.result ≡ is_fit (rewritten store_kind 1 (entry (first k)))
 fits k =
-    let used = k.before.used-if-fit in
-    let new = k.before.before.before.before.before.rewrite.new.0 in
+    let used = k.used_if_fit in
+    let new = k.rewrite.new.s in
     k.is_found.ensures ∙ ap is_at used.ensures ∙ is-at-if (is_fit new) new ∙
-    ap is_fit k.before.before.before.before.before.rewrite.ensures
+    ap is_fit k.rewrite.ensures
 
-returns-2 : tie.Need-returns-2
+returns-2 : tie.Need-returns-then-is_found
 returns-2 c =
     let k = c.before in
     let o = first k in
-    let told = fit-left (entry o) (bytes o) (tests o) (sym (fits k) ∙ c.if2.true) in
-    (sym told.0, k.before.before.before.before.before.rewrite.ensures ∙ sym told.1)
+    let told = fit-left (entry o) (bytes o) (tests o) (sym (fits k) ∙ c.if-is_found.true) in
+    (sym told.0, k.rewrite.ensures ∙ sym told.1)
 
 again : tie.Need-rewrite-requires-2
 again c κs =
     let k = c.before.before in
-    omega (arith, room (first k), k.before.before.before.before.before.rewrite.auto.0)
+    omega (arith, room (first k), k.rewrite.auto.s)
 
-returns-3 : tie.Need-returns-3
+returns-3 : tie.Need-returns
 returns-3 c =
     let call = c.before.before in
     let test = call.before.before in
     let k = test.before in
     let o = first k in
-    let told = unfit-left (entry o) (bytes o) (tests o) (sym (fits k) ∙ test.if2.false) in (
+    let told = unfit-left (entry o) (bytes o) (tests o) (sym (fits k) ∙ test.if-is_found.false) in (
       sym told.0,
-      call.rewrite2.ensures ∙
-          ap (rewritten older_kind 0) k.before.before.before.before.before.rewrite.ensures ∙
+      call.rewrite-2.ensures ∙
+          ap (rewritten older_kind 0) k.rewrite.ensures ∙
           sym told.1,
     )
 
-pub upgrade-store-spec : {M : Type 1} → statement M
-upgrade-store-spec =
+pub upgrade_store_spec : {M : Type 1} → statement M
+upgrade_store_spec =
     tie.close
     (tie.spec
     (λ c κs. search rules) (λ c. search rules) returns (λ c κs. room c.before) (λ c κs. search rules)
