@@ -6,7 +6,7 @@ use Rattle.ordering.proofs.allows_pruning.Tie as tie
 
 returns : tie.Need-returns
 unfolding allows_pruning
-returns c = c.is-unordered.ensures
+returns c = c.is_unordered.ensures
 
-pub allows-pruning-spec : {M : Type 1} → statement M
-allows-pruning-spec = tie.close (tie.spec (λ c κs. search rules) returns)
+pub allows_pruning_spec : {M : Type 1} → statement M
+allows_pruning_spec = tie.close (tie.spec (λ c κs. search rules) returns)
