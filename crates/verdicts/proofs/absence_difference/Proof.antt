@@ -17,16 +17,16 @@ either-fits false m n = refl
 returns : tie.Need-returns
 unfolding absence_difference
 returns c =
-    let d = c.before.before.before.before.before.before in
-    let a = d.before.args in
+    let d = c in
+    let a = d.args in
     rw (
-      c.first-difference.ensures _ (either-fits (claims_next a.v) a.v.sequence a.p.sequence),
-      c.before.no-timeout.ensures,
-      d.absence-claim.ensures,
+      c.first_difference.ensures _ (either-fits (claims_next a.v) a.v.sequence a.p.sequence),
+      c.no_timeout.ensures,
+      d.absence_claim-claim.ensures,
     )
 
-pub absence-difference-spec : {M : Type 1} → statement M
-absence-difference-spec =
+pub absence_difference_spec : {M : Type 1} → statement M
+absence_difference_spec =
     tie.close
     (tie.spec
     (λ c κs. search rules) (λ c κs. search rules) (λ c κs. search rules) returns)

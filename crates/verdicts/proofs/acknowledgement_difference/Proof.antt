@@ -7,10 +7,10 @@ use Rattle.verdicts.proofs.acknowledgement_difference.Tie as tie
 
 returns : tie.Need-returns
 unfolding acknowledgement_difference
-returns c = rw (c.first-difference.ensures _ refl, c.before.no-timeout.ensures)
+returns c = rw (c.first_difference.ensures _ refl, c.no_timeout.ensures)
 
-pub acknowledgement-difference-spec : {M : Type 1} → statement M
-acknowledgement-difference-spec =
+pub acknowledgement_difference_spec : {M : Type 1} → statement M
+acknowledgement_difference_spec =
     tie.close
     (tie.spec
     (λ c κs. search rules) (λ c κs. search rules) returns)

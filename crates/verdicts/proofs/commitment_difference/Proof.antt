@@ -7,8 +7,8 @@ use Rattle.verdicts.proofs.commitment_difference.Tie as tie
 
 returns : tie.Need-returns
 unfolding commitment_difference
-returns c = c.first-difference.ensures _ refl
+returns c = c.first_difference.ensures _ refl
 
-pub commitment-difference-spec : {M : Type 1} → statement M
-commitment-difference-spec =
+pub commitment_difference_spec : {M : Type 1} → statement M
+commitment_difference_spec =
     tie.close (tie.spec (λ c κs. search rules) returns)

@@ -18,12 +18,12 @@ above-fits n m =
 returns : tie.Need-returns
 unfolding next_send_difference
 returns c =
-    let a = c.before.before.before.before.args in
+    let a = c.args in
     let fits = above-fits a.sequence a.v.sequence in
     rw (
-      c.first-difference.ensures (above_for a.sequence a.v.sequence) fits,
-      c.before.no-timeout.ensures,
+      c.first_difference.ensures (above_for a.sequence a.v.sequence) fits,
+      c.no_timeout.ensures,
     )
 
-pub next-send-difference-spec : {M : Type 1} → statement M
-next-send-difference-spec = tie.close (tie.spec (λ c κs. search rules) (λ c κs. search rules) returns)
+pub next_send_difference_spec : {M : Type 1} → statement M
+next_send_difference_spec = tie.close (tie.spec (λ c κs. search rules) (λ c κs. search rules) returns)

@@ -7,7 +7,7 @@ use Rattle.verdicts.proofs.pruned_difference.Tie as tie
 
 returns : tie.Need-returns
 unfolding pruned_difference
-returns c = rw (c.first-difference.ensures _ refl, c.before.no-timeout.ensures)
+returns c = rw (c.first_difference.ensures _ refl, c.no_timeout.ensures)
 
-pub pruned-difference-spec : {M : Type 1} → statement M
-pruned-difference-spec = tie.close (tie.spec (λ c κs. search rules) (λ c κs. search rules) returns)
+pub pruned_difference_spec : {M : Type 1} → statement M
+pruned_difference_spec = tie.close (tie.spec (λ c κs. search rules) (λ c κs. search rules) returns)
