@@ -7,14 +7,14 @@ use Rattle.rules.specs.Ordering.{marked}
 use Rattle.ends.proofs.pruned_end.Statement.{statement}
 use Rattle.ends.proofs.pruned_end.Tie as tie
 
-add-mark : tie.Need-overflow-add-mark
+add-mark : tie.Need-overflow_add-mark
 add-mark c =
-    let z = eqb-false c.before.args.c.mark top c.before.requires in
+    let z = eqb-false c.args.c.mark top c.requires in
     omega arith
 
 returns : tie.Need-returns
 unfolding marked
 returns c = search rules
 
-pub pruned-end-spec : {M : Type 1} → statement M
-pruned-end-spec = tie.close (tie.spec add-mark returns)
+pub pruned_end_spec : {M : Type 1} → statement M
+pruned_end_spec = tie.close (tie.spec add-mark returns)
