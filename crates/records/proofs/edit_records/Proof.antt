@@ -20,39 +20,39 @@ held o = store_in o.args.store.now
 abbrev left_by : tie.Start → Action → List ℕ
 left_by o x = bytes_of (with_edit (held o) (edit_of x o.args.e.about))
 
-returns : tie.Need-returns
+returns : tie.Need-returns-in-Keeps
 unfolding edited
 returns c =
-    let o = c.before.before.before.before in
-    sym (ap (left_by o) c.enum_told.given.1 ∙ o.requires.exact.laid)
+    let o = c.before.before.before in
+    sym (ap (left_by o) c.in-Keeps.is ∙ o.requires.exact.laid)
 
-returns-2 : tie.Need-returns-2
+returns-2 : tie.Need-returns-in-Writes
 unfolding edited
 returns-2 c =
     let call = c.before.before in
     let told = call.before.before in
-    let o = told.before.before.before.before in
-    call.write-record.ensures ∙ ap (left_by o) (sym told.enum-told2.given.1)
+    let o = told.before.before.before in
+    call.write_record.ensures ∙ ap (left_by o) (sym told.in-Writes.is)
 
-returns-3 : tie.Need-returns-3
+returns-3 : tie.Need-returns-in-Frees
 unfolding edited
 returns-3 c =
     let call = c.before.before in
     let told = call.before.before.before in
-    let o = told.before.before.before.before in
-    call.free-record.ensures.0 ∙
-    ap (λ (k : Key). bytes_of (with_records (held o) (remove k (held o).records))) call.before.key-of.ensures ∙
-    ap (left_by o) (sym told.enum-told3.given.1)
+    let o = told.before.before.before in
+    call.free_record.ensures.0 ∙
+    ap (λ (k : Key). bytes_of (with_records (held o) (remove k (held o).records))) call.key_of.ensures ∙
+    ap (left_by o) (sym told.in-Frees.is)
 
-returns-4 : tie.Need-returns-4
+returns-4 : tie.Need-returns-in-Prunes
 returns-4 c =
     let call = c.before.before in
     let told = call.before.before in
-    let o = told.before.before.before.before in
-    call.prune-records.ensures ∙ ap (left_by o) (sym told.enum-told4.given.1)
+    let o = told.before.before.before in
+    call.prune_records.ensures ∙ ap (left_by o) (sym told.in-Prunes.is)
 
-pub edit-records-spec : {M : Type 1} → statement M
-edit-records-spec =
+pub edit_records_spec : {M : Type 1} → statement M
+edit_records_spec =
     tie.close
     (tie.spec
     (λ c. search rules) (λ c. search rules) (λ c κs. search rules) (λ c. search rules) (λ c κs. search rules)

@@ -25,60 +25,60 @@ records o = (store_in o.args.store.now).records
 abbrev left_by : tie.Start → List (Option Record) → List ℕ
 left_by o rs = bytes_of (with_records (store_in o.args.store.now) rs)
 
-find-record-requires : tie.Need-find-record-requires
+find-record-requires : tie.Need-find_record-requires
 unfolding room_in
-find-record-requires c κs = editable-in-order c.before.before.requires
+find-record-requires c κs = editable-in-order c.requires
 
-returns : tie.Need-returns
+returns : tie.Need-returns-in_default
 returns c =
-    let find = c.before.before in
-    let o = find.before.before.before in
+    let find = c.before in
+    let o = find.before.before in
     let same = sym (take-out-nothing (has_key o.args.k) 0 (records o)
-    (sym find.find-record.ensures ∙ c.enum_told.given.1)) in
+    (sym find.find_record.ensures ∙ c.in_default.is)) in
     (sym o.requires.exact.laid ∙ ap (left_by o) same, o.requires.in_use ∙ ap used_slots same)
 
 -- THE INDEX that was found
-abbrev start : tie.After-known-told → tie.Start
-start f = f.before.before.before.before.before.before
+abbrev start : tie.In-At → tie.Start
+start f = f.before.before.before
 
-abbrev index : tie.After-known-told → ℕ
-index f = f.before.i.given.0.0
+abbrev index : tie.In-At → ℕ
+index f = f.in-At.i
 
-found : (f : tie.After-known-told) → first_that (has_key (start f).args.k) (records (start f)) ≡ At (index f)
-found f = sym f.before.before.before.find-record.ensures ∙ f.before.i.given.1
+found : (f : tie.In-At) → first_that (has_key (start f).args.k) (records (start f)) ≡ At (index f)
+found f = sym f.find_record.ensures ∙ f.in-At.is
 
-in_use : (f : tie.After-known-told) → let o = start f in
+in_use : (f : tie.In-At) → let o = start f in
     (index f < o.args.used) × (o.args.used ≤ length (records o))
 in_use f =
     let o = start f in
-    let i = found-used (records o) o.pre.order (has_key o.args.k) (index f) (found f) in
-    (omega (arith, i, o.pre.in_use), omega (arith, used-length (records o), o.pre.in_use))
+    let i = found-used (records o) o.requires.order (has_key o.args.k) (index f) (found f) in
+    (omega (arith, i, o.requires.in_use), omega (arith, used-length (records o), o.requires.in_use))
 
-remove-record-requires : tie.Need-remove-record-requires
+remove-record-requires : tie.Need-remove_record-requires
 remove-record-requires c κs =
     let f = c.before in
     let k = in_use f in
     ((start f).requires.exact, omega (arith, k.0, k.1))
 
-returns-2 : tie.Need-returns-2
+returns-2 : tie.Need-returns
 returns-2 c =
     let call = c.before.before in
     let f = call.before.before in
     let o = start f in
     let key = has_key o.args.k in
     let m = o.args.used - 1 - index f in
-    let last : suc (index f + m) ≡ used_slots (records o) = omega (arith, (in_use f).0, o.pre.in_use) in
-    let behind = free-behind (records o) o.pre.order (suc (index f + m)) (omega arith) in (
-      call.remove-record.ensures ∙
+    let last : suc (index f + m) ≡ used_slots (records o) = omega (arith, (in_use f).0, o.requires.in_use) in
+    let behind = free-behind (records o) o.requires.order (suc (index f + m)) (omega arith) in (
+      call.remove_record.ensures ∙
           ap (left_by o) (sym (take-out-found key (index f) m (records o) (found f) behind)),
-      omega (arith, used-remove (records o) o.args.k (index f) (found f), o.pre.in_use),
+      omega (arith, used-remove (records o) o.args.k (index f) (found f), o.requires.in_use),
     )
 
-pub free-record-spec : {M : Type 1} → statement M
-free-record-spec =
+pub free_record_spec : {M : Type 1} → statement M
+free_record_spec =
     tie.close
     (tie.spec
-    (λ c. omega (arith, (editable-in-order c.before.requires).size)) find-record-requires (λ c. search rules)
+    (λ c. omega (arith, (editable-in-order c.requires).size)) find-record-requires (λ c. search rules)
     (λ c. search rules) (λ c. search rules) returns (λ c. omega (arith, (in_use c.before).0))
     (λ c. omega (arith, (in_use c.before).0)) remove-record-requires
     (λ c. omega (arith, (in_use c.before.before.before.before).0)) (λ c. search rules) returns-2)

@@ -8,7 +8,7 @@ use Rattle.records.proofs.pruned.Tie as tie
 
 returns : tie.Need-returns
 unfolding plain_record
-returns c = ap (λ (r : Record). prunes r.channel r.sequence) c.plain-record.ensures
+returns c = ap (λ (r : Record). prunes r.channel r.sequence) c.plain_record-acknowledgement.ensures
 
-pub pruned-spec : {M : Type 1} → statement M
-pruned-spec = tie.close (tie.spec (λ c κs. search rules) returns)
+pub pruned_spec : {M : Type 1} → statement M
+pruned_spec = tie.close (tie.spec (λ c κs. search rules) returns)

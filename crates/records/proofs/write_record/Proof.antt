@@ -37,71 +37,71 @@ order o = editable-in-order o.requires
 count-is : (o : tie.Start) → count o ≡ length (records o)
 count-is o = omega (arith, exact-room o.args.store.now o.requires.exact, (order o).size)
 
-place-of-requires : tie.Need-place-of-requires
+place-of-requires : tie.Need-place_of-i-requires
 unfolding room_in
 place-of-requires c κs =
-    let o = c.before.before.before in
+    let o = c.before.before in
     (omega (arith, (order o).size), order-from (count o) o.args.store.now (order o))
 
 -- THE PLACE
-abbrev start : tie.After-place-of → tie.Start
-start p = p.before.before.before.before
+abbrev start : tie.After-place_of-i → tie.Start
+start p = p.before.before.before
 
-place : (p : tie.After-place-of) →
-    p.place_of.result ≡ place_of (key_of (start p).args.r) (records (start p))
+place : (p : tie.After-place_of-i) →
+    p.place_of-i.result ≡ place_of (key_of (start p).args.r) (records (start p))
 unfolding room_in
 place p =
     let o = start p in
     let bs = o.args.store.now in
-    p.place_of.ensures ∙
-    ap (λ (k : Key). place_of k (table_from record_in records_from (count o) bs 0)) p.before.key-of.ensures ∙
+    p.place_of-i.ensures ∙
+    ap (λ (k : Key). place_of k (table_from record_in records_from (count o) bs 0)) p.key_of.ensures ∙
     ap (place_of (key_of o.args.r)) (sym (records-from (count o) bs (order o).size))
 
 -- WHERE IT IS a slot of the table
-module _ (s : tie.After-spare-slot) where
-  abbrev placed : tie.After-place-of
+module _ (s : tie.After-spare_slot-spare) where
+  abbrev placed : tie.After-place_of-i
   placed = s.before.before
 
-  below : placed.place_of.result < length (records (start placed))
+  below : placed.place_of-i.result < length (records (start placed))
   unfolding room_in
-  below = omega (arith, s.before.if1.taken, count-is (start placed))
+  below = omega (arith, s.if-i-count.true, count-is (start placed))
 
-  spare-is : s.spare-slot.result ≡ spare_slot (length (records (start placed))) (used_slots (records (start placed)))
+  spare-is : s.spare_slot-spare.result ≡ spare_slot (length (records (start placed))) (used_slots (records (start placed)))
   unfolding room_in
-  spare-is = s.spare-slot.ensures ∙ ap₂ spare_slot (count-is (start placed)) (start placed).pre.in_use
+  spare-is = s.spare_slot-spare.ensures ∙ ap₂ spare_slot (count-is (start placed)) (start placed).requires.in_use
 
-  room : (placed.place_of.result ≤ s.spare-slot.result) × (s.spare-slot.result < length (records (start placed)))
+  room : (placed.place_of-i.result ≤ s.spare_slot-spare.result) × (s.spare_slot-spare.result < length (records (start placed)))
   room =
       let k = spare-room (start placed).args.r (records (start placed)) (place placed) below in
       (omega (arith, spare-is, k.0), omega (arith, spare-is, k.1))
 
-insert-record-requires : tie.Need-insert-record-requires
+insert-record-requires : tie.Need-insert_record-requires
 insert-record-requires c κs =
     let k = room c.before in
     ((start (placed c.before)).requires.exact, omega (arith, k.0, k.1))
 
-returns : tie.Need-returns
+returns : tie.Need-returns-then-i-count
 returns c =
     let call = c.before.before in
     let s = call.before.before in
     let p = placed s in
     let o = start p in
-    let m = s.spare-slot.result - p.place_of.result in
-    let ends : p.place_of.result + m ≡ spare_slot (length (records o)) (used_slots (records o)) =
+    let m = s.spare_slot-spare.result - p.place_of-i.result in
+    let ends : p.place_of-i.result + m ≡ spare_slot (length (records o)) (used_slots (records o)) =
     omega (arith, (room s).0, spare-is s) in
-    call.insert-record.ensures ∙
-    ap (left_by o) (inserted o.args.r (records o) (place p) (below s) o.pre.order m ends)
+    call.insert_record.ensures ∙
+    ap (left_by o) (inserted o.args.r (records o) (place p) (below s) o.requires.order m ends)
 
-returns-2 : tie.Need-returns-2
+returns-2 : tie.Need-returns-else-i-count
 unfolding room_in
 returns-2 c =
     let p = c.before in
     let o = start p in
-    let full = insert-full o.args.r (records o) (omega (arith, c.if1.false, place p, count-is o)) in
-    sym o.pre.exact.laid ∙ ap (left_by o) (sym full)
+    let full = insert-full o.args.r (records o) (omega (arith, c.if-i-count.false, place p, count-is o)) in
+    sym o.requires.exact.laid ∙ ap (left_by o) (sym full)
 
-pub write-record-spec : {M : Type 1} → statement M
-write-record-spec =
+pub write_record_spec : {M : Type 1} → statement M
+write_record_spec =
     tie.close
     (tie.spec
     (λ c. omega (arith, (order c.before).size)) (λ c κs. search rules) place-of-requires
