@@ -7,23 +7,23 @@ use Rattle.rules.specs.Acceptance.{prunes_at}
 use Rattle.effects.proofs.decide_prune.Statement.{statement}
 use Rattle.effects.proofs.decide_prune.Tie as tie
 
-sequence-in-requires : tie.Need-sequence-in-requires
+sequence-in-requires : tie.Need-sequence_in-requires
 unfolding body parts_size
-sequence-in-requires c κs = omega (arith, c.before.before.requires.0)
+sequence-in-requires c κs = omega (arith, c.requires.0)
 
 returns : tie.Need-returns
 unfolding prunes_at sequence_from body size_before
 returns c =
-    let edit = c.before in
-    let sequence = edit.before in
+    let edit = c in
+    let sequence = c in
     rw (
       c.nothing.ensures,
       edit.pruned.ensures,
-      sequence.sequence-in.ensures,
-      sequence.before.pruned-end.ensures,
+      sequence.sequence_in.ensures,
+      sequence.pruned_end.ensures,
     )
 
-pub decide-prune-spec : {M : Type 1} → statement M
-decide-prune-spec =
+pub decide_prune_spec : {M : Type 1} → statement M
+decide_prune_spec =
     tie.close
     (tie.spec (λ c κs. search rules) sequence-in-requires (λ c κs. search rules) (λ c κs. search rules) returns)
