@@ -7,7 +7,7 @@ use Rattle.rows.proofs.had_acknowledgement.Tie as tie
 
 returns : tie.Need-returns
 unfolding had_acknowledgement ◌or◌
-returns c = rw (← c.before.has-record.ensures, ← c.is-pruned.ensures)
+returns c = rw (← c.has_record.ensures, ← c.is_pruned.ensures)
 
-pub had-acknowledgement-spec : {M : Type 1} → statement M
-had-acknowledgement-spec = tie.close (tie.spec (λ c κs. search rules) (λ c κs. search rules) returns)
+pub had_acknowledgement_spec : {M : Type 1} → statement M
+had_acknowledgement_spec = tie.close (tie.spec (λ c κs. search rules) (λ c κs. search rules) returns)
