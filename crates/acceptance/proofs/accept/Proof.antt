@@ -24,28 +24,28 @@ store o = o.args.store.now
 abbrev output : tie.Start → List ℕ
 output o = o.args.output.now
 
-abbrev first : tie.After-shared-slice-known → tie.Start
+abbrev first : tie.After-shared_slice_known-1 → tie.Start
 first k = k.before.before.before
 
-accepted : (k : tie.After-shared-slice-known) → Ready (store (first k)) (first k).args.datagram.now
+accepted : (k : tie.After-shared_slice_known-1) → Ready (store (first k)) (first k).args.datagram.now
 accepted k =
     let o = first k in
     let d = o.args.datagram.now in
-    ready (store o) (output o) d o.pre.0 (bytes-get_or d (λ i. omega (arith, k.shared-slice-known.given i)))
+    ready (store o) (output o) d o.requires.0 (bytes-get_or d (λ i. omega (arith, k.shared_slice_known-1.given i)))
 
-abbrev start : tie.After-plan-for → tie.Start
-start p = first p.before.before
+abbrev start : tie.After-plan_for-p → tie.Start
+start p = first p.before
 
-plan-for-requires : tie.Need-plan-for-requires
-plan-for-requires c κs = let k = c.before in (accepted k, (first k).requires.1)
+plan-for-requires : tie.Need-plan_for-p-requires
+plan-for-requires c κs = let k = c in (accepted k, (first k).requires.1)
 
-carry-out-requires : tie.Need-carry-out-requires
-carry-out-requires c κs = let p = c.before in ((accepted p.before.before).fit, p.plan-for.ensures.1.1)
+carry-out-requires : tie.Need-carry_out-requires
+carry-out-requires c κs = let p = c.before in ((accepted p.before).fit, p.plan_for-p.ensures.1.1)
 
-emit-record-requires : tie.Need-emit-record-requires
+emit-record-requires : tie.Need-emit_record-requires
 emit-record-requires c κs =
     let o = start c.before.before.before.before.before.before in
-    output-room (store o) (output o) o.args.datagram.now o.pre.0
+    output-room (store o) (output o) o.args.datagram.now o.requires.0
 
 returns : tie.Need-returns
 unfolding next_store
@@ -54,20 +54,20 @@ returns c =
     let w = e.before.before.before.before.before in
     let p = w.before.before in
     let o = start p in
-    let planned = p.plan-for.ensures in
+    let planned = p.plan_for-p.ensures in
     let effect = planned.1.0 in
     let s = store_in (store o) in (
-      e.emit-record.ensures.1 ∙ ap (λ (x : Effect). length x.emitted) effect,
+      e.emit_record.ensures.1 ∙ ap (λ (x : Effect). length x.emitted) effect,
       (
-        w.carry-out.ensures ∙
-            ap (λ (x : Context). bytes_of (applied s x (effect_by p.plan-for.result.decision))) planned.0 ∙
+        w.carry_out.ensures ∙
+            ap (λ (x : Context). bytes_of (applied s x (effect_by p.plan_for-p.result.decision))) planned.0 ∙
             ap (λ (x : Effect). bytes_of (applied s (datagram_in o.args.datagram.now).context x)) effect,
-        e.emit-record.ensures.0 ∙ ap (λ (x : Effect). at_front x.emitted (output o)) effect,
+        e.emit_record.ensures.0 ∙ ap (λ (x : Effect). at_front x.emitted (output o)) effect,
       ),
     )
 
-pub accept-spec : {M : Type 1} → statement M
-accept-spec =
+pub accept_spec : {M : Type 1} → statement M
+accept_spec =
     tie.close
     (tie.spec
     plan-for-requires carry-out-requires emit-record-requires (λ c. search rules) (λ c. search rules) returns)

@@ -34,57 +34,57 @@ room : (o : tie.Start) → records_from ≤ length (store o)
 room o = omega (arith, (fit-in-order (store o) o.requires.0.fit).size)
 
 -- WHAT IS READ: the channel, its end, and the next channel number
-abbrev start : tie.After-channel-in → tie.Start
+abbrev start : tie.After-channel_in-number → tie.Start
 start i = i.before.before.before.before
 
-number : (i : tie.After-channel-in) → i.channel-in.result ≡ (datagram_in (datagram_got (start i))).channel
+number : (i : tie.After-channel_in-number) → i.channel_in-number.result ≡ (datagram_in (datagram_got (start i))).channel
 unfolding datagram_in
 number i =
-    i.channel-in.ensures ∙ ap (λ (k : ℕ). channel_from (kind_of k) (datagram_got (start i)))
-    i.before.kind-in.ensures
+    i.channel_in-number.ensures ∙ ap (λ (k : ℕ). channel_from (kind_of k) (datagram_got (start i)))
+    i.kind_in-kind.ensures
 
-found : (f : tie.After-find-channel) → let o = start f.before in
-    f.find-channel.result ≡
+found : (f : tie.After-find_channel-found) → let o = start f.before in
+    f.find_channel-found.result ≡
     first_that (is_numbered (datagram_in (datagram_got o)).channel) (store_in (store o)).channels
 found f =
-    f.find-channel.ensures ∙
+    f.find_channel-found.ensures ∙
     ap (λ (n : ℕ). first_that (is_numbered n) (store_in (store (start f.before))).channels) (number f.before)
 
-end : (e : tie.After-end-of) → let o = start e.before.before in
-    e.end_of_lem.result ≡ or_none (end_for (store_in (store o)) (datagram_in (datagram_got o)))
+end : (e : tie.After-end_of-c) → let o = start e.before.before in
+    e.end_of-c.result ≡ or_none (end_for (store_in (store o)) (datagram_in (datagram_got o)))
 end e =
     let i = e.before.before in
-    e.end_of_lem.ensures ∙ ap (λ (n : ℕ). or_none (channel_at n (store_in (store (start i))).channels)) (number i)
+    e.end_of-c.ensures ∙ ap (λ (n : ℕ). or_none (channel_at n (store_in (store (start i))).channels)) (number i)
 
-next : (u : tie.After-u64-at) → u.u64-at.result ≡ (store_in (store (start u.before.before.before))).next
+next : (u : tie.After-u64_at-next) → u.u64_at-next.result ≡ (store_in (store (start u.before.before.before))).next
 unfolding store_in
-next u = u.u64-at.ensures
+next u = u.u64_at-next.ensures
 
 -- WHAT THE CALLS REQUIRE
-channel-in-requires : tie.Need-channel-in-requires
-channel-in-requires c κs = rw c.kind-in.ensures (omega (arith, (sound c.before.before.before).size))
+channel-in-requires : tie.Need-channel_in-number-requires
+channel-in-requires c κs = rw c.kind_in-kind.ensures (omega (arith, (sound c.before.before.before).size))
 
-decide-requires : tie.Need-decide-requires
+decide-requires : tie.Need-decide-decision-requires
 decide-requires c κs =
     let i = c.before.before.before in
     let o = start i in
     let s = sound o in
-    let kind = i.before.kind-in.ensures in
+    let kind = i.kind_in-kind.ensures in
     let k = ap kind_of kind in (
       ap is_some k ∙ s.known,
       rw k (omega (arith, s.size)),
-      planned-left (store o) (datagram_got o) kind (next c) (end c.before) o.pre.0,
+      planned-left (store o) (datagram_got o) kind (next c) (end c.before) o.requires.0,
     )
 
-number-after-requires : tie.Need-number-after-requires
+number-after-requires : tie.Need-number_after-requires
 number-after-requires c κs =
     let decision = c.before.before in
     let u = decision.before in
     let i = u.before.before.before in
     let o = start i in
-    let below : u.u64-at.result ≤ top = omega arith in
-    planned-number (store o) (datagram_got o) i.before.kind-in.ensures (next u) (end u.before)
-    decision.decide.ensures below o.pre.0
+    let below : u.u64_at-next.result ≤ top = omega arith in
+    planned-number (store o) (datagram_got o) i.kind_in-kind.ensures (next u) (end u.before)
+    decision.decide-decision.ensures below o.requires.0
 
 returns : tie.Need-returns
 unfolding datagram_in
@@ -95,28 +95,28 @@ returns c =
     let u = decision.before in
     let i = u.before.before.before in
     let o = start i in
-    let kind = i.before.kind-in.ensures in
-    let ends = ap (λ (x : Effect). x.ends) decision.decide.ensures in (
-      context.context-in.ensures,
+    let kind = i.kind_in-kind.ensures in
+    let ends = ap (λ (x : Effect). x.ends) decision.decide-decision.ensures in (
+      context.context_in.ensures,
       (
-        planned-effect (store o) (datagram_got o) kind (next u) (end u.before) decision.decide.ensures,
+        planned-effect (store o) (datagram_got o) kind (next u) (end u.before) decision.decide-decision.ensures,
         record {
           end =
-              c.end-slot.ensures ∙ planned-slot (store o) (datagram_got o) kind (next u) (end u.before)
-              decision.decide.result.ends decision.decide.result.end ends o.pre.0
+              c.end_slot.ensures ∙ planned-slot (store o) (datagram_got o) kind (next u) (end u.before)
+              decision.decide-decision.result.ends decision.decide-decision.result.end ends o.requires.0
               (found u.before.before);
-          next = after.number-after.ensures ∙ ap (number_after (ends_by decision.decide.result)) (next u);
-          used = o.pre.1;
+          next = after.number_after.ensures ∙ ap (number_after (ends_by decision.decide-decision.result)) (next u);
+          used = o.requires.1;
         },
       ),
     )
 
-pub plan-for-spec : {M : Type 1} → statement M
-plan-for-spec =
+pub plan_for_spec : {M : Type 1} → statement M
+plan_for_spec =
     tie.close
     (tie.spec
     (λ c κs. omega (arith, (sound c.before.before).size)) channel-in-requires (λ c κs. room (start c))
-    (λ c κs. (room (start c.before), c.find-channel.ensures))
+    (λ c κs. (room (start c.before), c.find_channel-found.ensures))
     (λ c κs. omega (arith, room (start c.before.before))) decide-requires
     (λ c κs. omega (arith, (sound (start c.before.before.before.before.before)).size)) number-after-requires
     (λ c κs. room (start c.before.before.before.before.before.before.before)) returns)
