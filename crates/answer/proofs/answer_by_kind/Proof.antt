@@ -30,238 +30,238 @@ store o = store_in o.args.store.now
 abbrev sent : Kind → tie.Start → Datagram
 sent k o = datagram_of (some k) o.args.d.now
 
-timeout-in-requires : tie.Need-timeout-in-requires
+timeout-in-requires : tie.Need-timeout_in-requires
 unfolding with_number body parts_size
-timeout-in-requires c κs = omega (arith, long c.before.before.before 1 c.match.keys2)
+timeout-in-requires c κs = omega (arith, long c.before.before.before 1 c.in-1.is)
 
-packet-in-requires : tie.Need-packet-in-requires
+packet-in-requires : tie.Need-packet_in-requires
 unfolding with_number body parts_size
-packet-in-requires c κs = omega (arith, long c.before.before.before 2 c.match.keys3)
+packet-in-requires c κs = omega (arith, long c.before.before.before 2 c.in-2.is)
 
-verdict-in-requires : tie.Need-verdict-in-requires
+verdict-in-requires : tie.Need-verdict_in-requires
 unfolding with_number body has_part ◌or◌
-verdict-in-requires c κs = (refl, long c.before.before.before.before 2 c.before.match.keys3)
+verdict-in-requires c κs = (refl, long c.before.before.before.before 2 c.in-2.is)
 
-sequence-in-requires : tie.Need-sequence-in-requires
+sequence-in-requires : tie.Need-sequence_in-requires
 unfolding with_number body parts_size
-sequence-in-requires c κs = omega (arith, long c.before.before.before 3 c.match.keys4)
+sequence-in-requires c κs = omega (arith, long c.before.before.before 3 c.in-3.is)
 
-digest-in-requires : tie.Need-digest-in-requires
+digest-in-requires : tie.Need-digest_in-requires
 unfolding with_number body has_part ◌or◌
-digest-in-requires c κs = (refl, long c.before.before.before.before 3 c.before.match.keys4)
+digest-in-requires c κs = (refl, long c.before.before.before.before 3 c.in-3.is)
 
-packet-in-requires-2 : tie.Need-packet-in-requires-2
+packet-in-requires-2 : tie.Need-packet_in-p-requires
 unfolding with_number body parts_size
-packet-in-requires-2 c κs = omega (arith, long c.before.before.before 4 c.match.keys5)
+packet-in-requires-2 c κs = omega (arith, long c.before.before.before 4 c.in-4.is)
 
-digest-in-requires-2 : tie.Need-digest-in-requires-2
+digest-in-requires-2 : tie.Need-digest_in-requires-in-4
 unfolding with_number body has_part ◌or◌
-digest-in-requires-2 c κs = (refl, long c.before.before.before.before 4 c.before.match.keys5)
+digest-in-requires-2 c κs = (refl, long c.before.before.before.before 4 c.in-4.is)
 
-verdict-in-requires-2 : tie.Need-verdict-in-requires-2
+verdict-in-requires-2 : tie.Need-verdict_in-requires-in-4
 unfolding with_number body has_part ◌or◌
 verdict-in-requires-2 c κs =
-    (refl, long c.before.before.before.before.before 4 c.before.before.match.keys5)
+    (refl, long c.before.before.before.before.before 4 c.in-4.is)
 
-packet-in-requires-3 : tie.Need-packet-in-requires-3
+packet-in-requires-3 : tie.Need-packet_in-requires-in-5
 unfolding with_number body parts_size
-packet-in-requires-3 c κs = omega (arith, long c.before.before.before 5 c.match.keys6)
+packet-in-requires-3 c κs = omega (arith, long c.before.before.before 5 c.in-5.is)
 
-verdict-in-requires-3 : tie.Need-verdict-in-requires-3
+verdict-in-requires-3 : tie.Need-verdict_in-requires-in-5
 unfolding with_number body has_part ◌or◌
-verdict-in-requires-3 c κs = (refl, long c.before.before.before.before 5 c.before.match.keys6)
+verdict-in-requires-3 c κs = (refl, long c.before.before.before.before 5 c.in-5.is)
 
-version-place-requires : tie.Need-version-place-requires
+version-place-requires : tie.Need-version_place-requires
 unfolding with_number body has_part ◌or◌
 version-place-requires c κs = refl
 
-version-fits-requires : tie.Need-version-fits-requires
+version-fits-requires : tie.Need-version_fits-requires
 unfolding with_number body size_before parts_size
 version-fits-requires c κs =
-    omega (arith, c.version-place.ensures, long c.before.before.before.before 6 c.before.match.keys7)
+    omega (arith, c.version_place.ensures, long c.before.before.before.before 6 c.in-6.is)
 
-answer-try-requires : tie.Need-answer-try-requires
+answer-try-requires : tie.Need-answer_try-requires
 unfolding with_number
 answer-try-requires c κs =
     let o = c.before.before.before in
-    (omega (arith, o.requires.records.size), long o 7 c.match.keys8, o.requires.context)
+    (omega (arith, o.requires.records.size), long o 7 c.in-7.is, o.requires.context)
 
-counterparty-channel-in-requires : tie.Need-counterparty-channel-in-requires
+counterparty-channel-in-requires : tie.Need-counterparty_channel_in-requires
 unfolding with_number body has_part ◌or◌
-counterparty-channel-in-requires c κs = (refl, long c.before.before.before 8 c.match.keys9)
+counterparty-channel-in-requires c κs = (refl, long c.before.before.before 8 c.in-8.is)
 
-end-verdict-in-requires : tie.Need-end-verdict-in-requires
+end-verdict-in-requires : tie.Need-end_verdict_in-requires
 unfolding with_number body has_part ◌or◌
-end-verdict-in-requires c κs = (refl, long c.before.before.before.before 8 c.before.match.keys9)
+end-verdict-in-requires c κs = (refl, long c.before.before.before.before 8 c.in-8.is)
 
-end-verdict-in-requires-2 : tie.Need-end-verdict-in-requires-2
+end-verdict-in-requires-2 : tie.Need-end_verdict_in-requires-in-9
 unfolding with_number body has_part ◌or◌
 end-verdict-in-requires-2 c κs =
-    (refl, long c.before.before.before 9 c.match.keys10)
+    (refl, long c.before.before.before 9 c.in-9.is)
 
-end-verdict-in-requires-3 : tie.Need-end-verdict-in-requires-3
+end-verdict-in-requires-3 : tie.Need-end_verdict_in-requires-in-11
 unfolding with_number body has_part ◌or◌
-end-verdict-in-requires-3 c κs = (refl, long c.before.before.before 11 c.match.keys12)
+end-verdict-in-requires-3 c κs = (refl, long c.before.before.before 11 c.in-11.is)
 
-packet-in-requires-4 : tie.Need-packet-in-requires-4
+packet-in-requires-4 : tie.Need-packet_in-p-requires-in-12
 unfolding with_number body parts_size
-packet-in-requires-4 c κs = omega (arith, long c.before.before.before 12 c.match.keys13)
+packet-in-requires-4 c κs = omega (arith, long c.before.before.before 12 c.in-12.is)
 
-end-verdict-in-requires-4 : tie.Need-end-verdict-in-requires-4
+end-verdict-in-requires-4 : tie.Need-end_verdict_in-requires-in-12
 unfolding with_number body has_part ◌or◌
-end-verdict-in-requires-4 c κs = (refl, long c.before.before.before.before 12 c.before.match.keys13)
+end-verdict-in-requires-4 c κs = (refl, long c.before.before.before.before 12 c.in-12.is)
 
-verdict-in-requires-4 : tie.Need-verdict-in-requires-4
+verdict-in-requires-4 : tie.Need-verdict_in-requires-in-12
 unfolding with_number body has_part ◌or◌
 verdict-in-requires-4 c κs =
-    (refl, long c.before.before.before.before.before 12 c.before.before.match.keys13)
+    (refl, long c.before.before.before.before.before 12 c.in-12.is)
 
-sequence-in-requires-2 : tie.Need-sequence-in-requires-2
+sequence-in-requires-2 : tie.Need-sequence_in-requires-in-13
 unfolding with_number body parts_size
-sequence-in-requires-2 c κs = omega (arith, long c.before.before.before 13 c.match.keys14)
+sequence-in-requires-2 c κs = omega (arith, long c.before.before.before 13 c.in-13.is)
 
-verdict-in-requires-5 : tie.Need-verdict-in-requires-5
+verdict-in-requires-5 : tie.Need-verdict_in-requires-in-13
 unfolding with_number body has_part ◌or◌
-verdict-in-requires-5 c κs = (refl, long c.before.before.before.before 13 c.before.match.keys14)
+verdict-in-requires-5 c κs = (refl, long c.before.before.before.before 13 c.in-13.is)
 
-second-in-requires : tie.Need-second-in-requires
+second-in-requires : tie.Need-second_in-requires
 unfolding with_number body parts_size
 second-in-requires c κs =
-    omega (arith, long c.before.before.before.before.before 13 c.before.before.match.keys14)
+    omega (arith, long c.before.before.before.before.before 13 c.in-13.is)
 
-returns : tie.Need-returns
+returns : tie.Need-returns-in-1
 unfolding with_number body size_before timeout_from
 returns c =
     let m = c.before.before in
     let o = m.before.before.before in
-    rw m.match.keys2 (c.send-row.ensures (sent send o) o.requires.context (sym c.before.timeout-in.ensures))
+    rw m.in-1.is (c.send_row.ensures (sent send o) o.requires.context (sym c.timeout_in.ensures))
 
-returns-2 : tie.Need-returns-2
+returns-2 : tie.Need-returns-in-2
 unfolding with_number body size_before packet_from
 returns-2 c =
     let m = c.before.before.before in
     let o = m.before.before.before in
-    rw m.match.keys3
-    (c.receive-row.ensures (sent receive o) o.requires.context (sym c.before.before.packet-in.ensures)
-    (sym c.before.verdict-in.ensures))
+    rw m.in-2.is
+    (c.receive_row.ensures (sent receive o) o.requires.context (sym c.packet_in.ensures)
+    (sym c.verdict_in.ensures))
 
-returns-3 : tie.Need-returns-3
+returns-3 : tie.Need-returns-in-3
 unfolding with_number body size_before sequence_from
 returns-3 c =
     let m = c.before.before.before in
     let o = m.before.before.before in
-    rw m.match.keys4
-    (c.write-row.ensures (sent write o) (sym c.before.before.sequence-in.ensures)
-    (sym c.before.digest-in.ensures))
+    rw m.in-3.is
+    (c.write_row.ensures (sent write o) (sym c.sequence_in.ensures)
+    (sym c.digest_in.ensures))
 
-returns-4 : tie.Need-returns-4
+returns-4 : tie.Need-returns-in-4
 unfolding with_number body size_before packet_from
 returns-4 c =
     let m = c.before.before.before.before in
     let o = m.before.before.before in
-    rw m.match.keys5
-    (c.acknowledge-row.ensures (sent acknowledge o) o.requires.context
-    (sym c.before.before.before.packet-in2.ensures) (sym c.before.before.digest-in2.ensures)
-    (sym c.before.verdict-in2.ensures))
+    rw m.in-4.is
+    (c.acknowledge_row.ensures (sent acknowledge o) o.requires.context
+    (sym c.packet_in-p.ensures) (sym c.digest_in-in-4.ensures)
+    (sym c.verdict_in-in-4.ensures))
 
-returns-5 : tie.Need-returns-5
+returns-5 : tie.Need-returns-in-5
 unfolding with_number body size_before packet_from
 returns-5 c =
     let m = c.before.before.before in
     let o = m.before.before.before in
-    rw m.match.keys6
-    (c.time-out-row.ensures (sent time_out o) (sym c.before.before.packet-in3.ensures)
-    (sym c.before.verdict-in3.ensures))
+    rw m.in-5.is
+    (c.time_out_row.ensures (sent time_out o) (sym c.packet_in-in-5.ensures)
+    (sym c.verdict_in-in-5.ensures))
 
-returns-6 : tie.Need-returns-6
+returns-6 : tie.Need-returns-in-6
 unfolding with_number version_from
 returns-6 c =
     let m = c.before.before.before in
     let o = m.before.before.before in
     let b = o.args.d.now in
-    rw m.match.keys7
-    (c.open-init-row.ensures (sent open_init o) o.args.c
-    (sym (c.before.version-fits.ensures ∙
-    ap (λ (n : ℕ). version_fits (drop n b)) c.before.before.version-place.ensures)))
+    rw m.in-6.is
+    (c.open_init_row.ensures (sent open_init o) o.args.c
+    (sym (c.version_fits.ensures ∙
+    ap (λ (n : ℕ). version_fits (drop n b)) c.version_place.ensures)))
 
-returns-7 : tie.Need-returns-7
+returns-7 : tie.Need-returns-in-7
 unfolding with_number
 returns-7 c =
-    let m = c.before in
-    let o = m.before.before.before in
-    rw m.match.keys8 (c.answer-try.ensures o.args.c)
+    let m = c in
+    let o = c in
+    rw m.in-7.is (c.answer_try.ensures o.args.c)
 
-returns-8 : tie.Need-returns-8
+returns-8 : tie.Need-returns-in-8
 unfolding with_number
 returns-8 c =
     let m = c.before.before.before in
     let o = m.before.before.before in
-    rw m.match.keys9
-    (c.open-acknowledge-row.ensures (store o) (sent open_acknowledge o) o.requires.context
-    (sym c.before.before.counterparty-channel-in.ensures) (sym c.before.end-verdict-in.ensures))
+    rw m.in-8.is
+    (c.open_acknowledge_row.ensures (store o) (sent open_acknowledge o) o.requires.context
+    (sym c.counterparty_channel_in.ensures) (sym c.end_verdict_in.ensures))
 
-returns-9 : tie.Need-returns-9
+returns-9 : tie.Need-returns-in-9
 unfolding with_number
 returns-9 c =
     let m = c.before.before in
     let o = m.before.before.before in
-    rw m.match.keys10
-    (c.open-confirm-row.ensures (store o) (sent open_confirm o) o.requires.context
-    (sym c.before.end-verdict-in2.ensures))
+    rw m.in-9.is
+    (c.open_confirm_row.ensures (store o) (sent open_confirm o) o.requires.context
+    (sym c.end_verdict_in-in-9.ensures))
 
-returns-10 : tie.Need-returns-10
+returns-10 : tie.Need-returns-in-10
 unfolding with_number
 returns-10 c =
     let m = c.before in
     let o = m.before.before.before in
-    rw m.match.keys11 (c.close-init-row.ensures (store o) (sent close_init o) o.requires.context)
+    rw m.in-10.is (c.close_init_row.ensures (store o) (sent close_init o) o.requires.context)
 
-returns-11 : tie.Need-returns-11
+returns-11 : tie.Need-returns-in-11
 unfolding with_number
 returns-11 c =
     let m = c.before.before in
     let o = m.before.before.before in
-    rw m.match.keys12
-    (c.close-confirm-row.ensures (store o) (sent close_confirm o) o.requires.context
-    (sym c.before.end-verdict-in3.ensures))
+    rw m.in-11.is
+    (c.close_confirm_row.ensures (store o) (sent close_confirm o) o.requires.context
+    (sym c.end_verdict_in-in-11.ensures))
 
-returns-12 : tie.Need-returns-12
+returns-12 : tie.Need-returns-in-12
 unfolding with_number body size_before packet_from
 returns-12 c =
     let m = c.before.before.before.before in
     let o = m.before.before.before in
-    rw m.match.keys13
-    (c.time-out-on-close-row.ensures (sent time_out_on_close o) (sym c.before.before.before.packet-in4.ensures)
-    (sym c.before.before.end-verdict-in4.ensures) (sym c.before.verdict-in4.ensures))
+    rw m.in-12.is
+    (c.time_out_on_close_row.ensures (sent time_out_on_close o) (sym c.packet_in-p-in-12.ensures)
+    (sym c.end_verdict_in-in-12.ensures) (sym c.verdict_in-in-12.ensures))
 
-returns-13 : tie.Need-returns-13
+returns-13 : tie.Need-returns-in-13
 unfolding with_number body size_before sequence_from second_from
 returns-13 c =
     let m = c.before.before.before.before in
     let o = m.before.before.before in
-    rw m.match.keys14
-    (c.prune-row.ensures (store o) (sent prune o) (sym c.before.before.before.sequence-in2.ensures)
-    (sym c.before.before.verdict-in5.ensures) (sym c.before.second-in.ensures))
+    rw m.in-13.is
+    (c.prune_row.ensures (store o) (sent prune o) (sym c.sequence_in-in-13.ensures)
+    (sym c.verdict_in-in-13.ensures) (sym c.second_in.ensures))
 
 -- a sound datagram is of no other kind
 no_other : {A : Type 0} {x : Option Kind} → is_some x ≡ true → x ≡ none → A
 no_other h e = clash {b = false} (sym (ap is_some e) ∙ h) refl
 
-returns-14 : tie.Need-returns-14
+returns-14 : tie.Need-returns-in-0
 unfolding with_number
-returns-14 c = no_other c.before.before.before.requires.known (ap (λ (n : ℕ). kind_of n) c.match.keys1)
+returns-14 c = no_other c.requires.known (ap (λ (n : ℕ). kind_of n) c.in-0.in-0-own.keys1)
 
 abbrev arms : List (List ℕ)
 arms = map (λ (n : ℕ). n ∷ []) (0 ∷ 1 ∷ 2 ∷ 3 ∷ 4 ∷ 5 ∷ 6 ∷ 7 ∷ 8 ∷ 9 ∷ 10 ∷ 11 ∷ 12 ∷ 13 ∷ [])
 
-returns-15 : tie.Need-returns-15
+returns-15 : tie.Need-returns-in-0-2
 returns-15 c =
-    let o = c.before.before.before in
+    let o = c in
     no_other o.requires.known
-    (by_kind (λ (n : ℕ). kind_of n ≡ none) arms 0 o.args.kind c.match.rest (omega arith, λ e. e))
+    (by_kind (λ (n : ℕ). kind_of n ≡ none) arms 0 o.args.kind c.in-0.in-0-own.rest (omega arith, λ e. e))
 
-pub answer-by-kind-spec : {M : Type 1} → statement M
-answer-by-kind-spec =
+pub answer_by_kind_spec : {M : Type 1} → statement M
+answer_by_kind_spec =
     tie.close
     (tie.spec
     timeout-in-requires (λ c κs. search rules) packet-in-requires verdict-in-requires (λ c κs. search rules)

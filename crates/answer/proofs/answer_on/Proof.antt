@@ -35,65 +35,65 @@ module _ (o : tie.Start) where
   sent = datagram_of (kind_of o.args.kind) o.args.datagram.now
 
 -- THE CHANNEL END
-abbrev start : tie.After-find-channel → tie.Start
+abbrev start : tie.After-find_channel → tie.Start
 start f = f.before.before.before.before
 
-scanned : (f : tie.After-find-channel) →
+scanned : (f : tie.After-find_channel) →
     let o = start f in
-    f.find-channel.result ≡ first_that (is_numbered (sent o).channel) (store_in (bytes o)).channels
-scanned f = rw (← f.before.channel-in.ensures) f.find-channel.ensures
+    f.find_channel.result ≡ first_that (is_numbered (sent o).channel) (store_in (bytes o)).channels
+scanned f = rw (← f.channel_in.ensures) f.find_channel.ensures
 
-abbrev index : tie.After-known-told → ℕ
-index k = k.before.j.given.0.0
+abbrev index : tie.In-At → ℕ
+index k = k.in-At.j
 
-abbrev origin : tie.After-known-told → tie.Start
-origin k = start k.before.before.before
+abbrev origin : tie.In-At → tie.Start
+origin k = start k.before
 
-found : (k : tie.After-known-told) →
+found : (k : tie.In-At) →
     first_that (is_numbered (sent (origin k)).channel) (store_in (bytes (origin k))).channels ≡ At (index k)
-found k = sym (scanned k.before.before.before) ∙ k.before.j.given.1
+found k = sym (scanned k.before) ∙ k.in-At.is
 
-below : (k : tie.After-known-told) → index k < channel_limit
+below : (k : tie.In-At) → index k < channel_limit
 below k =
     channel-index (index k) (bytes (origin k)) (holds (is_numbered (sent (origin k)).channel)) (found k)
 
-channel-in-requires : tie.Need-channel-in-requires
-channel-in-requires c κs = c.before.before.requires.0.long
+channel-in-requires : tie.Need-channel_in-requires
+channel-in-requires c κs = c.requires.0.long
 
-returns : tie.Need-returns
+returns : tie.Need-returns-in_default
 unfolding number_behind behind table first_given
 returns c =
-    let f = c.before.before in
+    let f = c.before in
     let o = start f in
-    let nothing = sym (scanned f) ∙ c.enum_told.given.1 in
+    let nothing = sym (scanned f) ∙ c.in_default.is in
     let none = find-nothing (is_numbered (sent o).channel) 0 (store_in (bytes o)).channels nothing in
-    rw (o.pre.1, none)
+    rw (o.requires.1, none)
 
-mul-channel-at : tie.Need-overflow-mul-channel-at
+mul-channel-at : tie.Need-overflow_mul-j
 mul-channel-at c = omega (arith, below c)
 
-add-channel-at : tie.Need-overflow-add-channel-at
+add-channel-at : tie.Need-overflow_add-j
 add-channel-at c = omega (arith, below c)
 
-channel-at-requires : tie.Need-channel-at-requires
+channel-at-requires : tie.Need-channel_at-c-requires
 channel-at-requires c κs = omega (arith, below c, (origin c).requires.0.records.size)
 
 -- the answer is that of the lines behind the first n, on the channel end that is found
-abbrev Left : ℕ → tie.After-channel-at → Type 0
+abbrev Left : ℕ → tie.After-channel_at-c → Type 0
 Left n k =
     let o = origin k.before in
     let s = store_in (bytes o) in
     number_behind 4 (kind_of o.args.kind) s (sent o) (or_none (end_for s (sent o))) ≡
-    number_behind n (kind_of o.args.kind) s (sent o) k.channel-at.result
+    number_behind n (kind_of o.args.kind) s (sent o) k.channel_at-c.result
 
-past-5 : (k : tie.After-channel-at) → Left 5 k
+past-5 : (k : tie.After-channel_at-c) → Left 5 k
 unfolding number_behind behind table first_given
 past-5 k =
     let o = origin k.before in
     let there =
     channel-found (is_numbered (sent o).channel) (index k.before) (bytes o) (found k.before) ∙
-    ap (λ (c : Channel). some c) (sym k.channel-at.ensures) in
-    rw (o.pre.1, there)
+    ap (λ (c : Channel). some c) (sym k.channel_at-c.ensures) in
+    rw (o.requires.1, there)
 
 -- line 6 is for the kinds 1 to 4 and 13
 abbrev on_open : Option Kind → Bool
@@ -106,42 +106,42 @@ open-kinds n h =
     refl refl refl refl refl refl refl refl refl refl refl refl refl n tt
     (omega arith, λ e. clash {b = false} (sym (ap is_some e) ∙ h) refl)
 
-returns-2 : tie.Need-returns-2
+returns-2 : tie.Need-returns-then-kind-c
 unfolding number_behind behind table first_given ◌and◌
 returns-2 c =
     let k = c.before.before in
     let o = origin k.before in
-    sym (past-5 k ∙ rw (open-kinds o.args.kind o.pre.0.known, given_both, c.if1.true))
+    sym (past-5 k ∙ rw (open-kinds o.args.kind o.requires.0.known, given_both, c.if-kind-c.true))
 
-past-6 : (e : tie.Else1) → Left 6 e.before.before
+past-6 : (e : tie.Else-kind-c) → Left 6 e.before.before
 unfolding number_behind behind table first_given ◌and◌
 past-6 e =
     let k = e.before.before in
     let o = origin k.before in
-    past-5 k ∙ rw (open-kinds o.args.kind o.pre.0.known, given_both, e.if1.false)
+    past-5 k ∙ rw (open-kinds o.args.kind o.requires.0.known, given_both, e.if-kind-c.false)
 
-returns-3 : tie.Need-returns-3
+returns-3 : tie.Need-returns-then-x-c
 unfolding number_behind behind table first_given
 returns-3 c =
     let e1 = c.before.before.before in
     let o = origin e1.before.before.before in
-    sym (past-6 e1 ∙ rw (o.pre.1, o.pre.0.context, ne_eqb _ _ c.if2.true))
+    sym (past-6 e1 ∙ rw (o.requires.1, o.requires.0.context, ne_eqb _ _ c.if-x-c.true))
 
-past-7 : (e : tie.Else2) → Left 7 e.before.before.before.before.before
+past-7 : (e : tie.Else-x-c) → Left 7 e.before.before.before.before.before
 unfolding number_behind behind table first_given
 past-7 e =
     let e1 = e.before.before.before in
     let o = origin e1.before.before.before in
-    past-6 e1 ∙ rw (o.pre.1, o.pre.0.context, eq-eqb _ _ e.if2.false)
+    past-6 e1 ∙ rw (o.requires.1, o.requires.0.context, eq-eqb _ _ e.if-x-c.false)
 
-answer-by-kind-requires : tie.Need-answer-by-kind-requires
+answer-by-kind-requires : tie.Need-answer_by_kind-requires
 answer-by-kind-requires c κs = (origin c.before.before.before.before.before.before).requires.0
 
-returns-4 : tie.Need-returns-4
-returns-4 c = c.answer-by-kind.ensures ∙ sym (past-7 c.before)
+returns-4 : tie.Need-returns
+returns-4 c = c.answer_by_kind.ensures ∙ sym (past-7 c.before)
 
-pub answer-on-spec : {M : Type 1} → statement M
-answer-on-spec =
+pub answer_on_spec : {M : Type 1} → statement M
+answer_on_spec =
     tie.close
     (tie.spec
     channel-in-requires
