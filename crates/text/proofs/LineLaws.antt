@@ -95,9 +95,3 @@ pub line-behind : (at : ℕ) (first second text : List ℕ) {end r : ℕ} {mid a
 line-behind at first second text {end} {r} {mid} {all} p q =
     let l = length-append first second in
     (omega (arith, p.0, q.0), rw (q.1, p.1, p.0) (patch-then at (length first) first second text refl))
-
--- the tail is stored right behind the word
-pub tail-behind : (at n : ℕ) (w text : List ℕ) {r : ℕ} {mid all : List ℕ} → mid ≡ patch at w text
-    → (r ≡ (at + length w) + length (tail_of n)) × (all ≡ patch (at + length w) (tail_of n) mid)
-    → (r ≡ at + length (line_of w n)) × (all ≡ patch at (line_of w n) text)
-tail-behind at n w text p q = line-behind at w (tail_of n) text (refl, p) q
