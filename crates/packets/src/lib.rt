@@ -17,13 +17,11 @@ use slots::{Channel, Key, Layout, PortChannel, Record, Timeout};
 use tables::halves::find_record;
 use wire::{are_zero, same_digest};
 
+#[tactic(auto, using(slots::proofs::FieldLaws::by_fields))]
 fn same_port_channel(a: PortChannel, b: PortChannel) -> bool
     ensures { result ≡ same_port_channel a b }
 {
-    if a.port != b.port {
-        return false;
-    }
-    a.channel == b.channel
+    a == b
 }
 
 // 8: the connection is not open.

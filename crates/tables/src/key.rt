@@ -31,16 +31,11 @@ pub(crate) fn has_key(s: &[u8], at: usize, k: Key) -> bool
 }
 
 // By channel, then kind, then sequence.
+#[tactic(auto, using(slots::proofs::FieldLaws::by_fields))]
 fn is_before(a: Key, b: Key) -> bool
     ensures { result ≡ is_before a b }
 {
-    if a.channel != b.channel {
-        return a.channel < b.channel;
-    }
-    if a.kind != b.kind {
-        return a.kind < b.kind;
-    }
-    a.sequence < b.sequence
+    a < b
 }
 
 // A free slot stands behind every key.
