@@ -7,7 +7,7 @@ pub mod read; // the parts, read by value
 use slots::{Channel, OtherHeight, OtherTime, OwnHeight, OwnTime, PortChannel, Timeout};
 
 // A block of the other ledger.
-#[derive(Clone, Copy)]
+#[derive(Clone, Copy, PartialEq, Eq)]
 pub struct Block {
     pub height: OtherHeight,
     pub time: OtherTime,
@@ -15,7 +15,7 @@ pub struct Block {
 
 // What the host says of the call: this ledger's height and time, the latest block of the other ledger that the client
 // knows, the caller's port, and whether the connection is open.
-#[derive(Clone, Copy)]
+#[derive(Clone, Copy, PartialEq, Eq)]
 pub struct Context {
     pub height: OwnHeight,
     pub time: OwnTime,
@@ -24,7 +24,7 @@ pub struct Context {
     pub connected: bool,
 }
 
-#[derive(Clone, Copy)]
+#[derive(Clone, Copy, PartialEq, Eq)]
 pub struct Packet {
     pub sequence: u64,
     pub timeout: Timeout,
@@ -34,7 +34,7 @@ pub struct Packet {
 }
 
 // What the host's light client found of the other ledger, at a block there.
-#[derive(Clone, Copy)]
+#[derive(Clone, Copy, PartialEq, Eq)]
 pub struct Verdict {
     pub claim: u16,
     pub block: Block,
@@ -59,7 +59,7 @@ impl Verdict {
 }
 
 // What it found of a channel end there.
-#[derive(Clone, Copy)]
+#[derive(Clone, Copy, PartialEq, Eq)]
 pub struct EndVerdict {
     pub claim: u16,
     pub block: Block,

@@ -17,67 +17,52 @@ fn raised(counter: u64, rises: bool) -> u64
     requires { (rises and eqb counter top) ≡ false }
     ensures { result ≡ pick rises (counter + 1) counter }
 {
-    if rises {
-        return counter + 1;
-    }
-    counter
+    if rises { counter + 1 } else { counter }
 }
 
-fn with_counters(c: Channel, next: Counters) -> Channel
-    ensures { result ≡ counted c next }
-{
-    let own = c.own;
-    let counterparty = c.counterparty;
-    let version = c.version;
-    Channel {
-        state: c.state,
-        order: c.order,
-        own: own,
-        counterparty: counterparty,
-        next: next,
-        version: version,
-    }
-}
-
+#[tactic(auto, unfolding(rules::specs::Ordering::is_send_at_top, rules::specs::Ordering::counted))]
 pub fn sent_end(c: Channel) -> Channel
     requires { is_send_at_top c ≡ false }
     ensures { result ≡ counted c (raised_send c.next) }
 {
-    let next = Counters {
-        send: c.next.send + 1,
-        receive: c.next.receive,
-        acknowledge: c.next.acknowledge,
-    };
-    with_counters(c, next)
+    Channel {
+        next: Counters {
+            send: c.next.send + 1,
+            ..c.next
+        },
+        ..c
+    }
 }
 
 pub fn received_end(c: Channel) -> Channel
     requires { is_receive_at_top c ≡ false }
     ensures { result ≡ received_end c }
 {
-    let receive = raised(c.next.receive, raises_counter(c));
-    let next = Counters {
-        send: c.next.send,
-        receive: receive,
-        acknowledge: c.next.acknowledge,
-    };
-    with_counters(c, next)
+    Channel {
+        next: Counters {
+            receive: raised(c.next.receive, raises_counter(c)),
+            ..c.next
+        },
+        ..c
+    }
 }
 
 // Next acknowledge rises or stays.
+#[tactic(auto, unfolding(rules::specs::Ordering::counted))]
 fn with_acknowledge(c: Channel, rises: bool) -> Channel
     requires { (rises and eqb c.next.acknowledge top) ≡ false }
     ensures { result ≡ pick rises (counted c (raised_acknowledge c.next)) c }
 {
-    let acknowledge = raised(c.next.acknowledge, rises);
-    let next = Counters {
-        send: c.next.send,
-        receive: c.next.receive,
-        acknowledge: acknowledge,
-    };
-    with_counters(c, next)
+    Channel {
+        next: Counters {
+            acknowledge: raised(c.next.acknowledge, rises),
+            ..c.next
+        },
+        ..c
+    }
 }
 
+#[tactic(auto, unfolding(rules::specs::Ordering::is_acknowledge_at_top, rules::specs::Ordering::acknowledged_end))]
 pub fn acknowledged_end(c: Channel) -> Channel
     requires { is_acknowledge_at_top c ≡ false }
     ensures { result ≡ acknowledged_end c }
@@ -87,6 +72,7 @@ pub fn acknowledged_end(c: Channel) -> Channel
 
 // An ordered channel becomes CLOSED: no later packet of it can be received in order. Where timeouts are allowed the
 // state stays, and next acknowledge rises where it counts them.
+#[tactic(auto, unfolding(rules::specs::Ordering::is_timeout_at_top, rules::specs::Ordering::timed_out_end))]
 pub fn timed_out_end(c: Channel) -> Channel
     requires { is_timeout_at_top c ≡ false }
     ensures { result ≡ timed_out_end c }

@@ -43,13 +43,11 @@ pub fn no_timeout() -> Timeout
     Timeout { height: 0, time: 0 }
 }
 
+#[tactic(auto, using(slots::proofs::FieldLaws::by_fields))]
 pub fn same_timeout(t: Timeout, u: Timeout) -> bool
     ensures { result ≡ same_timeout t u }
 {
-    if t.height != u.height {
-        return false;
-    }
-    t.time == u.time
+    t == u
 }
 
 // 10: neither height nor time.

@@ -3,6 +3,7 @@ pub mod PlaceLaws
 pub mod RoomLaws
 pub mod OrderLaws
 pub mod KeyLaws
+pub mod FieldLaws
 pub mod RecordLaws
 pub mod RecordOrderLaws
 pub mod ChannelLaws

@@ -31,34 +31,34 @@ impl Layout {
 }
 
 // A height and a time of this ledger, and of the other one. None can stand where another is meant.
-#[derive(Clone, Copy)]
+#[derive(Clone, Copy, PartialEq, Eq, PartialOrd, Ord)]
 pub struct OwnHeight(pub u64);
 
-#[derive(Clone, Copy)]
+#[derive(Clone, Copy, PartialEq, Eq, PartialOrd, Ord)]
 pub struct OwnTime(pub u64);
 
-#[derive(Clone, Copy)]
+#[derive(Clone, Copy, PartialEq, Eq, PartialOrd, Ord)]
 pub struct OtherHeight(pub u64);
 
-#[derive(Clone, Copy)]
+#[derive(Clone, Copy, PartialEq, Eq, PartialOrd, Ord)]
 pub struct OtherTime(pub u64);
 
 // A port and a channel of it.
-#[derive(Clone, Copy)]
+#[derive(Clone, Copy, PartialEq, Eq)]
 pub struct PortChannel {
     pub port: u16,
     pub channel: u32,
 }
 
 // A packet's timeouts, 0 for none. Whose height and time they are depends on who asks: specs/Height.antt.
-#[derive(Clone, Copy)]
+#[derive(Clone, Copy, PartialEq, Eq)]
 pub struct Timeout {
     pub height: u64,
     pub time: u64,
 }
 
 // The next sequence to send, to receive and to acknowledge.
-#[derive(Clone, Copy)]
+#[derive(Clone, Copy, PartialEq, Eq)]
 pub struct Counters {
     pub send: u64,
     pub receive: u64,
@@ -69,7 +69,7 @@ pub struct Counters {
 pub const VERSION: usize = 24;
 
 // A channel end. Its version has zeros behind it. An INIT end does not know its counterparty's channel: it is 0.
-#[derive(Clone, Copy)]
+#[derive(Clone, Copy, PartialEq, Eq)]
 pub struct Channel {
     pub state: u8,
     pub order: u8,
@@ -99,7 +99,7 @@ impl Channel {
 }
 
 // A packet record.
-#[derive(Clone, Copy)]
+#[derive(Clone, Copy, PartialEq, Eq)]
 pub struct Record {
     pub kind: u16,
     pub channel: u32,
@@ -119,17 +119,10 @@ impl Record {
     pub const TIMEOUT_RECEIPT: u16 = 4;
 }
 
-// What a packet record is found by.
-#[derive(Clone, Copy)]
+// What a packet record is found by. Keys are ordered by channel, then kind, then sequence.
+#[derive(Clone, Copy, PartialEq, Eq, PartialOrd, Ord)]
 pub struct Key {
-    pub kind: u16,
     pub channel: u32,
+    pub kind: u16,
     pub sequence: u64,
-}
-
-// One of a table's slots by its index, or none of them.
-#[derive(Clone, Copy)]
-pub enum Found {
-    At(usize),
-    Nothing,
 }
