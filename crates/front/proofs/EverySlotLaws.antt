@@ -1,6 +1,6 @@
 -- Laws of a test of each slot of a table, turn by turn; and the tests of a fit store by its parts. Assumes nothing.
 use mathlib.Core.Path.{◌≡◌, refl, sym, ap, subst, ◌∙◌}
-use mathlib.Core.Bool.{Bool, true, false, not}
+use mathlib.Core.Bool.{Bool, true, false}
 use mathlib.Core.List.{List, [], ◌∷◌, ◌++◌, map, append_assoc, append-nil}
 use mathlib.Core.Option.{Option, none, some}
 use Prim.Native.Nat.{ℕ, zero, suc, ◌+◌, ◌*◌, ◌≤◌, ◌<◌}
@@ -9,7 +9,6 @@ use native.Mathlib.Omega.{arith}
 use lib.Dec.{leb}
 use lib.ListN.{length, take, drop, length-drop, take-append-drop, drop_of_length-le}
 use lib.Seq.{length-take-le, drop-drop}
-use borrow.Author.Tests.{not-true, not-false}
 use Rattle.std.specs.Bool.{MatchBool}
 use Rattle.wire.specs.Choice.{◌and◌, ◌or◌}
 use Rattle.wire.specs.Bytes.{same, are_zero, part, field, pieces, digest_size}
@@ -71,7 +70,7 @@ module _ (t : List ℕ → List (List ℕ) → Bool) (start n : ℕ) (bs : List 
       MatchBool r ((k : ℕ) → 0 ≤ k → k < n → Tests true k) ((k : ℕ) × (0 ≤ k) × (k < n) × Tests false k) →
       r ≡ every_from 0
   every-in true h = passed n (up n (omega arith) (λ k l. h k (omega arith) l)) (omega arith)
-  every-in false h = 
+  every-in false h =
       let e : 0 + h.0 ≡ h.0 = omega arith in
       down h.0 0 (omega (arith, h.2)) (subst (Tests false) (sym e) h.3)
 

@@ -15,5 +15,5 @@ invariant-loop-k l =
       passed : Up (test l.s l.kind l.wanted) l.fn.i l.k;
       low : l.fn.q ≤ l.m;
       high : l.m ≤ l.fn.i;
-      below : l.k < l.e → (x : ℕ) → l.fn.q ≤ x → x < l.m → (key_at l.s x).sequence < (key_at l.s l.k).sequence
+      below : l.k < l.e → (x : ℕ) → l.fn.q ≤ x → x < l.m → (key_at l.s x).sequence < (key_at l.s l.k).sequence;
     }

@@ -25,6 +25,6 @@ loop-k-preserved c =
     let own : (key_at s k).sequence < c.args.sequence =
     omega (arith, c.if-sequence-u64_at.false, c.u64_at.ensures, sequence-at s k) in
     λ m p n.
-        cases (eqb k m)
-        (λ e. subst (λ (x : ℕ). (key_at s x).sequence < c.args.sequence) (eqb-true k m e) own)
-        (λ e. c.loop-k.invariant m p (omega (arith, eqb-false k m e)))
+    cases (eqb k m)
+    (λ e. subst (λ (x : ℕ). (key_at s x).sequence < c.args.sequence) (eqb-true k m e) own)
+    (λ e. c.loop-k.invariant m p (omega (arith, eqb-false k m e)))

@@ -1,5 +1,5 @@
 -- All indices are asked, and so all slots. Assumes nothing.
-use Rattle.std.proofs.Common.{List, Bool, rules, tests}
+use Rattle.std.proofs.Common.{rules, tests}
 use Rattle.slots.specs.Layout.{records_from, record_bytes, record_in, store_in}
 use Rattle.slots.specs.Fit.{record_fits}
 use Rattle.slots.proofs.RangeLaws.{all_from_range}

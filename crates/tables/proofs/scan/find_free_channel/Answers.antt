@@ -1,9 +1,9 @@
 -- The search of the indices is the search of the slots. Assumes nothing.
-use Rattle.std.proofs.Common.{rules, tests, ◌∙◌, ap}
+use Rattle.std.proofs.Common.{rules, tests, ◌∙◌}
 use Rattle.std.proofs.lemmas.Iterator.{first_from_Range}
 use Rattle.slots.specs.Limits.{channel_limit}
 use Rattle.slots.specs.Layout.{header_size, channel_in}
-use Rattle.slots.specs.Scan.{is_free, first_free, slot_at}
+use Rattle.slots.specs.Scan.{is_free, slot_at}
 use Rattle.slots.proofs.TurnLaws.{channels-from, first-in}
 use Rattle.slots.proofs.SlotTestLaws.{free-slot}
 use Rattle.tables.proofs.scan.find_free_channel.Goals as goal
