@@ -4,22 +4,21 @@ use mathlib.Core.Bool.{Bool, not}
 use mathlib.Core.List.{List, [], ◌∷◌}
 use mathlib.Core.Option.{Option, none, some}
 use Prim.Native.Nat.{ℕ, suc, ◌+◌, ◌<◌}
-use native.Mathlib.Nat.{add-zero}
 use native.Mathlib.Omega.{arith}
 use lib.Dec.{eqb}
 use lib.ListN.{length, drop}
 use Rattle.wire.specs.Choice.{◌and◌, is_some}
 use Rattle.wire.specs.Bytes.{are_zero, part, field}
-use Rattle.wire.proofs.ChoiceLaws.{cases, and_assoc, and-true, and-false, and_comm}
+use Rattle.wire.proofs.ChoiceLaws.{cases, and-true, and-false}
 use Rattle.wire.proofs.PartLaws.{field-part}
 use Rattle.slots.specs.declared.Channel.{Channel}
 use Rattle.slots.specs.declared.Record.{Record}
-use Rattle.slots.specs.declared.Found.TheVariants.{At}
-use Rattle.slots.specs.Table.{find, is_numbered, Key, has_key}
+use Rattle.std.specs.Prelude.{Some, is_some as is_found}
+use Rattle.slots.specs.Table.{find, is_numbered}
 use Rattle.slots.specs.Limits.{channel_limit}
 use Rattle.slots.specs.Layout.{header_size, slot_size, records_from, size_for, room_in}
 use Rattle.slots.specs.Layout.{channel_in, record_in, slot_in, store_in}
-use Rattle.slots.specs.Scan.{index_where, is_at, is_free, holds}
+use Rattle.slots.specs.Scan.{index_where, is_free, holds}
 use Rattle.slots.proofs.FitLaws.{length-read}
 use Rattle.slots.proofs.ScanLaws.{found_below}
 
@@ -40,25 +39,10 @@ module _ (at : ℕ) (bs : List ℕ) where
   unfolding is_numbered channel_in
   number-held n = held channel_in (part at slot_size bs) (is_numbered n) ∙ rw (field-part 4 4 at slot_size bs (omega arith))
 
-  pub key-held : (k : Key) → holds (has_key k) (slot_in record_in (part at slot_size bs)) ≡
-      (eqb (field (at + 8) 8 bs) k.sequence and (eqb (field at 2 bs) k.kind and
-      eqb (field (at + 4) 4 bs) k.channel and not (are_zero (part at slot_size bs))))
-  unfolding has_key record_in
-  key-held k =
-      held record_in (part at slot_size bs) (has_key k) ∙
-      rw (
-        field-part 0 2 at slot_size bs (omega arith),
-        add-zero,
-        field-part 4 4 at slot_size bs (omega arith),
-        field-part 8 8 at slot_size bs (omega arith),
-        and_comm (eqb (field at 2 bs) k.kind and eqb (field (at + 4) 4 bs) k.channel) _,
-        and_assoc (eqb (field (at + 8) 8 bs) k.sequence) _ _,
-      )
-
 -- WHAT A SCAN FOUND
 module _ {A : Type 0} where
   -- an entry passes where a scan from any index finds one
-  pub find_at : (t : A → Bool) (n : ℕ) (xs : List (Option A)) → is_some (find t xs) ≡ is_at (index_where (holds t) n xs)
+  pub find_at : (t : A → Bool) (n : ℕ) (xs : List (Option A)) → is_some (find t xs) ≡ is_found (index_where (holds t) n xs)
   unfolding find index_where
   find_at t n [] = refl
   find_at t n (none ∷ xs) = find_at t (suc n) xs
@@ -67,14 +51,14 @@ module _ {A : Type 0} where
 
 -- AN INDEX that a scan of a store's table found is one of the table's
 module _ (i : ℕ) (bs : List ℕ) where
-  pub channel-index : (t : Option Channel → Bool) → index_where t 0 (store_in bs).channels ≡ At i → i < channel_limit
+  pub channel-index : (t : Option Channel → Bool) → index_where t 0 (store_in bs).channels ≡ Some i → i < channel_limit
   unfolding store_in
   channel-index t h =
       let l = length-read channel_in channel_limit (drop header_size bs) in
       omega (arith, found_below t i (store_in bs).channels h)
 
   pub record-index : (t : Option Record → Bool) (n : ℕ) → length bs ≡ size_for n →
-      index_where t 0 (store_in bs).records ≡ At i → i < n
+      index_where t 0 (store_in bs).records ≡ Some i → i < n
   unfolding store_in room_in
   record-index t n size h =
       let l = length-read record_in (room_in (length bs)) (drop records_from bs) in
