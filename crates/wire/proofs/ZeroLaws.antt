@@ -102,3 +102,5 @@ pointwise-zeros zero [] l = refl
 pointwise-zeros zero (x ∷ xs) l = absurd (omega arith)
 pointwise-zeros (suc n) [] l = absurd (omega arith)
 pointwise-zeros (suc n) (x ∷ xs) l = rw (pointwise-zeros n xs (omega arith), and-and)
+
+pub ruleset equal_arrays = (pointwise-same, pointwise-zeros)
