@@ -1,12 +1,12 @@
 -- Laws of bytes stored over bytes. Assumes nothing.
-use mathlib.Core.Path.{◌≡◌, refl, sym}
+use mathlib.Core.Path.{◌≡◌, refl, sym, ◌∙◌}
 use mathlib.Core.List.{List, [], ◌∷◌, ◌++◌, append_assoc}
 use Prim.Native.Nat.{ℕ, suc, ◌+◌, ◌-◌, ◌≤◌, ◌<◌}
 use native.Mathlib.Nat.{add-suc, suc-add, add-zero, zero-add}
 use native.Mathlib.Omega.{arith}
-use lib.ListN.{length, set, take, drop, replicate, length-append, length-replicate, replicate-append-replicate}
-use lib.Seq.{set_comm, sets, sets-eq, length-sets, drop_at}
-use Rattle.wire.specs.Bytes.{little, patch}
+use lib.ListN.{length, set, take, drop, replicate, length-set, length-drop, take-append-drop, length-append, length-replicate, replicate-append-replicate}
+use lib.Seq.{set_comm, set-append_left, length-take-le, sets, sets-eq, length-sets, drop_at}
+use Rattle.wire.specs.Bytes.{little, part, patch}
 use Rattle.wire.proofs.BytesLaws.{length-little, length_part}
 
 -- as the library says it
@@ -98,3 +98,27 @@ unfolding patch
 patch-apart i j [] ys bs h = refl
 patch-apart i j (x ∷ xs) ys bs h =
     rw (← patch-set i x j ys bs (omega arith)) (patch-apart (suc i) j xs ys (set bs i x) (omega arith))
+
+-- within the first of two, and within a part that is stored back
+patch-left : (j : ℕ) (ys qs rs : List ℕ) → j + length ys ≤ length qs → patch j ys (qs ++ rs) ≡ patch j ys qs ++ rs
+unfolding patch
+patch-left j [] qs rs h = refl
+patch-left j (y ∷ ys) qs rs h =
+    rw (set-append_left qs rs j y (omega arith))
+    (patch-left (suc j) ys (set qs j y) rs (omega (arith, length-set qs j y)))
+
+inner : (i j : ℕ) (ys ps qs rs : List ℕ) → length ps ≡ i → j + length ys ≤ length qs →
+    patch i (patch j ys qs) (ps ++ (qs ++ rs)) ≡ patch (i + j) ys (ps ++ (qs ++ rs))
+inner i j ys ps qs rs l h =
+    patch-middle i (patch j ys qs) ps qs rs l (length-patch j ys qs) ∙
+    sym (rw (← l, patch-behind ps j ys (qs ++ rs), patch-left j ys qs rs h))
+
+pub patch-inner : (i j m : ℕ) (ys bs : List ℕ) → i + m ≤ length bs → j + length ys ≤ m →
+    patch i (patch j ys (part i m bs)) bs ≡ patch (i + j) ys bs
+unfolding part
+patch-inner i j m ys bs h k =
+    let qs : List ℕ = take m (drop i bs) in
+    let whole : take i bs ++ (qs ++ drop m (drop i bs)) ≡ bs = rw (take-append-drop m (drop i bs), take-append-drop i bs) in
+    let l : length qs ≡ m = length-take-le m (drop i bs) (omega (arith, length-drop i bs)) in
+    rw whole at
+    (inner i j ys (take i bs) qs (drop m (drop i bs)) (length-take-le i bs (omega arith)) (omega arith))
