@@ -30,7 +30,7 @@ returns c =
     let size : length (bs ++ a) ≡ packet_size + digest_size = omega (arith, length-append bs a, (full o).1) in
     emitted 0x0104 (packet_size + digest_size) (bs ++ a) o.args.out.now size (omega (arith, o.requires))
     frame.put_frame.ensures
-    (rw (last.put_digest.ensures, first.put_packet.ensures) (patch-then frame_size packet_size bs a _ l))
+    (rw (last.put_array.ensures, first.put_packet.ensures) (patch-then frame_size packet_size bs a _ l))
 
 pub emit_acknowledged_spec : {M : Type 1} → statement M
 emit_acknowledged_spec =
