@@ -1,23 +1,16 @@
 -- Laws of the bytes of a piece: a patch, a part, and a front. Assumes nothing.
-use mathlib.Core.Path.{◌≡◌, refl, sym, ap, ◌∙◌}
-use mathlib.Core.List.{List, [], ◌∷◌}
-use Prim.Native.Nat.{ℕ, suc, ◌+◌, ◌-◌, ◌≤◌, ◌<◌, min}
+use mathlib.Core.Path.{◌≡◌, sym, ap, ◌∙◌}
+use mathlib.Core.List.{List}
+use Prim.Native.Nat.{ℕ, ◌-◌, ◌≤◌, ◌<◌, min}
 use native.Mathlib.Nat.{zero-add}
 use native.Mathlib.Omega.{arith}
 use lib.Dec.{leb}
-use lib.ListN.{length, take, drop, set, get_or, length-take, length-drop, drop_of_length-le, take-append-drop}
-use lib.Seq.{paste, get_or-set_other, length-take-le, take_all, take-length, drop-length}
+use lib.ListN.{length, take, drop, length-take, length-drop, drop_of_length-le, take-append-drop}
+use lib.Seq.{paste, length-take-le, take_all, take-length, drop-length}
 use borrow.Author.Tests.{leb-true, leb-false}
 use Rattle.wire.specs.Bytes.{part, patch}
 use Rattle.wire.proofs.ChoiceLaws.{cases}
 use Rattle.wire.proofs.PatchLaws.{patch-front}
-
--- bytes behind a patch stay
-pub get_or-patch-behind : (i j : ℕ) (xs bs : List ℕ) → i + length xs ≤ j → get_or (patch i xs bs) j 0 ≡ get_or bs j 0
-unfolding patch
-get_or-patch-behind i j [] bs h = refl
-get_or-patch-behind i j (x ∷ xs) bs h =
-    get_or-patch-behind (suc i) j xs (set bs i x) (omega arith) ∙ get_or-set_other bs i j x 0 (λ e. omega arith)
 
 pub length-part-most : (i n : ℕ) (bs : List ℕ) → length (part i n bs) ≡ min n (length bs - i)
 unfolding part
