@@ -111,6 +111,7 @@ pub fn is_received(store: &[u8], count: usize, c: Channel, sequence: u64) -> boo
 
 // Line 14, for 5 and 12: what a verdict has to claim of a packet that was not received. On close, where timeouts are
 // allowed, the claim that it has says which of two is meant.
+#[tactic(auto, using(slots::proofs::FieldLaws::by_fields), unfolding(rules::specs::Ordering::absence_claim))]
 pub fn absence_claim(on_close: bool, c: Channel, claimed: u16) -> u16
     ensures { result ≡ claim_number (absence_claim on_close c claimed) }
 {
@@ -162,6 +163,7 @@ pub fn is_timeout_at_top(c: Channel) -> bool
 }
 
 // 20, for 2: a receive writes a record where it raises no counter, or the packet lapses.
+#[tactic(auto, using(slots::proofs::FieldLaws::by_fields), unfolding(rules::specs::Ordering::needs_record))]
 pub fn needs_record(c: Channel, late: bool) -> bool
     ensures { result ≡ needs_record c late }
 {
