@@ -6,8 +6,7 @@ use Rattle.wire.specs.Names.{◌or◌, is_some, Every}
 use Rattle.wire.proofs.Laws.{some-if}
 use Rattle.slots.specs.declared.PortChannel.{PortChannel}
 use Rattle.slots.specs.declared.Channel.{Channel}
-use Rattle.slots.specs.declared.Found.{Found}
-use Rattle.slots.specs.declared.Found.TheVariants.{At, Nothing}
+use Rattle.std.specs.Prelude.{Option as Found, Some, None}
 use Rattle.slots.specs.Names.{channel_limit, output_limit, top, is_numbered, channel_at, Store, bytes_of, store_in, is_fit}
 use Rattle.slots.specs.Scan.{is_free, holds, first_that}
 use Rattle.slots.proofs.Laws.{ChannelFields, channel-number}
@@ -149,12 +148,12 @@ module _ (s d : List ℕ) {k n : ℕ} {c : Channel} (p : k ≡ kind_in d) (q : n
 
   pub planned-slot : (x : EndAction) (e : Channel) →
       end_edit_of x e ≡ (effect_for (kind_of k) n c (datagram_of (kind_of k) d)).ends →
-      Ready s d → {at : Found} → at ≡ first_that (is_numbered (datagram_in d).channel) (store_in s).channels →
+      Ready s d → {at : Found ℕ} → at ≡ first_that (is_numbered (datagram_in d).channel) (store_in s).channels →
       slot_by x at (store_in s).channels ≡ end_slot (end_edit_of x e) (store_in s).channels
   unfolding datagram_in
   planned-slot x e h o at =
       let stays = subst (Stays (kind_of k) c) (sym h) (end_stays (kind_of k) n c (datagram_of (kind_of k) d)) in
-      ap (λ (f : Found). slot_by x f (store_in s).channels) at ∙
+      ap (λ (f : Found ℕ). slot_by x f (store_in s).channels) at ∙
       slot-stays (kind_of k) (datagram_in d).channel (store_in s).channels c r (rw p o.there) x e stays
 
   pub planned-effect : {e : Effect} → e ≡ effect_for (kind_of k) n c (datagram_of (kind_of k) d) →
@@ -163,31 +162,31 @@ module _ (s d : List ℕ) {k n : ℕ} {c : Channel} (p : k ≡ kind_in d) (q : n
   planned-effect h = rw (p, q, r) at h
 
 -- AN END AT ITS SLOT: the bytes hold it, and the ends are those that the rules place
-pub held-end : {s : Store} {bs : List ℕ} → Held s bs → (next : List ℕ) (at : Found) (c : Channel) → ChannelFields c →
+pub held-end : {s : Store} {bs : List ℕ} → Held s bs → (next : List ℕ) (at : Found ℕ) (c : Channel) → ChannelFields c →
     next ≡ bytes_of (with_end (store_in bs) at c) →
     Held (with_end s at c) next
-held-end h next (At j) c f e = held-channel h next j (some c) (f, tt) e
-held-end h next Nothing c f e = record { bytes = e ∙ ap bytes_of (held-store h); fields = h.fields }
+held-end h next (Some j) c f e = held-channel h next j (some c) (f, tt) e
+held-end h next None c f e = record { bytes = e ∙ ap bytes_of (held-store h); fields = h.fields }
 
 abbrev pub with_channels : Store → List (Option Channel) → Store
 with_channels s cs =
     record { height = s.height; time = s.time; next = s.next; channels = cs; records = s.records }
 
-pub placed_end : (s : Store) (x : EndAction) (c : Channel) (at : Found) → at ≡ end_slot (end_edit_of x c) s.channels →
+pub placed_end : (s : Store) (x : EndAction) (c : Channel) (at : Found ℕ) → at ≡ end_slot (end_edit_of x c) s.channels →
     with_end s at c ≡ with_channels s (placed (end_edit_of x c) s.channels)
 unfolding placed
-placed_end s Leaves c (At j) h = let z : ◌≡◌ {A = ℕ} 0 1 = cc in absurd (omega arith)
-placed_end s Leaves c Nothing h = refl
-placed_end s Puts c (At j) h =
+placed_end s Leaves c (Some j) h = let z : ◌≡◌ {A = ℕ} 0 1 = cc in absurd (omega arith)
+placed_end s Leaves c None h = refl
+placed_end s Puts c (Some j) h =
     ap (with_channels s) (set-replace (is_numbered c.own.channel) (some c) j s.channels (sym h))
-placed_end s Puts c Nothing h =
+placed_end s Puts c None h =
     ap (with_channels s) (sym (replace-nothing (is_numbered c.own.channel) (some c) 0 s.channels (sym h)))
-placed_end s Adds c (At j) h = ap (with_channels s) (set-insert c j s.channels (sym h))
-placed_end s Adds c Nothing h = ap (with_channels s) (sym (insert-nothing c 0 s.channels (sym h)))
+placed_end s Adds c (Some j) h = ap (with_channels s) (set-insert c j s.channels (sym h))
+placed_end s Adds c None h = ap (with_channels s) (sym (insert-nothing c 0 s.channels (sym h)))
 
 -- the slot is one of the store's
 pub end_below : (bs : List ℕ) (x : EndAction) (c : Channel) (j : ℕ) →
-    end_slot (end_edit_of x c) (store_in bs).channels ≡ At j →
+    end_slot (end_edit_of x c) (store_in bs).channels ≡ Some j →
     j < channel_limit
 end_below bs Leaves c j h = let z : ◌≡◌ {A = ℕ} 0 1 = cc in absurd (omega arith)
 end_below bs Puts c j h = channel-index j bs (holds (is_numbered c.own.channel)) h

@@ -3,8 +3,7 @@ use Rattle.std.specs.Prelude.{◌≡◌, true, false, List, ℕ}
 use Rattle.std.proofs.Math.Option.{Option, some}
 use Rattle.wire.specs.Choice.{is_some}
 use Rattle.slots.specs.declared.Channel.{Channel}
-use Rattle.slots.specs.declared.Found.{Found}
-use Rattle.slots.specs.declared.Found.TheVariants.{At, Nothing}
+use Rattle.std.specs.Prelude.{Option as Found, Some, None}
 use Rattle.slots.specs.Table.{is_numbered}
 use Rattle.slots.specs.Layout.{Store, store_in}
 use Rattle.slots.specs.Scan.{first_free, first_that, used_slots}
@@ -30,21 +29,21 @@ pub record Ready (store datagram : List ℕ) : Type 0 where
       (datagram_in datagram)
 
 -- the slot of the end that changes, or of the one that is added
-abbrev pub end_slot : EndEdit → List (Option Channel) → Found
-end_slot leaves cs = Nothing
+abbrev pub end_slot : EndEdit → List (Option Channel) → Found ℕ
+end_slot leaves cs = None
 end_slot (puts c) cs = first_that (is_numbered c.own.channel) cs
 end_slot (adds c) cs = first_free cs
 
 -- the same, where the end that changes is known to be at a slot
-abbrev pub slot_by : EndAction → Found → List (Option Channel) → Found
-slot_by Leaves at cs = Nothing
+abbrev pub slot_by : EndAction → Found ℕ → List (Option Channel) → Found ℕ
+slot_by Leaves at cs = None
 slot_by Puts at cs = at
 slot_by Adds at cs = first_free cs
 
 -- an end at a slot, if there is one
-abbrev pub with_end : Store → Found → Channel → Store
-with_end s (At j) c = with_channel_slot s j (some c)
-with_end s Nothing c = s
+abbrev pub with_end : Store → Found ℕ → Channel → Store
+with_end s (Some j) c = with_channel_slot s j (some c)
+with_end s None c = s
 
 -- the slots of the end and of the packet record that it changes, the next channel number, and the slots in use
 pub record Placed (s : Store) (p : Plan) : Type 0 where

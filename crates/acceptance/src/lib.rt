@@ -1,8 +1,7 @@
 // Carries out an accepted datagram: reads alone plan it; then the store is changed, and then the record is emitted.
 #![tactic(auto)]
 
-ghost use Rattle.std.specs.Prelude.{◌≡◌, true, ℕ, ◌≤◌, ◌<◌, length};
-ghost use Rattle.slots.specs.declared.Found.TheVariants.{At};
+ghost use Rattle.std.specs.Prelude.{Some, ◌≡◌, true, ℕ, ◌≤◌, ◌<◌, length};
 ghost use Rattle.slots.specs.Limits.{channel_limit, top};
 ghost use Rattle.slots.specs.Table.{is_numbered, channel_at};
 ghost use Rattle.slots.specs.Layout.{records_from, bytes_of, store_in};
@@ -25,7 +24,7 @@ use emit::emit_record;
 use handshake::no_channel;
 use records::{edit_records, slot_of};
 use slots::slot::channel_at;
-use slots::{Channel, Found, Layout};
+use slots::{Channel, Layout};
 use tables::scan::{find_channel, find_free_channel};
 use wire::u64_at;
 
@@ -36,29 +35,29 @@ struct Plan {
     decision: Decision,
     context: Context,
     next: u64,
-    at: Found,
-    slot: Found,
+    at: Option<usize>,
+    slot: Option<usize>,
     used: usize,
 }
 
 // The channel end of this number, which was found at a slot, or zeros: a datagram that makes an end is about none.
-fn end_of(store: &[u8], number: u32, at: Found) -> Channel
+fn end_of(store: &[u8], number: u32, at: Option<usize>) -> Channel
     requires { (records_from ≤ length store.now) × (at ≡ first_that (is_numbered number) (store_in store.now).channels) }
     ensures { result ≡ or_none (channel_at number (store_in store.now).channels) }
 {
-    let Found::At(j) = at else {
+    let Some(j) = at else {
         return no_channel();
     };
     channel_at(store, Layout::HEADER + Layout::SLOT * j)
 }
 
 // The slot of the end that changes, which is that of the datagram's end, or the free one of lowest index.
-fn end_slot(store: &[u8], ends: EndAction, at: Found) -> Found
+fn end_slot(store: &[u8], ends: EndAction, at: Option<usize>) -> Option<usize>
     requires { records_from ≤ length store.now }
     ensures { result ≡ slot_by ends at (store_in store.now).channels }
 {
     match ends {
-        EndAction::Leaves => Found::Nothing,
+        EndAction::Leaves => None,
         EndAction::Puts => at,
         EndAction::Adds => find_free_channel(store),
     }
@@ -102,11 +101,11 @@ fn plan_for(store: &[u8], datagram: &[u8], used: usize) -> Plan
     }
 }
 
-fn put_end(store: &mut [u8], at: Found, c: Channel)
-    requires { Exact store.old × ((j : ℕ) → at ≡ At j → j < channel_limit) }
+fn put_end(store: &mut [u8], at: Option<usize>, c: Channel)
+    requires { Exact store.old × ((j : ℕ) → at ≡ Some j → j < channel_limit) }
     ensures { store.new ≡ bytes_of (with_end (store_in store.old) at c) }
 {
-    let Found::At(j) = at else {
+    let Some(j) = at else {
         return;
     };
     set_channel(store, j, c);

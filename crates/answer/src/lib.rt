@@ -25,7 +25,7 @@ use handshake::no_channel;
 use heights::goes_back;
 use rows::{acknowledge_row, receive_row, send_row, time_out_row, write_row};
 use slots::slot::channel_at;
-use slots::{Channel, Found, Layout, OwnHeight, OwnTime, PortChannel, VERSION};
+use slots::{Channel, Layout, OwnHeight, OwnTime, PortChannel, VERSION};
 use sound::is_sound;
 use steps::{open_acknowledge_row, open_confirm_row, open_init_row, open_try_row};
 use tables::scan::find_channel;
@@ -84,7 +84,7 @@ fn answer_on(store: &[u8], count: usize, datagram: &[u8], kind: u16, x: Context)
         number_behind 4 (kind_of kind) (store_in store.now) (datagram_of (kind_of kind) datagram.now)
         (or_none (end_for (store_in store.now) (datagram_of (kind_of kind) datagram.now))) }
 {
-    let Found::At(j) = find_channel(store, channel_in(datagram, kind)) else {
+    let Some(j) = find_channel(store, channel_in(datagram, kind)) else {
         return 5;
     };
     let c = channel_at(store, Layout::HEADER + Layout::SLOT * j);

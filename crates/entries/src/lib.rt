@@ -12,9 +12,9 @@ ghost use Rattle.slots.specs.Ordering.{is_received};
 ghost use Rattle.slots.specs.Fit.{channel_fits, has_zero_timeouts_and_digest, fits_end, record_fits};
 
 use slots::slot::channel_at;
-use slots::{Channel, Found, Key, Layout, Record, Timeout};
+use slots::{Channel, Key, Layout, Record, Timeout};
 use tables::ordering::{may_have_receipt, may_have_timeout_receipt};
-use tables::scan::{find_channel, first_record, is_found};
+use tables::scan::{find_channel, first_record};
 use versions::is_padded;
 use wire::{is_zero_digest, u32_at, u64_at};
 
@@ -64,7 +64,7 @@ fn is_there(s: &[u8], count: usize, kind: u16, c: Channel, sequence: u64) -> boo
         channel: c.own.channel,
         sequence: sequence,
     };
-    is_found(first_record(s, count, 0, k))
+    first_record(s, count, 0, k).is_some()
 }
 
 // Unordered: its receipt is there. Else: the sequence is below next receive, and where timeouts are allowed no timeout
@@ -113,7 +113,7 @@ pub fn record_fits(s: &[u8], count: usize, r: Record) -> bool
     requires { length s.now ≡ size_for count }
     ensures { result ≡ record_fits (store_in s.now) r }
 {
-    let Found::At(j) = find_channel(s, r.channel) else {
+    let Some(j) = find_channel(s, r.channel) else {
         return false;
     };
     let c = channel_at(s, Layout::HEADER + Layout::SLOT * j);

@@ -14,7 +14,7 @@ use Rattle.wire.specs.Choice.{◌or◌}
 use Rattle.wire.specs.Bytes.{Bytes, are_zero, part}
 use Rattle.wire.proofs.ChoiceLaws.{cases, clash, and_both, both-and, some_is}
 use Rattle.slots.specs.declared.Channel.{Channel}
-use Rattle.slots.specs.declared.Found.TheVariants.{At, Nothing}
+use Rattle.std.specs.Prelude.{Some, None}
 use Rattle.slots.specs.Table.{is_numbered, is_before, channel_at}
 use Rattle.slots.specs.Layout.{header_size, slot_size, records_from, size_for, channel_in, record_bytes, record_in, store_in}
 use Rattle.slots.specs.Scan.{slot_at, first_that}
@@ -48,7 +48,7 @@ pub record Checked (bs : List ℕ) (n i j p : ℕ) : Type 0 where
   pub ordered : (m k : ℕ) → m < k → k < i → is_before (key_at bs m) (key_at bs k) ≡ true
   pub before : (m : ℕ) → m < p → Ahead (key_at bs m) (key_at bs p)
   pub last : 0 < i → OwnRunEnd bs n p i
-  pub end : p < i → first_that (is_numbered (key_at bs p).channel) (store_in bs).channels ≡ At j
+  pub end : p < i → first_that (is_numbered (key_at bs p).channel) (store_in bs).channels ≡ Some j
 
 pub checked-none : (bs : List ℕ) (n : ℕ) → Checked bs n 0 0 0
 checked-none bs n =
@@ -67,26 +67,26 @@ checked-none bs n =
 module _ (bs : List ℕ) (bytes : Bytes bs) (n : ℕ) (size : length bs ≡ size_for n) (i j p : ℕ) (g : Checked bs n i j p) where
   -- ALL IS FREE BEHIND
   checked-free : ((k : ℕ) → i ≤ k → k < n → are_zero (slot_at records_from bs k) ≡ true) →
-      At i ≡ used_if (records_fit bs n) bs
+      Some i ≡ used_if (records_fit bs n) bs
   checked-free free =
       let h = all_fit bs n size i g.within g.used g.fitting g.ordered free in
       sym (rw (h.0, h.1))
 
-  pub checked-all : n ≤ i → At i ≡ used_if (records_fit bs n) bs
+  pub checked-all : n ≤ i → Some i ≡ used_if (records_fit bs n) bs
   checked-all l = checked-free (λ k a b. absurd (omega arith))
 
   pub checked-rest : are_zero (part (records_from + slot_size * i) (slot_size * (n - i)) bs) ≡ true →
-      At i ≡ used_if (records_fit bs n) bs
+      Some i ≡ used_if (records_fit bs n) bs
   checked-rest h = checked-free (λ k l m. zero-slot bs n i k l m h)
 
   -- A TEST FAILS
-  unfit : (records_fit bs n ≡ true → ⊥) → Nothing ≡ used_if (records_fit bs n) bs
+  unfit : (records_fit bs n ≡ true → ⊥) → None ≡ used_if (records_fit bs n) bs
   unfit h = cases (records_fit bs n) (λ e. absurd (h e)) (λ e. sym (rw e))
 
   module _ (more : i < n) where
     pub unfit-rest : are_zero (slot_at records_from bs i) ≡ true →
         are_zero (part (records_from + slot_size * i) (slot_size * (n - i)) bs) ≡ false →
-        Nothing ≡ used_if (records_fit bs n) bs
+        None ≡ used_if (records_fit bs n) bs
     unfit-rest z h =
         unfit (λ w.
         clash (slots-zero bs (n - i) i (λ k l m.
@@ -130,7 +130,7 @@ module _ (bs : List ℕ) (bytes : Bytes bs) (n : ℕ) (size : length bs ≡ size
             absurd
             (stopped p i last more (fits-before bs n size w i more t) first (sym f ∙ k) (sym d ∙ c) (λ o. q))
 
-    pub unfit-start : Taken bs i → starts_run bs p i ≡ false → Nothing ≡ used_if (records_fit bs n) bs
+    pub unfit-start : Taken bs i → starts_run bs p i ≡ false → None ≡ used_if (records_fit bs n) bs
     unfolding ◌or◌
     unfit-start t h =
         unfit (λ w.
@@ -141,8 +141,8 @@ module _ (bs : List ℕ) (bytes : Bytes bs) (n : ℕ) (size : length bs ≡ size
         rw (e, ahead-is (key_at bs p) (key_at bs i) (goes_on w t (omega (arith, eqb-false p i e))))) in
         clash (both-and (eq-eqb (zeros_at bs i) 0 (zeros-exact i more f.exact)) first) h)
 
-    pub unfit-end : Taken bs i → first_that (is_numbered (key_at bs i).channel) (store_in bs).channels ≡ Nothing →
-        Nothing ≡ used_if (records_fit bs n) bs
+    pub unfit-end : Taken bs i → first_that (is_numbered (key_at bs i).channel) (store_in bs).channels ≡ None →
+        None ≡ used_if (records_fit bs n) bs
     unfit-end t h =
         unfit (λ w.
         let f = fits-before bs n size w i more t in
@@ -179,14 +179,14 @@ module _ (bs : List ℕ) (bytes : Bytes bs) (n : ℕ) (size : length bs ≡ size
           ahead-alike (key_at bs m) (key_at bs p) (key_at bs i) (last.channels m a l) (last.kinds m a l) low)
 
       -- it has no record where not even the first one passes
-      pub unfit-first : Taken bs i → (e : ℕ) → OwnRunEnd bs n i e → e ≡ i → Nothing ≡ used_if (records_fit bs n) bs
+      pub unfit-first : Taken bs i → (e : ℕ) → OwnRunEnd bs n i e → e ≡ i → None ≡ used_if (records_fit bs n) bs
       unfit-first t e stop same =
           unfit (λ w.
           stopped i i (subst (OwnRunEnd bs n i) same stop) more (fits-before bs n size w i more t) zeros refl refl
           (λ l. absurd (omega arith)))
 
       -- on its channel end, up to e
-      module _ (end : ℕ) (found : first_that (is_numbered (key_at bs i).channel) (store_in bs).channels ≡ At end)
+      module _ (end : ℕ) (found : first_that (is_numbered (key_at bs i).channel) (store_in bs).channels ≡ Some end)
           (e : ℕ) (stop : OwnRunEnd bs n i e) (any : i < e) where
         abbrev c : Channel
         c = channel_in (slot_at header_size bs end)
@@ -202,7 +202,7 @@ module _ (bs : List ℕ) (bytes : Bytes bs) (n : ℕ) (size : length bs ≡ size
             ap (λ (x : ℕ). channel_at x (store_in bs).channels) (stop.run.channels k l m) ∙
             channel-found (is_numbered (key_at bs i).channel) end bs found
 
-        pub unfit-run : each test i (e - i) ≡ false → Nothing ≡ used_if (records_fit bs n) bs
+        pub unfit-run : each test i (e - i) ≡ false → None ≡ used_if (records_fit bs n) bs
         unfit-run h =
             let high = stop.high in
             unfit (λ w.

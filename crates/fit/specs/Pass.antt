@@ -2,8 +2,7 @@
 use Rattle.std.specs.Prelude.{Bool, List, ℕ, ltb, eqb}
 use Rattle.wire.specs.Choice.{◌and◌, ◌or◌, pick}
 use Rattle.slots.specs.declared.Key.{Key}
-use Rattle.slots.specs.declared.Found.{Found}
-use Rattle.slots.specs.declared.Found.TheVariants.{At, Nothing}
+use Rattle.std.specs.Prelude.{Option, Some, None}
 use Rattle.slots.specs.Table.{in_order, precedes}
 use Rattle.slots.specs.Layout.{records_from, record_bytes, record_in, store_in}
 use Rattle.slots.specs.Scan.{slots_from, used_slots}
@@ -27,5 +26,5 @@ starts_run bs p i =
     eqb (zeros_at bs i) 0 and (eqb p i or is_ahead (key_at bs p) (key_at bs i))
 
 -- HOW MANY packet records are in use, where a test passes
-abbrev pub used_if : Bool → List ℕ → Found
-used_if b bs = pick b (At (used_slots (store_in bs).records)) Nothing
+abbrev pub used_if : Bool → List ℕ → Option ℕ
+used_if b bs = pick b (Some (used_slots (store_in bs).records)) None

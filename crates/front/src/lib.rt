@@ -13,7 +13,7 @@ ghost use Rattle.front.specs.EverySlot.{every_slot, fits_below, is_lone, slot_fi
 use entries::channel_fits;
 use exact::{is_channel_exact, is_header_exact};
 use slots::Layout;
-use tables::scan::{first_channel, is_found};
+use tables::scan::first_channel;
 use wire::{are_zero, u32_at, u64_at};
 
 // Slot i of the channel records, with the slots before it. Its number is searched there and not behind it: the free
@@ -33,7 +33,7 @@ fn channel_slot_fits(s: &[u8], next: u64, i: usize) -> bool
         return false;
     }
     if is_channel_exact(s, at) & ((number as u64) < next) {
-        return !is_found(first_channel(s, i, number));
+        return first_channel(s, i, number).is_none();
     }
     false
 }

@@ -8,7 +8,6 @@ use acceptance::accept;
 use answer::answer;
 use fit::used_if_fit;
 use rules::Told;
-use slots::Found;
 
 // One call. The store is checked (1) and the other lines are asked; a refusal has answered before the first byte is
 // written. How many packet records are in use is known from the check.
@@ -17,7 +16,7 @@ pub fn handle(store: &mut [u8], output: &mut [u8], datagram: &[u8]) -> Told
     ensures store { store.new ≡ call_store store.old output.old datagram.now }
     ensures output { output.new ≡ call_output store.old output.old datagram.now }
 {
-    let Found::At(used) = used_if_fit(store) else {
+    let Some(used) = used_if_fit(store) else {
         return Told { number: 1, size: 0 };
     };
     let number = answer(store, output.len(), datagram);

@@ -13,7 +13,7 @@ ghost use Rattle.rules.specs.Refusals.{fits_destination, fits_source, is_committ
 use datagram::{Context, Packet};
 use heights::same_timeout;
 use slots::slot::record_at;
-use slots::{Channel, Found, Key, Layout, PortChannel, Record, Timeout};
+use slots::{Channel, Key, Layout, PortChannel, Record, Timeout};
 use tables::halves::find_record;
 use wire::{are_zero, same_digest};
 
@@ -88,7 +88,7 @@ pub fn is_committed(store: &[u8], count: usize, p: Packet) -> bool
         channel: p.source.channel,
         sequence: p.sequence,
     };
-    let Found::At(i) = find_record(store, count, k) else {
+    let Some(i) = find_record(store, count, k) else {
         return false;
     };
     let timeout = p.timeout;

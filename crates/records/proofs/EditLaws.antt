@@ -4,7 +4,7 @@ use Rattle.wire.proofs.Prelude.{ltb-true, ltb-false}
 use Rattle.wire.proofs.Laws.{cases}
 use Rattle.slots.specs.declared.Key.{Key}
 use Rattle.slots.specs.declared.Record.{Record}
-use Rattle.slots.specs.declared.Found.TheVariants.{At, Nothing}
+use Rattle.std.specs.Prelude.{Some, None}
 use Rattle.slots.specs.Table.{has_key, key_of}
 use Rattle.slots.specs.Layout.{Store, bytes_of}
 use Rattle.slots.specs.Effect.{with_records, inserted_at, removed_at}
@@ -17,21 +17,21 @@ use Rattle.rules.specs.Acceptance.{edited}
 use Rattle.records.specs.Edited.{slot_for, slot_of, spare_slot, with_edit}
 
 -- THE SLOT FOR A RECORD, where there is one
-slot-for : (k : Key) (rs : List (Option Record)) (i : ℕ) → slot_for k rs ≡ At i → (place_of k rs ≡ i) × (i < length rs)
+slot-for : (k : Key) (rs : List (Option Record)) (i : ℕ) → slot_for k rs ≡ Some i → (place_of k rs ≡ i) × (i < length rs)
 unfolding slot_for
 slot-for k rs i h =
     cases (ltb (place_of k rs) (length rs))
     (λ e. let z : place_of k rs ≡ i = cc in (z, omega (arith, ltb-true (place_of k rs) (length rs) e)))
     (λ e. let z : ◌≡◌ {A = ℕ} 0 1 = cc in absurd (omega arith))
 
-no_slot : (k : Key) (rs : List (Option Record)) → slot_for k rs ≡ Nothing → length rs ≤ place_of k rs
+no_slot : (k : Key) (rs : List (Option Record)) → slot_for k rs ≡ None → length rs ≤ place_of k rs
 unfolding slot_for
 no_slot k rs h =
     cases (ltb (place_of k rs) (length rs)) (λ e. let z : ◌≡◌ {A = ℕ} 0 1 = cc in absurd (omega arith))
     (λ e. ltb-false (place_of k rs) (length rs) e)
 
 -- the slot is one of the table's
-pub slot-below : (e : Edit) (rs : List (Option Record)) (i : ℕ) → slot_of e rs ≡ At i → i < length rs
+pub slot-below : (e : Edit) (rs : List (Option Record)) (i : ℕ) → slot_of e rs ≡ Some i → i < length rs
 slot-below keeps rs i h = let z : ◌≡◌ {A = ℕ} 0 1 = cc in absurd (omega arith)
 slot-below (writes r) rs i h = (slot-for (key_of r) rs i h).1
 slot-below (frees k) rs i h = found_below (holds (has_key k)) i rs h
@@ -43,7 +43,7 @@ spare rs low =
     (λ e. rw e (ltb-true (used_slots rs) (length rs) e, λ h. omega arith))
     (λ e. rw e (omega arith, λ h. absurd (omega arith)))
 
-pub spare-room : (k : Key) (rs : List (Option Record)) (i : ℕ) → slot_for k rs ≡ At i →
+pub spare-room : (k : Key) (rs : List (Option Record)) (i : ℕ) → slot_for k rs ≡ Some i →
     let n = spare_slot (length rs) (used_slots rs) in (i ≤ n) × (n < length rs)
 spare-room k rs i h =
     let at = slot-for k rs i h in
@@ -52,7 +52,7 @@ spare-room k rs i h =
       (spare rs (omega (arith, at.1))).0,
     )
 
-pub written : (s : Store) (i m : ℕ) (r : Record) → Ordered s.records → slot_for (key_of r) s.records ≡ At i →
+pub written : (s : Store) (i m : ℕ) (r : Record) → Ordered s.records → slot_for (key_of r) s.records ≡ Some i →
     i + m ≡ spare_slot (length s.records) (used_slots s.records) →
     bytes_of (with_records s (inserted_at i m r s.records)) ≡ bytes_of (with_edit s (writes r))
 unfolding edited
@@ -65,7 +65,7 @@ written s i m r order h l =
     rw (e, at.0)
 
 -- those behind a record that becomes free, up to the last in use
-pub freed : (s : Store) (i m : ℕ) (k : Key) → Ordered s.records → first_that (has_key k) s.records ≡ At i →
+pub freed : (s : Store) (i m : ℕ) (k : Key) → Ordered s.records → first_that (has_key k) s.records ≡ Some i →
     suc (i + m) ≡ used_slots s.records →
     bytes_of (with_records s (removed_at i m s.records)) ≡ bytes_of (with_edit s (frees k))
 unfolding edited
@@ -73,7 +73,7 @@ freed s i m k order h l =
     ap (λ (rs : List (Option Record)). bytes_of (with_records s rs)) (sym (take-out-found (has_key k) i m s.records h
     (free-behind s.records order (suc (i + m)) (omega arith))))
 
-pub unedited : (e : Edit) (rs : List (Option Record)) → slot_of e rs ≡ Nothing → edited e rs ≡ rs
+pub unedited : (e : Edit) (rs : List (Option Record)) → slot_of e rs ≡ None → edited e rs ≡ rs
 unfolding edited
 unedited keeps rs h = refl
 unedited (writes r) rs h = insert-full r rs (no_slot (key_of r) rs h)

@@ -4,8 +4,7 @@ use Rattle.std.proofs.Math.Option.{Option}
 use Rattle.wire.specs.Choice.{pick}
 use Rattle.slots.specs.declared.Key.{Key}
 use Rattle.slots.specs.declared.Record.{Record}
-use Rattle.slots.specs.declared.Found.{Found}
-use Rattle.slots.specs.declared.Found.TheVariants.{At, Nothing}
+use Rattle.std.specs.Prelude.{Option as Found, Some, None}
 use Rattle.slots.specs.Table.{has_key, key_of}
 use Rattle.slots.specs.Layout.{Store}
 use Rattle.slots.specs.Scan.{first_that, place_of}
@@ -26,11 +25,11 @@ abbrev pub edit_by : RecordEdit → Edit
 edit_by e = edit_of e.action e.about
 
 -- the place of a key in a table, if that is one of its slots
-unfoldable pub slot_for : Key → List (Option Record) → Found
-slot_for k rs = pick (ltb (place_of k rs) (length rs)) (At (place_of k rs)) Nothing
+unfoldable pub slot_for : Key → List (Option Record) → Found ℕ
+slot_for k rs = pick (ltb (place_of k rs) (length rs)) (Some (place_of k rs)) None
 
-abbrev pub slot_of : Edit → List (Option Record) → Found
-slot_of keeps rs = Nothing
+abbrev pub slot_of : Edit → List (Option Record) → Found ℕ
+slot_of keeps rs = None
 slot_of (writes r) rs = slot_for (key_of r) rs
 slot_of (frees k) rs = first_that (has_key k) rs
 

@@ -13,7 +13,7 @@ ghost use Rattle.records.specs.Edited.{with_edit, edit_by, slot_for, slot_of, sp
 
 use changes::{insert_record, remove_record};
 use ordering::{lapses, raises_counter};
-use slots::{Channel, Found, Key, Layout, Record, Timeout};
+use slots::{Channel, Key, Layout, Record, Timeout};
 use tables::halves::{find_record, place_of};
 
 #[derive(Clone, Copy)]
@@ -99,19 +99,19 @@ fn key_of(r: Record) -> Key
 }
 
 // The slot for a record: none where the table is full and the record would stand behind all.
-fn slot_for(store: &[u8], count: usize, k: Key) -> Found
+fn slot_for(store: &[u8], count: usize, k: Key) -> Option<usize>
     requires { RecordsInOrder store.now count }
     ensures { result ≡ slot_for k (store_in store.now).records }
 {
     let i = place_of(store, count, k);
     if i < count {
-        return Found::At(i);
+        return Some(i);
     }
-    Found::Nothing
+    None
 }
 
 // The slot that an edit is on: the place of the record in order, or that of the record that is there.
-pub fn slot_of(store: &[u8], e: RecordEdit) -> Found
+pub fn slot_of(store: &[u8], e: RecordEdit) -> Option<usize>
     requires { is_fit store.now ≡ true }
     ensures { result ≡ slot_of (edit_by e) (store_in store.now).records }
 {
@@ -119,7 +119,7 @@ pub fn slot_of(store: &[u8], e: RecordEdit) -> Found
     let action = e.action;
     let about = e.about;
     match action {
-        Action::Keeps => Found::Nothing,
+        Action::Keeps => None,
         Action::Writes => slot_for(store, count, key_of(about)),
         Action::Frees => find_record(store, count, key_of(about)),
     }
@@ -137,12 +137,12 @@ fn spare_slot(count: usize, used: usize) -> usize
 }
 
 // Only slots that are in use move.
-pub fn edit_records(store: &mut [u8], at: Found, used: usize, e: RecordEdit)
+pub fn edit_records(store: &mut [u8], at: Option<usize>, used: usize, e: RecordEdit)
     requires { Exact store.old × (in_order precedes (store_in store.old).records ≡ true) ×
         (used ≡ used_slots (store_in store.old).records) × (at ≡ slot_of (edit_by e) (store_in store.old).records) }
     ensures { store.new ≡ bytes_of (with_edit (store_in store.old) (edit_by e)) }
 {
-    let Found::At(i) = at else {
+    let Some(i) = at else {
         return;
     };
     let spare = spare_slot((store.len() - Layout::RECORDS_FROM) / Layout::SLOT, used);

@@ -14,7 +14,7 @@ use Rattle.wire.specs.Bytes.{are_zero, part, pieces}
 use Rattle.wire.proofs.ChoiceLaws.{cases, clash}
 use Rattle.slots.specs.declared.Channel.{Channel}
 use Rattle.slots.specs.declared.Record.{Record}
-use Rattle.slots.specs.declared.Found.TheVariants.{At, Nothing}
+use Rattle.std.specs.Prelude.{Some, None}
 use Rattle.slots.specs.Table.{find, replace, place, take_out}
 use Rattle.slots.specs.Limits.{channel_limit}
 use Rattle.slots.specs.Layout.{header_size, slot_size, records_from, room_in}
@@ -32,14 +32,14 @@ First t (suc i) (x ∷ xs) = (t x ≡ false) × First t i xs
 
 module _ {A : Type 0} where
   -- an index that is found is at or behind the start
-  index-from : (t : Option A → Bool) (n i : ℕ) (xs : List (Option A)) → index_where t n xs ≡ At i → n ≤ i
+  index-from : (t : Option A → Bool) (n i : ℕ) (xs : List (Option A)) → index_where t n xs ≡ Some i → n ≤ i
   unfolding index_where
   index-from t n i [] h = let z : ◌≡◌ {A = ℕ} 0 1 = cc in absurd (omega arith)
   index-from t n i (x ∷ xs) h =
       let ih = index-from t (suc n) i xs in
       cases (t x) (λ e. let z : n ≡ i = cc in omega arith) (λ e. let k = ih (cc) in omega arith)
 
-  first-from : (t : Option A → Bool) (n i : ℕ) (xs : List (Option A)) → index_where t n xs ≡ At (n + i) → First t i xs
+  first-from : (t : Option A → Bool) (n i : ℕ) (xs : List (Option A)) → index_where t n xs ≡ Some (n + i) → First t i xs
   unfolding index_where
   first-from t n i [] h = let z : ◌≡◌ {A = ℕ} 0 1 = cc in absurd (omega arith)
   first-from t n zero (x ∷ xs) h =
@@ -50,7 +50,7 @@ module _ {A : Type 0} where
       cases (t x) (λ e. let z : n ≡ n + suc i = cc in absurd (omega arith))
       (λ e. (e, ih (rw (suc-add n i, ← add-suc n i) (cc))))
 
-  pub first_of : (t : Option A → Bool) (i : ℕ) (xs : List (Option A)) → index_where t 0 xs ≡ At i → First t i xs
+  pub first_of : (t : Option A → Bool) (i : ℕ) (xs : List (Option A)) → index_where t 0 xs ≡ Some i → First t i xs
   first_of t i xs h = first-from t 0 i xs (rw zero-add h)
 
   pub first_below : (t : Option A → Bool) (i : ℕ) (xs : List (Option A)) → First t i xs → i < length xs
@@ -67,7 +67,7 @@ module _ {A : Type 0} where
   set_first y (suc i) (none ∷ xs) h = clash {b = true} refl h.0
   set_first y (suc i) (some x ∷ xs) h = ap (λ (l : List (Option A)). some x ∷ l) (set_first y i xs h.1)
 
-  pub set-insert : (y : A) (i : ℕ) (xs : List (Option A)) → first_free xs ≡ At i →
+  pub set-insert : (y : A) (i : ℕ) (xs : List (Option A)) → first_free xs ≡ Some i →
       set xs i (some y) ≡ place (λ x. false) y xs
   set-insert y i xs h = set_first y i xs (first_of is_free i xs h)
 
@@ -82,7 +82,7 @@ module _ {A : Type 0} where
     replace-first y (suc i) (some x ∷ xs) h =
         rw h.0 (ap (λ (l : List (Option A)). some x ∷ l) (replace-first y i xs h.1))
 
-    pub set-replace : (y : Option A) (i : ℕ) (xs : List (Option A)) → first_that t xs ≡ At i →
+    pub set-replace : (y : Option A) (i : ℕ) (xs : List (Option A)) → first_that t xs ≡ Some i →
         set xs i y ≡ replace t y xs
     set-replace y i xs h = replace-first y i xs (first_of (holds t) i xs h)
 
@@ -102,7 +102,7 @@ module _ {A : Type 0} where
         let z = suc-add i m in
         rw (h.0, z) (ap (λ (l : List (Option A)). some x ∷ l) (take-out-first i m xs h.1 (rw z at f)))
 
-    pub take-out-found : (i m : ℕ) (xs : List (Option A)) → first_that t xs ≡ At i → Free (drop (suc (i + m)) xs) →
+    pub take-out-found : (i m : ℕ) (xs : List (Option A)) → first_that t xs ≡ Some i → Free (drop (suc (i + m)) xs) →
         take_out t xs ≡ removed_at i m xs
     take-out-found i m xs h f = take-out-first i m xs (first_of (holds t) i xs h) f
 
@@ -116,18 +116,18 @@ module _ {A : Type 0} where
     find_first (suc i) (none ∷ xs) h = find_first i xs h.1
     find_first (suc i) (some x ∷ xs) h = let ih = find_first i xs h.1 in (rw h.0 ih.0, rw h.0 ih.1)
 
-    pub find-found : (i : ℕ) (xs : List (Option A)) → first_that t xs ≡ At i → find t xs ≡ get_or xs i none
+    pub find-found : (i : ℕ) (xs : List (Option A)) → first_that t xs ≡ Some i → find t xs ≡ get_or xs i none
     find-found i xs h = (find_first i xs (first_of (holds t) i xs h)).0
 
-    pub some-found : (i : ℕ) (xs : List (Option A)) → first_that t xs ≡ At i → is_some (find t xs) ≡ true
+    pub some-found : (i : ℕ) (xs : List (Option A)) → first_that t xs ≡ Some i → is_some (find t xs) ≡ true
     some-found i xs h = (find_first i xs (first_of (holds t) i xs h)).1
 
   -- AN INDEX that is found is one of the table's
-  pub found_below : (t : Option A → Bool) (i : ℕ) (xs : List (Option A)) → index_where t 0 xs ≡ At i → i < length xs
+  pub found_below : (t : Option A → Bool) (i : ℕ) (xs : List (Option A)) → index_where t 0 xs ≡ Some i → i < length xs
   found_below t i xs h = first_below t i xs (first_of t i xs h)
 
   -- NOTHING FOUND: the table stays, and is asked in vain
-  pub insert-nothing : (y : A) (n : ℕ) (xs : List (Option A)) → index_where is_free n xs ≡ Nothing →
+  pub insert-nothing : (y : A) (n : ℕ) (xs : List (Option A)) → index_where is_free n xs ≡ None →
       place (λ x. false) y xs ≡ xs
   unfolding index_where place
   insert-nothing y n [] h = refl
@@ -136,7 +136,7 @@ module _ {A : Type 0} where
       ap (λ (l : List (Option A)). some x ∷ l) (insert-nothing y (suc n) xs h)
 
   pub replace-nothing : (t : A → Bool) (y : Option A) (n : ℕ) (xs : List (Option A)) →
-      index_where (holds t) n xs ≡ Nothing →
+      index_where (holds t) n xs ≡ None →
       replace t y xs ≡ xs
   unfolding index_where replace
   replace-nothing t y n [] h = refl
@@ -147,7 +147,7 @@ module _ {A : Type 0} where
       cases (t x) (λ e. let z : ◌≡◌ {A = ℕ} 0 1 = cc in absurd (omega arith))
       (λ e. rw (replace, e) (ap (λ (l : List (Option A)). some x ∷ l) (ih (cc))))
 
-  pub take-out-nothing : (t : A → Bool) (n : ℕ) (xs : List (Option A)) → index_where (holds t) n xs ≡ Nothing →
+  pub take-out-nothing : (t : A → Bool) (n : ℕ) (xs : List (Option A)) → index_where (holds t) n xs ≡ None →
       take_out t xs ≡ xs
   unfolding index_where take_out
   take-out-nothing t n [] h = refl
@@ -158,7 +158,7 @@ module _ {A : Type 0} where
       cases (t x) (λ e. let z : ◌≡◌ {A = ℕ} 0 1 = cc in absurd (omega arith))
       (λ e. rw (take_out, e) (ap (λ (l : List (Option A)). some x ∷ l) (ih (cc))))
 
-  pub find-nothing : (t : A → Bool) (n : ℕ) (xs : List (Option A)) → index_where (holds t) n xs ≡ Nothing →
+  pub find-nothing : (t : A → Bool) (n : ℕ) (xs : List (Option A)) → index_where (holds t) n xs ≡ None →
       find t xs ≡ none
   unfolding index_where find
   find-nothing t n [] h = refl
@@ -190,7 +190,7 @@ module _ {A : Type 0} where
 
   -- what a scan of such a table finds is what the bytes at that slot are read as
   pub table-found : (f : List ℕ → A) (t : A → Bool) (n i from : ℕ) (bs : List ℕ) →
-      first_that t (table_in f n (drop from bs)) ≡ At i →
+      first_that t (table_in f n (drop from bs)) ≡ Some i →
       find t (table_in f n (drop from bs)) ≡ some (f (part (from + slot_size * i) slot_size bs))
   unfolding slot_in part
   table-found f t n i from bs h =
@@ -205,12 +205,12 @@ module _ {A : Type 0} where
       slot ∙ taken ∙ ap (λ (q : List ℕ). some (f q)) place
 
 -- THE TWO TABLES of a store that is read
-pub channel-found : (t : Channel → Bool) (j : ℕ) (bs : List ℕ) → first_that t (store_in bs).channels ≡ At j →
+pub channel-found : (t : Channel → Bool) (j : ℕ) (bs : List ℕ) → first_that t (store_in bs).channels ≡ Some j →
     find t (store_in bs).channels ≡ some (channel_in (part (header_size + slot_size * j) slot_size bs))
 unfolding store_in
 channel-found t j bs h = table-found channel_in t channel_limit j header_size bs h
 
-pub record-found : (t : Record → Bool) (i : ℕ) (bs : List ℕ) → first_that t (store_in bs).records ≡ At i →
+pub record-found : (t : Record → Bool) (i : ℕ) (bs : List ℕ) → first_that t (store_in bs).records ≡ Some i →
     find t (store_in bs).records ≡ some (record_in (part (records_from + slot_size * i) slot_size bs))
 unfolding store_in
 record-found t i bs h = table-found record_in t (room_in (length bs)) i records_from bs h

@@ -8,7 +8,7 @@ use lib.Dec.{leb-suc-suc}
 use Rattle.wire.specs.Names.{pick}
 use Rattle.wire.proofs.Laws.{clash, cases}
 use Rattle.slots.specs.declared.Record.{Record}
-use Rattle.slots.specs.declared.Found.TheVariants.{At, Nothing}
+use Rattle.std.specs.Prelude.{Some, None}
 use Rattle.slots.specs.Names.{push, place, has_free, count, Key, key_of, has_key, is_before, precedes, insert}
 use Rattle.slots.specs.Names.{no_timeout}
 use Rattle.slots.specs.Scan.{index_where, is_free, holds, first_that, place_of, used_slots}
@@ -43,7 +43,7 @@ module _ {A : Type 0} (t : A → Bool) where
   holds-fails zero (some x ∷ xs) h = h.0
   holds-fails (suc i) (some x ∷ xs) h = holds-fails i xs h.1
 
-  index-fails : (n : ℕ) (xs : List (Option A)) → Fails xs → index_where (holds t) n xs ≡ Nothing
+  index-fails : (n : ℕ) (xs : List (Option A)) → Fails xs → index_where (holds t) n xs ≡ None
   unfolding index_where
   index-fails n [] h = refl
   index-fails n (none ∷ xs) h = index-fails (suc n) xs h
@@ -149,7 +149,7 @@ module _ {A : Type 0} (u : A → A → Bool) (strict : Strict u) (y : A) where
   module _ (v : A → Bool) (same : (x z : A) → v z ≡ true → u x z ≡ u x y) where
     first_count : (n : ℕ) (xs : List (Option A)) → Rising u xs →
         index_where (holds v) n xs ≡
-        pick (holds v (get_or xs (count ahead xs) none)) (At (n + count ahead xs)) Nothing
+        pick (holds v (get_or xs (count ahead xs) none)) (Some (n + count ahead xs)) None
     unfolding count index_where
     first_count n [] h = refl
     first_count n (none ∷ xs) h =
@@ -218,7 +218,7 @@ module _ (k : Key) (rs : List (Option Record)) where
     holds-place i = holds-count precedes strict (keyed k) i rs (rising precedes strict rs order)
 
     pub first-place : first_that (has_key k) rs ≡
-        pick (holds (has_key k) (get_or rs (place_of k rs) none)) (At (place_of k rs)) Nothing
+        pick (holds (has_key k) (get_or rs (place_of k rs) none)) (Some (place_of k rs)) None
     first-place =
         first_count precedes strict (keyed k) (has_key k) (λ x z e. ap (is_before (key_of x)) (key-of k z e)) 0 rs
         (rising precedes strict rs order) ∙ rw (zero-add (place_of k rs))
@@ -248,5 +248,5 @@ module _ (rs : List (Option Record)) where
     pub free-behind : (n : ℕ) → used_slots rs ≤ n → Free (drop n rs)
     free-behind n l = used-rising precedes n rs (rising precedes strict rs order) l
 
-    pub found-used : (t : Record → Bool) (i : ℕ) → first_that t rs ≡ At i → i < used_slots rs
+    pub found-used : (t : Record → Bool) (i : ℕ) → first_that t rs ≡ Some i → i < used_slots rs
     found-used t i h = first-used precedes t i rs (rising precedes strict rs order) (first_of (holds t) i rs h)

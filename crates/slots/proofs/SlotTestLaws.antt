@@ -14,12 +14,12 @@ use Rattle.wire.proofs.ChoiceLaws.{cases, and_assoc, and-true, and-false, and_co
 use Rattle.wire.proofs.PartLaws.{field-part}
 use Rattle.slots.specs.declared.Channel.{Channel}
 use Rattle.slots.specs.declared.Record.{Record}
-use Rattle.slots.specs.declared.Found.TheVariants.{At}
+use Rattle.std.specs.Prelude.{Some, is_some as is_found}
 use Rattle.slots.specs.Table.{find, is_numbered, Key, has_key}
 use Rattle.slots.specs.Limits.{channel_limit}
 use Rattle.slots.specs.Layout.{header_size, slot_size, records_from, size_for, room_in}
 use Rattle.slots.specs.Layout.{channel_in, record_in, slot_in, store_in}
-use Rattle.slots.specs.Scan.{index_where, is_at, is_free, holds}
+use Rattle.slots.specs.Scan.{index_where, is_free, holds}
 use Rattle.slots.proofs.FitLaws.{length-read}
 use Rattle.slots.proofs.ScanLaws.{found_below}
 
@@ -58,7 +58,7 @@ module _ (at : ℕ) (bs : List ℕ) where
 -- WHAT A SCAN FOUND
 module _ {A : Type 0} where
   -- an entry passes where a scan from any index finds one
-  pub find_at : (t : A → Bool) (n : ℕ) (xs : List (Option A)) → is_some (find t xs) ≡ is_at (index_where (holds t) n xs)
+  pub find_at : (t : A → Bool) (n : ℕ) (xs : List (Option A)) → is_some (find t xs) ≡ is_found (index_where (holds t) n xs)
   unfolding find index_where
   find_at t n [] = refl
   find_at t n (none ∷ xs) = find_at t (suc n) xs
@@ -67,14 +67,14 @@ module _ {A : Type 0} where
 
 -- AN INDEX that a scan of a store's table found is one of the table's
 module _ (i : ℕ) (bs : List ℕ) where
-  pub channel-index : (t : Option Channel → Bool) → index_where t 0 (store_in bs).channels ≡ At i → i < channel_limit
+  pub channel-index : (t : Option Channel → Bool) → index_where t 0 (store_in bs).channels ≡ Some i → i < channel_limit
   unfolding store_in
   channel-index t h =
       let l = length-read channel_in channel_limit (drop header_size bs) in
       omega (arith, found_below t i (store_in bs).channels h)
 
   pub record-index : (t : Option Record → Bool) (n : ℕ) → length bs ≡ size_for n →
-      index_where t 0 (store_in bs).records ≡ At i → i < n
+      index_where t 0 (store_in bs).records ≡ Some i → i < n
   unfolding store_in room_in
   record-index t n size h =
       let l = length-read record_in (room_in (length bs)) (drop records_from bs) in

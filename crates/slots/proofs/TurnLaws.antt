@@ -9,8 +9,7 @@ use native.Mathlib.Numerals.{add-one}
 use native.Mathlib.Omega.{arith}
 use lib.ListN.{length}
 use Rattle.wire.proofs.BytesLaws.{pieces-turn, pieces_end}
-use Rattle.slots.specs.declared.Found.{Found}
-use Rattle.slots.specs.declared.Found.TheVariants.{At, Nothing}
+use Rattle.std.specs.Prelude.{Option as Found, Some, None}
 use Rattle.slots.specs.Limits.{channel_limit}
 use Rattle.slots.specs.Table.{in_order, precedes}
 use Rattle.slots.specs.Layout.{header_size, slot_size, records_from, size_for, room_in}
@@ -34,12 +33,12 @@ order-from n bs h = ap (in_order precedes) (sym (records-from n bs h.size)) ∙ 
 
 -- THE FIRST SLOT that passes a test, which came to r
 module _ {A : Type 0} (g : List ℕ → A) (t : Option A → Bool) (start n : ℕ) (bs : List ℕ) where
-  abbrev pub first_from : (i : ℕ) → Found
+  abbrev pub first_from : (i : ℕ) → Found ℕ
   first_from i = index_where t i (table_from g start n bs i)
 
-  module _ (i : ℕ) {all : Found} (left : all ≡ first_from i) where
+  module _ (i : ℕ) {all : Found ℕ} (left : all ≡ first_from i) where
     module _ {r : Bool} (more : i < n) (tested : r ≡ t (slot_in g (slot_at start bs i))) where
-      pub found : r ≡ true → At i ≡ all
+      pub found : r ≡ true → Some i ≡ all
       unfolding index_where
       found h = let f = sym tested ∙ h in rw (left, pieces-turn slot_size start n bs i more, f)
 
@@ -47,6 +46,6 @@ module _ {A : Type 0} (g : List ℕ → A) (t : Option A → Bool) (start n : �
       unfolding index_where
       missed h = let f = sym tested ∙ h in rw (left, pieces-turn slot_size start n bs i more, f, add-one i)
 
-    pub nothing : n ≤ i → Nothing ≡ all
+    pub nothing : n ≤ i → None ≡ all
     unfolding index_where
     nothing h = rw (left, pieces_end slot_size start n bs i h)

@@ -4,20 +4,14 @@ use Rattle.std.proofs.Math.Option.{Option, none, some}
 use Rattle.wire.specs.Choice.{pick}
 use Rattle.wire.specs.Bytes.{part, pieces}
 use Rattle.slots.specs.declared.Record.{Record}
-use Rattle.slots.specs.declared.Found.{Found}
-use Rattle.slots.specs.declared.Found.TheVariants.{At, Nothing}
+use Rattle.std.specs.Prelude.{Option as Found, Some, None}
 use Rattle.slots.specs.Table.{count, in_order, Key, key_of, is_before, precedes}
 use Rattle.slots.specs.Layout.{slot_size, size_for, slot_in, store_in}
 
 -- the first slot has the index `from`
-unfoldable pub index_where : {A : Type 0} → (Option A → Bool) → (from : ℕ) → List (Option A) → Found
-index_where t i [] = Nothing
-index_where t i (x ∷ xs) = pick (t x) (At i) (index_where t (suc i) xs)
-
--- a scan found a slot
-abbrev pub is_at : Found → Bool
-is_at (At i) = true
-is_at Nothing = false
+unfoldable pub index_where : {A : Type 0} → (Option A → Bool) → (from : ℕ) → List (Option A) → Found ℕ
+index_where t i [] = None
+index_where t i (x ∷ xs) = pick (t x) (Some i) (index_where t (suc i) xs)
 
 -- TESTS of a slot: it is free; it holds an entry that passes a test
 abbrev pub is_free : {A : Type 0} → Option A → Bool
@@ -29,10 +23,10 @@ holds t none = false
 holds t (some x) = t x
 
 -- THE TWO SCANS, from the start of a table
-abbrev pub first_free : {A : Type 0} → List (Option A) → Found
+abbrev pub first_free : {A : Type 0} → List (Option A) → Found ℕ
 first_free xs = index_where is_free 0 xs
 
-abbrev pub first_that : {A : Type 0} → (A → Bool) → List (Option A) → Found
+abbrev pub first_that : {A : Type 0} → (A → Bool) → List (Option A) → Found ℕ
 first_that t xs = index_where (holds t) 0 xs
 
 -- THE SLOTS of a table of n that starts at a place: the i-th, and those from it on, as bytes and as they are read

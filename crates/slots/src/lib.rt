@@ -126,10 +126,3 @@ pub struct Key {
     pub kind: u16,
     pub sequence: u64,
 }
-
-// One of a table's slots by its index, or none of them.
-#[derive(Clone, Copy)]
-pub enum Found {
-    At(usize),
-    Nothing,
-}

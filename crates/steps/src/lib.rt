@@ -19,7 +19,7 @@ use datagram::{Context, EndVerdict};
 use handshake::{end_difference, has_version, needed_init, needed_peer, needed_try_open};
 use packets::lacks_connection;
 use slots::{Channel, PortChannel, VERSION};
-use tables::scan::{find_free_channel, is_found};
+use tables::scan::find_free_channel;
 use wire::u64_at;
 
 // The largest channel number, as slots' specs/Limits.antt has it.
@@ -30,7 +30,7 @@ fn is_full(store: &[u8]) -> bool
     requires { records_from ≤ length store.now }
     ensures { result ≡ is_full (store_in store.now) }
 {
-    if !is_found(find_free_channel(store)) {
+    if find_free_channel(store).is_none() {
         return true;
     }
     TOP_CHANNEL < u64_at(store, 28)

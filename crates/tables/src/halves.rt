@@ -6,8 +6,7 @@ ghost use Rattle.slots.specs.Layout.{records_from, size_for, record_in, store_in
 ghost use Rattle.slots.specs.Scan.{first_that, table_from, place_of, RecordsInOrder};
 
 use super::key::{has_key, stands_before};
-use super::scan::is_found;
-use slots::{Found, Key, Layout};
+use slots::{Key, Layout};
 
 // How many of the first `count` packet records stand before a key. These are in order; what stands behind them is any.
 pub fn place_of(s: &[u8], count: usize, k: Key) -> usize
@@ -28,22 +27,22 @@ pub fn place_of(s: &[u8], count: usize, k: Key) -> usize
     low
 }
 
-pub fn find_record(s: &[u8], count: usize, k: Key) -> Found
+pub fn find_record(s: &[u8], count: usize, k: Key) -> Option<usize>
     requires { RecordsInOrder s.now count }
     ensures { result ≡ first_that (has_key k) (store_in s.now).records }
 {
     let i = place_of(s, count, k);
     if i < count {
         if has_key(s, Layout::RECORDS_FROM + Layout::SLOT * i, k) {
-            return Found::At(i);
+            return Some(i);
         }
     }
-    Found::Nothing
+    None
 }
 
 pub fn has_record(s: &[u8], count: usize, k: Key) -> bool
     requires { RecordsInOrder s.now count }
     ensures { result ≡ is_some (lookup k (store_in s.now).records) }
 {
-    is_found(find_record(s, count, k))
+    find_record(s, count, k).is_some()
 }

@@ -5,10 +5,10 @@ ghost use Rattle.slots.specs.Limits.{channel_limit};
 ghost use Rattle.slots.specs.Table.{is_numbered, has_key};
 ghost use Rattle.slots.specs.Layout.{header_size, slot_size, records_from, size_for};
 ghost use Rattle.slots.specs.Layout.{channel_in, record_in, slot_in, store_in};
-ghost use Rattle.slots.specs.Scan.{index_where, is_at, holds, first_free, first_that, table_from};
+ghost use Rattle.slots.specs.Scan.{index_where, holds, first_free, first_that, table_from};
 
 use super::key::has_key;
-use slots::{Found, Key, Layout};
+use slots::{Key, Layout};
 use wire::{are_zero, u32_at};
 
 // A free slot has no number, though its bytes read as 0. Numbers differ, so that few slots are tested for it.
@@ -23,36 +23,36 @@ fn is_numbered(s: &[u8], at: usize, number: u32) -> bool
 }
 
 // The first channel end of this number among the first `upto` slots.
-pub fn first_channel(s: &[u8], upto: usize, number: u32) -> Found
+pub fn first_channel(s: &[u8], upto: usize, number: u32) -> Option<usize>
     requires { (records_from ≤ length s.now) × (upto ≤ channel_limit) }
     ensures { result ≡ first_that (is_numbered number) (table_from channel_in header_size upto s.now 0) }
 {
     let mut i: usize = 0;
     while i < upto {
         if is_numbered(s, Layout::HEADER + Layout::SLOT * i, number) {
-            return Found::At(i);
+            return Some(i);
         }
         i += 1;
     }
-    Found::Nothing
+    None
 }
 
 // The first packet record of this key among the slots from `from` on, whatever their order.
-pub fn first_record(s: &[u8], count: usize, from: usize, k: Key) -> Found
+pub fn first_record(s: &[u8], count: usize, from: usize, k: Key) -> Option<usize>
     requires { size_for count ≤ length s.now }
     ensures { result ≡ index_where (holds (has_key k)) from (table_from record_in records_from count s.now from) }
 {
     let mut i = from;
     while i < count {
         if has_key(s, Layout::RECORDS_FROM + Layout::SLOT * i, k) {
-            return Found::At(i);
+            return Some(i);
         }
         i += 1;
     }
-    Found::Nothing
+    None
 }
 
-pub fn find_channel(s: &[u8], number: u32) -> Found
+pub fn find_channel(s: &[u8], number: u32) -> Option<usize>
     requires { records_from ≤ length s.now }
     ensures { result ≡ first_that (is_numbered number) (store_in s.now).channels }
 {
@@ -60,25 +60,16 @@ pub fn find_channel(s: &[u8], number: u32) -> Found
 }
 
 // The free channel record of lowest index.
-pub fn find_free_channel(s: &[u8]) -> Found
+pub fn find_free_channel(s: &[u8]) -> Option<usize>
     requires { records_from ≤ length s.now }
     ensures { result ≡ first_free (store_in s.now).channels }
 {
     let mut i: usize = 0;
     while i < Layout::CHANNELS {
         if are_zero(s, Layout::HEADER + Layout::SLOT * i, Layout::SLOT) {
-            return Found::At(i);
+            return Some(i);
         }
         i += 1;
     }
-    Found::Nothing
-}
-
-pub fn is_found(f: Found) -> bool
-    ensures { result ≡ is_at f }
-{
-    match f {
-        Found::At(_) => true,
-        Found::Nothing => false,
-    }
+    None
 }

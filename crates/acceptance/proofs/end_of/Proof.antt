@@ -3,7 +3,7 @@ use mathlib.Core.Path.{◌≡◌, sym, ap, ◌∙◌}
 use Prim.Native.Nat.{ℕ, ◌<◌}
 use native.Mathlib.Omega.{arith}
 use borrow.Author.Rules.{rules}
-use Rattle.slots.specs.declared.Found.TheVariants.{At}
+use Rattle.std.specs.Prelude.{Some}
 use Rattle.slots.specs.Limits.{channel_limit}
 use Rattle.slots.specs.Table.{is_numbered}
 use Rattle.slots.specs.Layout.{store_in}
@@ -23,17 +23,17 @@ returns c =
     sym (ap or_none (find-nothing (is_numbered o.args.number) 0 (store_in o.args.store.now).channels told))
 
 -- the index that was found
-abbrev start : tie.In-At → tie.Start
+abbrev start : tie.In-Some → tie.Start
 start k = k.before.before
 
-abbrev index : tie.In-At → ℕ
-index k = k.in-At.j
+abbrev index : tie.In-Some → ℕ
+index k = k.in-Some.j
 
-found : (k : tie.In-At) →
-    first_that (is_numbered (start k).args.number) (store_in (start k).args.store.now).channels ≡ At (index k)
-found k = sym (start k).requires.1 ∙ k.in-At.is
+found : (k : tie.In-Some) →
+    first_that (is_numbered (start k).args.number) (store_in (start k).args.store.now).channels ≡ Some (index k)
+found k = sym (start k).requires.1 ∙ k.in-Some.is
 
-below : (k : tie.In-At) → index k < channel_limit
+below : (k : tie.In-Some) → index k < channel_limit
 below k =
     let o = start k in
     channel-index (index k) o.args.store.now (holds (is_numbered o.args.number)) (found k)

@@ -1,7 +1,7 @@
 -- The scan by what becomes of the ends. Assumes nothing.
 use mathlib.Core.Path.{sym, ap, ◌∙◌}
 use borrow.Author.Rules.{rules}
-use Rattle.slots.specs.declared.Found.{Found}
+use Rattle.std.specs.Prelude.{Option, ℕ}
 use Rattle.slots.specs.Layout.{store_in}
 use Rattle.effects.specs.declared.EndAction.{EndAction}
 use Rattle.acceptance.specs.Planned.{slot_by}
@@ -9,7 +9,7 @@ use Rattle.acceptance.proofs.end_slot.Statement.{statement}
 use Rattle.acceptance.proofs.end_slot.Tie as tie
 
 -- the slot for another action
-abbrev slot_of : tie.Start → EndAction → Found
+abbrev slot_of : tie.Start → EndAction → Option ℕ
 slot_of o x = slot_by x o.args.at (store_in o.args.store.now).channels
 
 returns-2 : tie.Need-returns-in-Puts

@@ -11,7 +11,7 @@ use borrow.Author.Tests.{eq-eqb, ne_eqb}
 use Rattle.wire.specs.Choice.{◌and◌, ◌or◌, is_some, with_number}
 use Rattle.wire.proofs.ChoiceLaws.{clash}
 use Rattle.slots.specs.declared.Channel.{Channel}
-use Rattle.slots.specs.declared.Found.TheVariants.{At}
+use Rattle.std.specs.Prelude.{Some}
 use Rattle.slots.specs.Limits.{channel_limit}
 use Rattle.slots.specs.Table.{is_numbered}
 use Rattle.slots.specs.Layout.{store_in}
@@ -43,17 +43,17 @@ scanned : (f : tie.After-find_channel) →
     f.find_channel.result ≡ first_that (is_numbered (sent o).channel) (store_in (bytes o)).channels
 scanned f = rw (← f.channel_in.ensures) f.find_channel.ensures
 
-abbrev index : tie.In-At → ℕ
-index k = k.in-At.j
+abbrev index : tie.In-Some → ℕ
+index k = k.in-Some.j
 
-abbrev origin : tie.In-At → tie.Start
+abbrev origin : tie.In-Some → tie.Start
 origin k = start k.before
 
-found : (k : tie.In-At) →
-    first_that (is_numbered (sent (origin k)).channel) (store_in (bytes (origin k))).channels ≡ At (index k)
-found k = sym (scanned k.before) ∙ k.in-At.is
+found : (k : tie.In-Some) →
+    first_that (is_numbered (sent (origin k)).channel) (store_in (bytes (origin k))).channels ≡ Some (index k)
+found k = sym (scanned k.before) ∙ k.in-Some.is
 
-below : (k : tie.In-At) → index k < channel_limit
+below : (k : tie.In-Some) → index k < channel_limit
 below k =
     channel-index (index k) (bytes (origin k)) (holds (is_numbered (sent (origin k)).channel)) (found k)
 

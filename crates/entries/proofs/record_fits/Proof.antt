@@ -4,7 +4,7 @@ use mathlib.Core.List.{List}
 use Prim.Native.Nat.{ℕ, ◌<◌}
 use native.Mathlib.Omega.{arith}
 use Rattle.wire.specs.Choice.{◌and◌}
-use Rattle.slots.specs.declared.Found.TheVariants.{At}
+use Rattle.std.specs.Prelude.{Some}
 use Rattle.slots.specs.Limits.{channel_limit}
 use Rattle.slots.specs.Table.{is_numbered}
 use Rattle.slots.specs.Layout.{store_in}
@@ -18,19 +18,19 @@ use Rattle.entries.proofs.record_fits.Statement.{statement}
 use Rattle.entries.proofs.record_fits.Tie as tie
 
 -- the slot that is found, and the bytes and the number that are searched
-abbrev index : tie.In-At → ℕ
-index k = k.in-At.j
+abbrev index : tie.In-Some → ℕ
+index k = k.in-Some.j
 
-abbrev bytes : tie.In-At → List ℕ
+abbrev bytes : tie.In-Some → List ℕ
 bytes k = k.args.s.now
 
-abbrev number : tie.In-At → ℕ
+abbrev number : tie.In-Some → ℕ
 number k = k.args.r.channel
 
-found : (k : tie.In-At) → first_that (is_numbered (number k)) (store_in (bytes k)).channels ≡ At (index k)
-found k = sym k.find_channel.ensures ∙ k.in-At.is
+found : (k : tie.In-Some) → first_that (is_numbered (number k)) (store_in (bytes k)).channels ≡ Some (index k)
+found k = sym k.find_channel.ensures ∙ k.in-Some.is
 
-below : (k : tie.In-At) → index k < channel_limit
+below : (k : tie.In-Some) → index k < channel_limit
 below k = channel-index (index k) (bytes k) (holds (is_numbered (number k))) (found k)
 
 returns : tie.Need-returns-in_default

@@ -11,7 +11,7 @@ use Rattle.wire.specs.Bytes.{Bytes, are_zero}
 use Rattle.wire.proofs.ChoiceLaws.{cases}
 use Rattle.wire.proofs.PartLaws.{bytes-array}
 use Rattle.slots.specs.declared.Channel.{Channel}
-use Rattle.slots.specs.declared.Found.TheVariants.{At}
+use Rattle.std.specs.Prelude.{Some}
 use Rattle.slots.specs.Limits.{channel_limit}
 use Rattle.slots.specs.Table.{is_numbered}
 use Rattle.slots.specs.Layout.{header_size, records_from, channel_in, store_in}
@@ -103,20 +103,20 @@ returns-4 c =
     (omega arith) (taken k) (sym call.end_index.ensures ∙ c.in_default.is)
 
 -- ON ITS CHANNEL END
-abbrev start : tie.In-At invariant-loop decreases-loop → tie.Else-not-starts_run invariant-loop decreases-loop
+abbrev start : tie.In-Some invariant-loop decreases-loop → tie.Else-not-starts_run invariant-loop decreases-loop
 start k = k.before.before
 
-abbrev loop : tie.In-At invariant-loop decreases-loop → tie.At-loop-i invariant-loop decreases-loop
+abbrev loop : tie.In-Some invariant-loop decreases-loop → tie.At-loop-i invariant-loop decreases-loop
 loop k = head (first (start k))
 
-abbrev index : tie.In-At invariant-loop decreases-loop → ℕ
-index k = k.in-At.end
+abbrev index : tie.In-Some invariant-loop decreases-loop → ℕ
+index k = k.in-Some.end
 
-found : (k : tie.In-At invariant-loop decreases-loop) → let l = loop k in
-    first_that (is_numbered (key_at (bytes l) l.loop-i.i).channel) (store_in (bytes l)).channels ≡ At (index k)
-found k = sym k.end_index.ensures ∙ k.in-At.is
+found : (k : tie.In-Some invariant-loop decreases-loop) → let l = loop k in
+    first_that (is_numbered (key_at (bytes l) l.loop-i.i).channel) (store_in (bytes l)).channels ≡ Some (index k)
+found k = sym k.end_index.ensures ∙ k.in-Some.is
 
-below : (k : tie.In-At invariant-loop decreases-loop) → index k < channel_limit
+below : (k : tie.In-Some invariant-loop decreases-loop) → index k < channel_limit
 below k =
     let l = loop k in
     channel-index (index k) (bytes l) (holds (is_numbered (key_at (bytes l) l.loop-i.i).channel)) (found k)
@@ -135,7 +135,7 @@ returns-5 c =
     run.own_run_end-e.ensures c.if-e-i.true
 
 -- A RUN that has a record
-abbrev known-end : tie.Else-e-i invariant-loop decreases-loop → tie.In-At invariant-loop decreases-loop
+abbrev known-end : tie.Else-e-i invariant-loop decreases-loop → tie.In-Some invariant-loop decreases-loop
 known-end r = r.before.before
 
 more : (r : tie.Else-e-i invariant-loop decreases-loop) → (loop (known-end r)).loop-i.i < r.own_run_end-e.result

@@ -5,6 +5,8 @@ use mathlib.Core.List.{List, map}
 use Prim.Native.Nat.{ℕ, ◌+◌, ◌*◌}
 use native.Mathlib.Omega.{arith}
 use lib.Dec.{ltb}
+use Rattle.std.specs.Prelude.{is_some}
+use Rattle.std.proofs.Math.Bool.{not-not}
 use borrow.Author.Rules.{rules}
 use borrow.Author.Tests.{not-true, not-false}
 use Rattle.wire.specs.Choice.{◌and◌}
@@ -13,7 +15,7 @@ use Rattle.wire.proofs.PartLaws.{field-part}
 use Rattle.slots.specs.Table.{same_number}
 use Rattle.slots.specs.Layout.{header_size, slot_size, channel_bytes, channel_in, slot_in}
 use Rattle.slots.specs.Fit.{is_below}
-use Rattle.slots.specs.Scan.{slot_at, slots_from, is_at}
+use Rattle.slots.specs.Scan.{slot_at, slots_from}
 use Rattle.slots.proofs.SlotTestLaws.{find_at}
 use Rattle.front.specs.EverySlot.{fits_below, is_exact, is_lone}
 use Rattle.front.proofs.EverySlotLaws.{slot-free, slot-taken}
@@ -71,14 +73,14 @@ told x =
 returns-3 : tie.Need-returns-then-is_channel_exact-number
 unfolding ◌and◌
 returns-3 c =
-    let k = c.before.before in
+    let k = c.before.before.before in
     let n = k.before.before.before.before in
     let d = n.before in
     let o = d.before.before.before in
     slot-taken channel_bytes channel_in (fits_below o.args.next) (is_lone same_number) (slot o) (front o)
     d.are_zero.ensures d.if-are_zero.false {q = true} (sym k.if-is_channel_exact-number.true ∙ told k.before)
     (rw (find_at (same_number (channel_in (slot o))) 0 (map (slot_in channel_in) (front o)), ← numbered n)
-    (ap not (c.is_found.ensures ∙ ap is_at c.first_channel.ensures)))
+    (sym (not-not _) ∙ ap not (sym c.is_none.ensures ∙ ap is_some c.first_channel.ensures)))
 
 returns-4 : tie.Need-returns
 unfolding ◌and◌

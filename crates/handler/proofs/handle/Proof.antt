@@ -65,14 +65,14 @@ returns c =
     (λ e. omega arith)
 
 -- BEHIND THE CHECK the store is fit, and it is known how many packet records are in use
-abbrev bytes : tie.In-At → List ℕ
+abbrev bytes : tie.In-Some → List ℕ
 bytes k = k.args.store.now
 
-checked : (k : tie.In-At) →
-    (is_fit (bytes k) ≡ true) × (k.in-At.used ≡ used_slots (store_in (bytes k)).records)
+checked : (k : tie.In-Some) →
+    (is_fit (bytes k) ≡ true) × (k.in-Some.used ≡ used_slots (store_in (bytes k)).records)
 checked k =
-    used-fit (is_fit (bytes k)) (bytes k) k.in-At.used
-    (sym k.used_if_fit.ensures ∙ k.in-At.is)
+    used-fit (is_fit (bytes k)) (bytes k) k.in-Some.used
+    (sym k.used_if_fit.ensures ∙ k.in-Some.is)
 
 answer-requires : tie.Need-answer-number-requires
 answer-requires c κs = (checked c).0

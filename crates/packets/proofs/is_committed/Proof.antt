@@ -4,7 +4,7 @@ use mathlib.Core.List.{List}
 use Prim.Native.Nat.{ℕ, ◌<◌}
 use native.Mathlib.Omega.{arith}
 use borrow.Author.Rules.{rules}
-use Rattle.slots.specs.declared.Found.TheVariants.{At}
+use Rattle.std.specs.Prelude.{Some}
 use Rattle.slots.specs.declared.Key.{Key}
 use Rattle.slots.specs.Table.{commitment_key, has_key}
 use Rattle.slots.specs.Layout.{store_in}
@@ -21,7 +21,7 @@ abbrev start : tie.After-digest-1 → tie.Start
 start k = k.before.before.before.before.before
 
 abbrev index : tie.After-digest-1 → ℕ
-index k = k.in-At.i
+index k = k.in-Some.i
 
 abbrev bytes : tie.After-digest-1 → List ℕ
 bytes k = (start k).args.store.now
@@ -29,8 +29,8 @@ bytes k = (start k).args.store.now
 abbrev key : tie.After-digest-1 → Key
 key k = commitment_key (start k).args.p.source.channel (start k).args.p.sequence
 
-found : (k : tie.After-digest-1) → first_that (has_key (key k)) (store_in (bytes k)).records ≡ At (index k)
-found k = sym k.find_record.ensures ∙ k.in-At.is
+found : (k : tie.After-digest-1) → first_that (has_key (key k)) (store_in (bytes k)).records ≡ Some (index k)
+found k = sym k.find_record.ensures ∙ k.in-Some.is
 
 below : (k : tie.After-digest-1) → index k < (start k).args.count
 below k =

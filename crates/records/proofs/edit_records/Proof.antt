@@ -7,7 +7,7 @@ use native.Mathlib.Omega.{arith}
 use lib.ListN.{length}
 use borrow.Author.Rules.{rules}
 use Rattle.slots.specs.declared.Record.{Record}
-use Rattle.slots.specs.declared.Found.TheVariants.{At}
+use Rattle.std.specs.Prelude.{Some}
 use Rattle.slots.specs.Table.{has_key, key_of}
 use Rattle.slots.specs.Layout.{Store, slot_size, records_from, size_for, bytes_of, store_in}
 use Rattle.slots.specs.Scan.{used_slots}
@@ -36,26 +36,26 @@ returns c =
     sym (ap (λ (rs : List (Option Record)). bytes_of (with_records (held o) rs)) none ∙ o.requires.0.laid)
 
 -- the index that the search found, for the edit of an action
-abbrev start : tie.In-At → tie.Start
+abbrev start : tie.In-Some → tie.Start
 start f = f.before.before
 
-abbrev index : tie.In-At → ℕ
-index f = f.in-At.i
+abbrev index : tie.In-Some → ℕ
+index f = f.in-Some.i
 
-found : (f : tie.In-At) (x : Action) → (start f).args.e.action ≡ x →
-    slot_of (edit_of x (start f).args.e.about) (held (start f)).records ≡ At (index f)
+found : (f : tie.In-Some) (x : Action) → (start f).args.e.action ≡ x →
+    slot_of (edit_of x (start f).args.e.about) (held (start f)).records ≡ Some (index f)
 found f x q =
     let o = start f in
     ap (λ (y : Action). slot_of (edit_of y o.args.e.about) (held o).records) (sym q) ∙ sym o.requires.3 ∙
-    f.in-At.is
+    f.in-Some.is
 
 -- there is one, so the table has a slot
-below : (f : tie.In-At) → index f < length (held (start f)).records
+below : (f : tie.In-Some) → index f < length (held (start f)).records
 below f =
     let o = start f in
-    slot-below (edit_by o.args.e) (held o).records (index f) (sym o.requires.3 ∙ f.in-At.is)
+    slot-below (edit_by o.args.e) (held o).records (index f) (sym o.requires.3 ∙ f.in-Some.is)
 
-room : (f : tie.In-At) → length (start f).args.store.now ≡ size_for (length (held (start f)).records)
+room : (f : tie.In-Some) → length (start f).args.store.now ≡ size_for (length (held (start f)).records)
 room f = exact-room (start f).args.store.now (start f).requires.0
 
 -- WRITTEN: the slots that move end at the spare one
@@ -79,7 +79,7 @@ module _ (p : tie.After-spare_slot-spare) (told : (start p.before).args.e.action
       (omega (arith, spare-is, k.0), omega (arith, spare-is, k.1))
 
 -- FREED: they end at the last one in use
-module _ (f : tie.In-At) (told : (start f).args.e.action ≡ Frees) where
+module _ (f : tie.In-Some) (told : (start f).args.e.action ≡ Frees) where
   used-above : (index f < (start f).args.used) × ((start f).args.used ≤ length (held (start f)).records)
   used-above =
       let o = start f in

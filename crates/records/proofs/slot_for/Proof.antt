@@ -8,7 +8,7 @@ use lib.Dec.{ltb}
 use borrow.Author.Tests.{lt-ltb, le-ltb}
 use Rattle.wire.specs.Choice.{pick}
 use Rattle.slots.specs.declared.Key.{Key}
-use Rattle.slots.specs.declared.Found.TheVariants.{At, Nothing}
+use Rattle.std.specs.Prelude.{Some, None}
 use Rattle.slots.specs.Layout.{records_from, record_in, store_in}
 use Rattle.slots.specs.Scan.{table_from, place_of, RecordsInOrder}
 use Rattle.slots.proofs.ScanLaws.{length-slots}
@@ -20,7 +20,7 @@ use Rattle.records.proofs.slot_for.Tie as tie
 -- the answer by whether the place is below the number of slots
 answer : (n : ℕ) (bs : List ℕ) → RecordsInOrder bs n → (k : Key) {i : ℕ} →
     i ≡ place_of k (table_from record_in records_from n bs 0) → {b : Bool} → ltb i n ≡ b →
-    slot_for k (store_in bs).records ≡ pick b (At i) Nothing
+    slot_for k (store_in bs).records ≡ pick b (Some i) None
 unfolding slot_for
 answer n bs h k e p = rw (records-from n bs h.size, length-slots record_in records_from n bs, ← e, p)
 

@@ -4,7 +4,7 @@ use native.Mathlib.Omega.{arith}
 use lib.ListN.{length}
 use borrow.Author.Rules.{rules}
 use Rattle.slots.specs.declared.Key.{Key}
-use Rattle.slots.specs.declared.Found.{Found}
+use Rattle.std.specs.Prelude.{Option, ℕ}
 use Rattle.slots.specs.Table.{has_key}
 use Rattle.slots.specs.Layout.{room_in, store_in}
 use Rattle.slots.specs.Scan.{first_that, RecordsInOrder}
@@ -26,7 +26,7 @@ unfolding room_in
 find-record-requires c κs = order c.before.before.before.before
 
 -- the slot of an edit of another action
-abbrev slot_by : tie.Start → Action → Found
+abbrev slot_by : tie.Start → Action → Option ℕ
 slot_by o x = slot_of (edit_of x o.args.e.about) (store_in o.args.store.now).records
 
 returns-2 : tie.Need-returns-in-Writes

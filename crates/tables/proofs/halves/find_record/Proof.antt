@@ -9,7 +9,7 @@ use lib.ListN.{get_or, get_or-eq_default}
 use Rattle.wire.specs.Choice.{pick}
 use Rattle.slots.specs.declared.Record.{Record}
 use Rattle.slots.specs.declared.Key.{Key}
-use Rattle.slots.specs.declared.Found.TheVariants.{At, Nothing}
+use Rattle.std.specs.Prelude.{Some, None}
 use Rattle.slots.specs.Table.{has_key}
 use Rattle.slots.specs.Layout.{records_from, record_in, store_in}
 use Rattle.slots.specs.Scan.{holds, first_that, table_from, place_of, RecordsInOrder}
@@ -25,11 +25,11 @@ records n bs = table_from record_in records_from n bs 0
 -- the answer by what stands at the place
 answer : (n : ℕ) (bs : List ℕ) → RecordsInOrder bs n → (k : Key) {i : ℕ} → i ≡ place_of k (records n bs) → {b : Bool} →
     holds (has_key k) (get_or (records n bs) i none) ≡ b →
-    first_that (has_key k) (store_in bs).records ≡ pick b (At i) Nothing
+    first_that (has_key k) (store_in bs).records ≡ pick b (Some i) None
 answer n bs h k {i} e p =
     ap (first_that (has_key k)) (records-from n bs h.size) ∙ first-place k (records n bs) (order-from n bs h) ∙
-    ap (λ (j : ℕ). pick (holds (has_key k) (get_or (records n bs) j none)) (At j) Nothing) (sym e) ∙
-    ap (λ (b : Bool). pick b (At i) Nothing) p
+    ap (λ (j : ℕ). pick (holds (has_key k) (get_or (records n bs) j none)) (Some j) None) (sym e) ∙
+    ap (λ (b : Bool). pick b (Some i) None) p
 
 place-of-requires : tie.Need-place_of-i-requires
 place-of-requires c κs =
