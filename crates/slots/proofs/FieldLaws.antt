@@ -2,12 +2,13 @@
 use mathlib.Core.Bool.{◌&&◌}
 use Rattle.std.specs.Ordering.{nat_cmp, partial_lt, is_lt, is_some_and, partial_ordering_then}
 use Rattle.std.proofs.Common.{Option, Some, Ordering}
-use Rattle.wire.proofs.Prelude.{◌≡◌, refl, ap, ◌∙◌, Bool, true, false, ℕ, eqb, ltb, ltb-true, ne_eqb, arith}
+use Rattle.wire.proofs.Prelude.{◌≡◌, refl, sym, ap, ◌∙◌, Bool, true, false, ℕ, eqb, ltb, ltb-true, ne_eqb, arith}
 use Rattle.wire.specs.Names.{◌and◌, pick}
 use Rattle.wire.proofs.Laws.{cases}
 use Rattle.slots.specs.declared.Timeout.{Timeout}
 use Rattle.slots.specs.declared.PortChannel.{PortChannel}
-use Rattle.slots.specs.Names.{Key, same_timeout, same_port_channel, is_before}
+use Rattle.slots.specs.declared.Record.{Record}
+use Rattle.slots.specs.Names.{Key, key_of, has_key, same_timeout, same_port_channel, is_before}
 use Rattle.slots.specs.contracts.KeyPartialOrd.TheImpl.{partial_cmp-value as key_cmp}
 
 -- EQUAL: `==` joins the fields by `&&`
@@ -24,6 +25,20 @@ pub same-port-channel : (a b : PortChannel) →
     same_port_channel a b ≡ (eqb a.port b.port && eqb a.channel b.channel)
 unfolding same_port_channel
 same-port-channel a b = and-both (eqb a.port b.port) (eqb a.channel b.channel)
+
+-- a record has a key where its own is equal to that one
+pub has-equal-key : (k x : Key) (r : Record) → x ≡ key_of r →
+    has_key k r ≡ (eqb x.channel k.channel && (eqb x.kind k.kind && eqb x.sequence k.sequence))
+unfolding has_key ◌and◌
+has-equal-key k x r e =
+    swap (eqb r.kind k.kind) (eqb r.channel k.channel) (eqb r.sequence k.sequence) ∙
+    ap (λ (q : Key). eqb q.channel k.channel && (eqb q.kind k.kind && eqb q.sequence k.sequence)) (sym e)
+  where
+    swap : (a b c : Bool) → a and b and c ≡ (b && (a && c))
+    swap true true c = refl
+    swap true false c = refl
+    swap false true c = refl
+    swap false false c = refl
 
 -- BELOW: `<` compares the last field by its order, and each field before it where that one is equal
 pub below-last : (x y : ℕ) → is_some_and is_lt (Some (nat_cmp x y)) ≡ ltb x y

@@ -1,7 +1,6 @@
 -- Laws of the keys of packet records: when two are the same, and their strict order. Assumes nothing.
 use Rattle.wire.proofs.Prelude.{◌≡◌, sym, ap, ◌∙◌, true, false, ◌⊎◌, inl, inr, arith, ◌≤◌, ◌<◌, eqb, eqb-true}
 use Rattle.wire.proofs.Prelude.{eqb-false, ltb-true, ltb-false, eq-eqb, ne_eqb, lt-ltb}
-use Rattle.wire.specs.Names.{◌and◌}
 use Rattle.wire.proofs.Laws.{and_both, both-and, cases}
 use Rattle.slots.specs.declared.Record.{Record}
 use Rattle.slots.specs.Names.{Key, key_of, has_key, same_key, is_before, precedes}

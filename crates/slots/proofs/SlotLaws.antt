@@ -1,5 +1,5 @@
 -- A slot of 64 bytes is read and stored field by field. Assumes nothing.
-use mathlib.Core.Path.{◌≡◌, refl, sym, ◌∙◌}
+use mathlib.Core.Path.{◌≡◌, refl, sym, ap, ◌∙◌}
 use mathlib.Core.List.{List, [], ◌∷◌, ◌++◌}
 use Prim.Native.Nat.{ℕ, ◌+◌, ◌≤◌}
 use native.Mathlib.Nat.{add_assoc, add-zero}
@@ -16,6 +16,7 @@ use Rattle.slots.specs.declared.Record.{Record}
 use Rattle.slots.specs.Limits.{version_size}
 use Rattle.slots.specs.Codes.{channel_kind}
 use Rattle.slots.specs.Layout.{slot_size, channel_in, channel_bytes, record_in, record_bytes}
+use Rattle.slots.specs.Table.{key_of}
 use Rattle.slots.specs.Part.{port_channel_in, timeout_in}
 
 -- A PART OF A RECORD is read where it stands in the bytes
@@ -72,6 +73,11 @@ module _ (at : ℕ) (bs : List ℕ) where
         timeout = (t ∙ sym (timeout-part 16 at slot_size bs (omega arith))) i;
         digest = (d ∙ sym (part-part 32 digest_size at slot_size bs (omega arith))) i;
       }
+
+  -- the key of a packet record leads it
+  pub key_read : (k c n : ℕ) → k ≡ field at 2 bs → c ≡ field (at + 4) 4 bs → n ≡ field (at + 8) 8 bs →
+      record { channel = c; kind = k; sequence = n } ≡ key_of (record_in (part at slot_size bs))
+  key_read k c n p q r = ap key_of (record-read p q r refl refl)
 
   -- STORED
   bytes-stored : (k n : ℕ) (xs ys : List ℕ) → length xs ≡ 1 → length ys ≡ 1 →

@@ -4,18 +4,17 @@ use mathlib.Core.Bool.{Bool, not}
 use mathlib.Core.List.{List, [], ◌∷◌}
 use mathlib.Core.Option.{Option, none, some}
 use Prim.Native.Nat.{ℕ, suc, ◌+◌, ◌<◌}
-use native.Mathlib.Nat.{add-zero}
 use native.Mathlib.Omega.{arith}
 use lib.Dec.{eqb}
 use lib.ListN.{length, drop}
 use Rattle.wire.specs.Choice.{◌and◌, is_some}
 use Rattle.wire.specs.Bytes.{are_zero, part, field}
-use Rattle.wire.proofs.ChoiceLaws.{cases, and_assoc, and-true, and-false, and_comm}
+use Rattle.wire.proofs.ChoiceLaws.{cases, and-true, and-false}
 use Rattle.wire.proofs.PartLaws.{field-part}
 use Rattle.slots.specs.declared.Channel.{Channel}
 use Rattle.slots.specs.declared.Record.{Record}
 use Rattle.std.specs.Prelude.{Some, is_some as is_found}
-use Rattle.slots.specs.Table.{find, is_numbered, Key, has_key}
+use Rattle.slots.specs.Table.{find, is_numbered}
 use Rattle.slots.specs.Limits.{channel_limit}
 use Rattle.slots.specs.Layout.{header_size, slot_size, records_from, size_for, room_in}
 use Rattle.slots.specs.Layout.{channel_in, record_in, slot_in, store_in}
@@ -39,21 +38,6 @@ module _ (at : ℕ) (bs : List ℕ) where
       (eqb (field (at + 4) 4 bs) n and not (are_zero (part at slot_size bs)))
   unfolding is_numbered channel_in
   number-held n = held channel_in (part at slot_size bs) (is_numbered n) ∙ rw (field-part 4 4 at slot_size bs (omega arith))
-
-  pub key-held : (k : Key) → holds (has_key k) (slot_in record_in (part at slot_size bs)) ≡
-      (eqb (field (at + 8) 8 bs) k.sequence and (eqb (field at 2 bs) k.kind and
-      eqb (field (at + 4) 4 bs) k.channel and not (are_zero (part at slot_size bs))))
-  unfolding has_key record_in
-  key-held k =
-      held record_in (part at slot_size bs) (has_key k) ∙
-      rw (
-        field-part 0 2 at slot_size bs (omega arith),
-        add-zero,
-        field-part 4 4 at slot_size bs (omega arith),
-        field-part 8 8 at slot_size bs (omega arith),
-        and_comm (eqb (field at 2 bs) k.kind and eqb (field (at + 4) 4 bs) k.channel) _,
-        and_assoc (eqb (field (at + 8) 8 bs) k.sequence) _ _,
-      )
 
 -- WHAT A SCAN FOUND
 module _ {A : Type 0} where

@@ -8,43 +8,32 @@ ghost use Rattle.slots.specs.Scan.{holds};
 use slots::{Key, Layout};
 use wire::{are_zero, u16_at, u32_at, u64_at};
 
+#[tactic(auto, using(slots::proofs::FieldLaws::by_fields, slots::proofs::SlotLaws::key_read))]
 pub fn key_at(s: &[u8], at: usize) -> Key
     requires { at + slot_size ≤ length s.now }
     ensures { result ≡ key_of (record_in (part at slot_size s.now)) }
 {
     Key {
-        kind: u16_at(s, at),
         channel: u32_at(s, at + 4),
+        kind: u16_at(s, at),
         sequence: u64_at(s, at + 8),
     }
 }
 
-// A free slot has no key. The sequence is what most records differ in.
+// A free slot has no key.
+#[tactic(auto, using(slots::proofs::FieldLaws::by_fields, slots::proofs::SlotTestLaws::held))]
 pub(crate) fn has_key(s: &[u8], at: usize, k: Key) -> bool
     requires { at + slot_size ≤ length s.now }
     ensures { result ≡ holds (has_key k) (slot_in record_in (part at slot_size s.now)) }
 {
-    if u64_at(s, at + 8) != k.sequence {
-        return false;
-    }
-    (u16_at(s, at) == k.kind) & (u32_at(s, at + 4) == k.channel) & !are_zero(s, at, Layout::SLOT)
-}
-
-// By channel, then kind, then sequence.
-#[tactic(auto, using(slots::proofs::FieldLaws::by_fields))]
-fn is_before(a: Key, b: Key) -> bool
-    ensures { result ≡ is_before a b }
-{
-    a < b
+    key_at(s, at) == k && !are_zero(s, at, Layout::SLOT)
 }
 
 // A free slot stands behind every key.
+#[tactic(auto, using(slots::proofs::FieldLaws::by_fields, slots::proofs::SlotTestLaws::held))]
 pub fn stands_before(s: &[u8], at: usize, k: Key) -> bool
     requires { at + slot_size ≤ length s.now }
     ensures { result ≡ holds (λ x. is_before (key_of x) k) (slot_in record_in (part at slot_size s.now)) }
 {
-    if !is_before(key_at(s, at), k) {
-        return false;
-    }
-    !are_zero(s, at, Layout::SLOT)
+    key_at(s, at) < k && !are_zero(s, at, Layout::SLOT)
 }
