@@ -1,16 +1,20 @@
 -- What an accepted call tells the plan and the output, what is planned is what the rules say of the call, and an end at
 -- its slot. Assumes nothing.
 use Rattle.wire.proofs.Prelude.{◌≡◌, refl, sym, ap, subst, ◌∙◌, List, Option, none, some, ℕ, ◌≤◌, ◌<◌, arith}
-use Rattle.wire.proofs.Prelude.{false, true, length, ltb-false, not-false}
+use Rattle.wire.proofs.Prelude.{false, true, length, ltb-true, ltb-false, leb-true, le-leb, lt-ltb, not-false}
 use Rattle.wire.specs.Names.{◌or◌, is_some, Every}
-use Rattle.wire.proofs.Laws.{some-if}
+use Rattle.wire.proofs.Laws.{and_both, both-and, some-if}
 use Rattle.slots.specs.declared.PortChannel.{PortChannel}
 use Rattle.slots.specs.declared.Channel.{Channel}
 use Rattle.std.specs.Prelude.{Option as Found, Some, None}
 use Rattle.slots.specs.Names.{channel_limit, output_limit, top, is_numbered, channel_at, Store, bytes_of, store_in, is_fit}
+use Rattle.slots.specs.Names.{is_below, numbers_fit, fits_end, record_fits, entries_fit}
+use Rattle.slots.specs.Effect.{with_times, with_next}
+use Rattle.slots.specs.declared.OwnHeight.{OwnHeight}
+use Rattle.slots.specs.declared.OwnTime.{OwnTime}
+use Rattle.slots.specs.declared.Record.{Record}
 use Rattle.slots.specs.Scan.{is_free, holds, first_that}
-use Rattle.slots.proofs.Laws.{ChannelFields, channel-number}
-use Rattle.slots.proofs.HeldLaws.{Held, held-store, held-channel}
+use Rattle.slots.proofs.Laws.{channel-number, all-each, each_all, each_map}
 use Rattle.slots.proofs.SlotTestLaws.{channel-index}
 use Rattle.slots.proofs.ScanLaws.{set-insert, set-replace, insert-nothing, replace-nothing}
 use Rattle.datagram.specs.Names.{Kind, send, receive, write, acknowledge, time_out, open_init, open_try, open_acknowledge}
@@ -158,20 +162,44 @@ module _ (s d : List ℕ) {k n : ℕ} {c : Channel} (p : k ≡ kind_in d) (q : n
   unfolding effect_in datagram_in
   planned-effect h = rw (p, q, r) at h
 
--- AN END AT ITS SLOT: the bytes hold it, and the ends are those that the rules place
-abbrev pub EndFields : EndEdit → Type 0
-EndFields leaves = Unit {0}
-EndFields (puts c) = ChannelFields c
-EndFields (adds c) = ChannelFields c
+-- THE ENTRIES of a fit store still fit once the times are others and the next channel number is no lower
+raised_after : (x : EndEdit) (n : ℕ) → n ≤ number_after x n
+unfolding number_after
+raised_after leaves n = omega arith
+raised_after (puts c) n = omega arith
+raised_after (adds c) n = omega arith
 
-pub held-end : {s : Store} {bs : List ℕ} → Held s bs → (next : List ℕ) (at : Found ℕ) (x : EndEdit) → EndFields x →
-    next ≡ bytes_of (with_end (store_in bs) at x) →
-    Held (with_end s at x) next
-held-end h next (Some j) leaves f e = record { bytes = e ∙ ap bytes_of (held-store h); fields = h.fields }
-held-end h next (Some j) (puts c) f e = held-channel h next j (some c) (f, tt) e
-held-end h next (Some j) (adds c) f e = held-channel h next j (some c) (f, tt) e
-held-end h next None x f e = record { bytes = e ∙ ap bytes_of (held-store h); fields = h.fields }
+numbers-raised : (n m : ℕ) (cs : List (Option Channel)) → n ≤ m → numbers_fit n cs ≡ true → numbers_fit m cs ≡ true
+unfolding numbers_fit is_below
+numbers-raised n m cs l h =
+    both-and (le-leb 1 m (omega (arith, leb-true 1 n (and_both h).0)))
+    (each_all (is_below m) cs
+    (each_map (λ c k. lt-ltb c.own.channel m (omega (arith, ltb-true c.own.channel n k))) cs
+    (all-each (is_below n) cs (and_both h).1)))
 
+module _ (s : Store) (h : OwnHeight) (t : OwnTime) (n : ℕ) where
+  abbrev numbered : Store
+  numbered = with_next (with_times s h t) n
+
+  same-end : (r : Record) (x : Option Channel) → fits_end s r x ≡ true → fits_end numbered r x ≡ true
+  unfolding fits_end
+  same-end r none k = k
+  same-end r (some c) k = k
+
+  same-fit : (r : Record) → record_fits s r ≡ true → record_fits numbered r ≡ true
+  unfolding record_fits
+  same-fit r k = both-and (and_both k).0 (same-end r (channel_at r.channel s.channels) (and_both k).1)
+
+  pub entries-numbered : (x : EndEdit) → n ≡ number_after x s.next → entries_fit s ≡ true → entries_fit numbered ≡ true
+  unfolding entries_fit
+  entries-numbered x e k =
+      let ends = and_both (and_both k).0 in
+      both-and
+      (both-and ends.0 (numbers-raised s.next n s.channels (omega (arith, e, raised_after x s.next)) ends.1))
+      (each_all (record_fits numbered) s.records
+      (each_map same-fit s.records (all-each (record_fits s) s.records (and_both k).1)))
+
+-- AN END AT ITS SLOT: the ends are those that the rules place
 abbrev pub with_channels : Store → List (Option Channel) → Store
 with_channels s cs =
     record { height = s.height; time = s.time; next = s.next; channels = cs; records = s.records }

@@ -7,7 +7,7 @@ ghost use Rattle.slots.specs.Table.{is_numbered, channel_at};
 ghost use Rattle.slots.specs.Layout.{records_from, bytes_of, store_in};
 ghost use Rattle.slots.specs.Scan.{first_that, used_slots};
 ghost use Rattle.slots.specs.Effect.{Exact};
-ghost use Rattle.slots.specs.Fit.{is_fit};
+ghost use Rattle.slots.specs.Fit.{entries_fit, is_fit};
 ghost use Rattle.datagram.specs.Datagram.{datagram_in};
 ghost use Rattle.emit.specs.Output.{at_front};
 ghost use Rattle.rules.specs.Refusals.{or_none};
@@ -100,12 +100,17 @@ fn plan_for(store: &[u8], datagram: &[u8], used: usize) -> Plan
 
 // The end that changes or is added is stored at its slot.
 fn put_end(store: &mut [u8], at: Option<usize>, ends: EndEdit)
-    requires { Exact store.old × ((j : ℕ) → at ≡ Some j → j < channel_limit) }
-    ensures { store.new ≡ bytes_of (with_end (store_in store.old) at (ends_by ends)) }
+    requires { Exact store.old × (entries_fit (store_in store.old) ≡ true) × ((j : ℕ) → at ≡ Some j → j < channel_limit) }
+    ensures bytes { store.new ≡ bytes_of (with_end (store_in store.old) at (ends_by ends)) }
+    ensures told { store_in store.new ≡ with_end (store_in store.old) at (ends_by ends) }
 {
-    match (at, ends) {
-        (Some(j), EndEdit::Puts(c) | EndEdit::Adds(c)) => set_channel(store, j, c),
-        _ => {}
+    let Some(j) = at else {
+        return;
+    };
+    match ends {
+        EndEdit::Leaves => {}
+        EndEdit::Puts(c) => set_channel(store, j, c),
+        EndEdit::Adds(c) => set_channel(store, j, c),
     }
 }
 
