@@ -18,6 +18,7 @@ use slots::{Channel, Layout, OwnHeight, OwnTime, Record};
 use wire::{put_u64, put_zeros};
 
 // Last height and time.
+#[tactic(auto, using(slots::proofs::EffectLaws::has_room))]
 pub fn set_times(s: &mut [u8], height: OwnHeight, time: OwnTime)
     requires { Exact s.old }
     ensures { s.new ≡ bytes_of (with_times (store_in s.old) height time) }
@@ -27,6 +28,7 @@ pub fn set_times(s: &mut [u8], height: OwnHeight, time: OwnTime)
 }
 
 // The next channel number.
+#[tactic(auto, using(slots::proofs::EffectLaws::has_room))]
 pub fn set_next(s: &mut [u8], next: u64)
     requires { Exact s.old }
     ensures { s.new ≡ bytes_of (with_next (store_in s.old) next) }
@@ -35,6 +37,7 @@ pub fn set_next(s: &mut [u8], next: u64)
 }
 
 // A channel end takes the slot of index `j`.
+#[tactic(auto, using(slots::proofs::EffectLaws::has_room))]
 pub fn set_channel(s: &mut [u8], j: usize, c: Channel)
     requires { Exact s.old × (j < channel_limit) }
     ensures { s.new ≡ bytes_of (with_channel_slot (store_in s.old) j (some c)) }
@@ -43,6 +46,7 @@ pub fn set_channel(s: &mut [u8], j: usize, c: Channel)
 }
 
 // A packet record takes the slot of index `i`, and the next `m` slots take what stood one before them.
+#[tactic(auto, using(slots::proofs::EffectLaws::has_room))]
 pub fn insert_record(s: &mut [u8], i: usize, m: usize, r: Record)
     requires { Exact s.old × (i + m < length (store_in s.old).records) }
     ensures { s.new ≡
@@ -54,6 +58,7 @@ pub fn insert_record(s: &mut [u8], i: usize, m: usize, r: Record)
 }
 
 // `m` slots from index `i` on take what stood one behind them, and the one behind these becomes free.
+#[tactic(auto, using(slots::proofs::EffectLaws::has_room))]
 pub fn remove_record(s: &mut [u8], i: usize, m: usize)
     requires { Exact s.old × (i + m < length (store_in s.old).records) }
     ensures { s.new ≡

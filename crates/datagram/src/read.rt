@@ -18,7 +18,7 @@ use super::{Block, Context, EndVerdict, Packet, Verdict};
 use slots::part::{port_channel_at, timeout_at};
 use slots::slot::channel_at;
 use slots::{OtherHeight, OtherTime, OwnHeight, OwnTime, Timeout};
-use wire::{FRAME, digest_at, u16_at, u32_at, u64_at};
+use wire::{FRAME, array_at, u16_at, u32_at, u64_at};
 
 // The client's time stands apart from its height, at the end.
 pub fn context_in(d: &[u8]) -> Context
@@ -57,7 +57,7 @@ fn verdict_at(d: &[u8], at: usize) -> Verdict
         about: port_channel_at(d, at + 18),
         sequence: u64_at(d, at + 24),
         timeout: timeout_at(d, at + 32),
-        digest: digest_at(d, at + 48),
+        digest: array_at(d, at + 48),
     }
 }
 
@@ -104,7 +104,7 @@ pub fn packet_in(d: &[u8]) -> Packet
         timeout: timeout_at(d, BODY + 8),
         source: port_channel_at(d, BODY + 24),
         destination: port_channel_at(d, BODY + 30),
-        digest: digest_at(d, BODY + 36),
+        digest: array_at(d, BODY + 36),
     }
 }
 
@@ -121,7 +121,7 @@ pub fn digest_in(d: &[u8], kind: u16) -> [u8; 32]
     requires { (has_part digest_part (body_of (kind_of kind)) ≡ true) × (size_of (kind_of kind) ≤ length d.now) }
     ensures { result ≡ digest_from (kind_of kind) d.now }
 {
-    digest_at(d, digest_place(kind))
+    array_at(d, digest_place(kind))
 }
 
 // The verdict of 2, 4, 5 and 12.

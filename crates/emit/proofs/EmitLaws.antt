@@ -44,6 +44,6 @@ pub patch-packet : (at : ℕ) (p : Packet) (bs : List ℕ) →
     ≡ patch (at + 36) p.digest
     (patch (at + 30) (port_channel_bytes p.destination)
     (patch (at + 24) (port_channel_bytes p.source)
-    (patch at (little 8 p.sequence ++ little 8 p.timeout.height ++ little 8 p.timeout.time) bs)))
+    (patch (at + 8) (little 8 p.timeout.height ++ little 8 p.timeout.time) (patch at (little 8 p.sequence) bs))))
 unfolding packet_bytes
 patch-packet at p bs = simp (patch-append, length-append, length-little, add_assoc)

@@ -12,8 +12,8 @@ ghost use Rattle.emit.specs.Output.{emitted_by};
 use datagram::Packet;
 use datagram::place::PACKET;
 use slots::PortChannel;
-use slots::part::put_port_channel;
-use wire::{DIGEST, FRAME, put_digest, put_frame, put_three, put_u64};
+use slots::part::{put_port_channel, put_timeout};
+use wire::{DIGEST, FRAME, put_array, put_frame, put_u64};
 
 // The records by their whole lengths: a packet; a port, a channel, a sequence and a digest; a packet and a digest; a
 // port and a channel.
@@ -66,10 +66,11 @@ fn put_packet(out: &mut [u8], at: usize, p: Packet)
     requires { at + packet_size ≤ length out.old }
     ensures { out.new ≡ patch at (packet_bytes p) out.old }
 {
-    put_three(out, at, p.sequence, p.timeout.height, p.timeout.time);
-    put_port_channel(out, at + 24, p.source.port, p.source.channel);
-    put_port_channel(out, at + 30, p.destination.port, p.destination.channel);
-    put_digest(out, at + 36, p.digest);
+    put_u64(out, at, p.sequence);
+    put_timeout(out, at + 8, p.timeout);
+    put_port_channel(out, at + 24, p.source);
+    put_port_channel(out, at + 30, p.destination);
+    put_array(out, at + 36, p.digest);
 }
 
 fn emit_packet(out: &mut [u8], kind: u16, p: Packet) -> u32
@@ -94,9 +95,9 @@ fn emit_written(
     ensures size { result ≡ length (written_record destination sequence digest) }
 {
     put_frame(out, WRITTEN_SIZE, WRITTEN);
-    put_port_channel(out, FRAME, destination.port, destination.channel);
+    put_port_channel(out, FRAME, destination);
     put_u64(out, FRAME + 6, sequence);
-    put_digest(out, FRAME + 14, digest);
+    put_array(out, FRAME + 14, digest);
     WRITTEN_SIZE
 }
 
@@ -107,7 +108,7 @@ fn emit_acknowledged(out: &mut [u8], p: Packet, digest: [u8; DIGEST]) -> u32
 {
     put_frame(out, ACKNOWLEDGED_SIZE, ACKNOWLEDGED);
     put_packet(out, FRAME, p);
-    put_digest(out, FRAME + PACKET, digest);
+    put_array(out, FRAME + PACKET, digest);
     ACKNOWLEDGED_SIZE
 }
 
@@ -117,7 +118,7 @@ fn emit_made(out: &mut [u8], e: PortChannel) -> u32
     ensures size { result ≡ length (made_record e) }
 {
     put_frame(out, MADE_SIZE, MADE);
-    put_port_channel(out, FRAME, e.port, e.channel);
+    put_port_channel(out, FRAME, e);
     MADE_SIZE
 }
 

@@ -188,3 +188,5 @@ exact-room bs exact =
     let z = fits-size (length bs) exact.size in
     let n = length-read record_in (room_in (length bs)) (drop records_from bs) in
     omega arith
+
+pub ruleset has_room = (exact-room)

@@ -101,7 +101,8 @@ module _ (at : ℕ) (bs : List ℕ) where
 
   pub record-stored : (r : Record) → patch at (record_bytes r) bs
       ≡ patch (at + 32) r.digest
-      (patch (at + 8) (little 8 r.sequence ++ little 8 r.timeout.height ++ little 8 r.timeout.time)
-      (patch at (little 2 r.kind ++ (0 ∷ 0 ∷ []) ++ little 4 r.channel) bs))
+      (patch (at + 16) (little 8 r.timeout.height ++ little 8 r.timeout.time)
+      (patch (at + 8) (little 8 r.sequence)
+      (patch at (little 2 r.kind ++ (0 ∷ 0 ∷ []) ++ little 4 r.channel) bs)))
   unfolding record_bytes
   record-stored r = simp (patch-append, length-append, length-little, add_assoc)

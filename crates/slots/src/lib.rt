@@ -5,7 +5,6 @@
 pub mod part; // a port and a channel, and timeouts
 pub mod size; // how many bytes a store has
 pub mod slot; // a channel end or a packet record in 64 bytes
-pub mod version; // a version in 24 bytes
 
 use wire::DIGEST;
 

@@ -4,7 +4,7 @@ ghost use Rattle.wire.specs.Bytes.{little, patch};
 ghost use Rattle.slots.specs.Part.{port_channel_in, timeout_in};
 
 use super::{PortChannel, Timeout};
-use wire::{put_u16, put_u32, u16_at, u32_at, u64_at};
+use wire::{put_u16, put_u32, put_u64, u16_at, u32_at, u64_at};
 
 pub fn port_channel_at(s: &[u8], at: usize) -> PortChannel
     requires { at + 6 ≤ length s.now }
@@ -26,10 +26,20 @@ pub fn timeout_at(s: &[u8], at: usize) -> Timeout
     }
 }
 
-pub fn put_port_channel(s: &mut [u8], at: usize, port: u16, channel: u32)
+#[tactic(auto, using(wire::proofs::PatchLaws::one_by_one))]
+pub fn put_port_channel(s: &mut [u8], at: usize, p: PortChannel)
     requires { at + 6 ≤ length s.old }
-    ensures { s.new ≡ patch at (little 2 port ++ little 4 channel) s.old }
+    ensures { s.new ≡ patch at (little 2 p.port ++ little 4 p.channel) s.old }
 {
-    put_u16(s, at, port);
-    put_u32(s, at + 2, channel);
+    put_u16(s, at, p.port);
+    put_u32(s, at + 2, p.channel);
+}
+
+#[tactic(auto, using(wire::proofs::PatchLaws::one_by_one))]
+pub fn put_timeout(s: &mut [u8], at: usize, t: Timeout)
+    requires { at + 16 ≤ length s.old }
+    ensures { s.new ≡ patch at (little 8 t.height ++ little 8 t.time) s.old }
+{
+    put_u64(s, at, t.height);
+    put_u64(s, at + 8, t.time);
 }

@@ -3,10 +3,9 @@ ghost use Rattle.std.specs.Prelude.{◌≡◌, [], ◌∷◌, ◌++◌, ◌+◌,
 ghost use Rattle.wire.specs.Bytes.{part, patch, little};
 ghost use Rattle.slots.specs.Layout.{slot_size, channel_in, channel_bytes, record_in, record_bytes};
 
-use super::part::{port_channel_at, put_port_channel, timeout_at};
-use super::version::{put_version, version_at};
+use super::part::{port_channel_at, put_port_channel, put_timeout, timeout_at};
 use super::{Channel, Counters, PortChannel, Record};
-use wire::{digest_at, put_digest, put_three, put_u16, put_u32, u16_at, u32_at, u64_at};
+use wire::{array_at, put_array, put_u16, put_u32, put_u64, u16_at, u32_at, u64_at};
 
 // A channel end's own side leads with the channel, its counterparty's with the port.
 pub fn channel_at(s: &[u8], at: usize) -> Channel
@@ -26,7 +25,7 @@ pub fn channel_at(s: &[u8], at: usize) -> Channel
             receive: u64_at(s, at + 24),
             acknowledge: u64_at(s, at + 32),
         },
-        version: version_at(s, at + 40),
+        version: array_at(s, at + 40),
     }
 }
 
@@ -39,7 +38,7 @@ pub fn record_at(s: &[u8], at: usize) -> Record
         channel: u32_at(s, at + 4),
         sequence: u64_at(s, at + 8),
         timeout: timeout_at(s, at + 16),
-        digest: digest_at(s, at + 32),
+        digest: array_at(s, at + 32),
     }
 }
 
@@ -54,16 +53,25 @@ fn put_head(s: &mut [u8], at: usize, kind: u16, first: u8, second: u8, channel: 
     put_u32(s, at + 4, channel);
 }
 
+#[tactic(auto, using(wire::proofs::PatchLaws::one_by_one))]
+fn put_counters(s: &mut [u8], at: usize, c: Counters)
+    requires { at + 24 ≤ length s.old }
+    ensures { s.new ≡ patch at (little 8 c.send ++ little 8 c.receive ++ little 8 c.acknowledge) s.old }
+{
+    put_u64(s, at, c.send);
+    put_u64(s, at + 8, c.receive);
+    put_u64(s, at + 16, c.acknowledge);
+}
+
 pub fn put_channel(s: &mut [u8], at: usize, c: Channel)
     requires { at + slot_size ≤ length s.old }
     ensures { s.new ≡ patch at (channel_bytes c) s.old }
 {
     put_head(s, at, Channel::KIND, c.state, c.order, c.own.channel);
     put_u16(s, at + 8, c.own.port);
-    put_port_channel(s, at + 10, c.counterparty.port, c.counterparty.channel);
-    put_three(s, at + 16, c.next.send, c.next.receive, c.next.acknowledge);
-    let v = c.version;
-    put_version(s, at + 40, v);
+    put_port_channel(s, at + 10, c.counterparty);
+    put_counters(s, at + 16, c.next);
+    put_array(s, at + 40, c.version);
 }
 
 pub fn put_record(s: &mut [u8], at: usize, r: Record)
@@ -71,7 +79,7 @@ pub fn put_record(s: &mut [u8], at: usize, r: Record)
     ensures { s.new ≡ patch at (record_bytes r) s.old }
 {
     put_head(s, at, r.kind, 0, 0, r.channel);
-    put_three(s, at + 8, r.sequence, r.timeout.height, r.timeout.time);
-    let d = r.digest;
-    put_digest(s, at + 32, d);
+    put_u64(s, at + 8, r.sequence);
+    put_timeout(s, at + 16, r.timeout);
+    put_array(s, at + 32, r.digest);
 }

@@ -1,11 +1,14 @@
 -- The bytes before the first zero byte: they tell whether a version is padded, and whether it has no zero byte. Assumes
 -- nothing.
-use Rattle.wire.proofs.Prelude.{◌≡◌, refl, sym, ◌∙◌, true, List, [], ◌∷◌, ℕ, suc, ◌+◌, ◌-◌, ◌≤◌, ◌<◌, arith}
-use Rattle.wire.proofs.Prelude.{eqb, length, drop, eq-eqb, ne_eqb, eqb-true, eqb-false}
-use native.Mathlib.Nat.{add_assoc}
-use Rattle.wire.specs.Names.{◌and◌, pick, are_zero, part, field}
+use mathlib.Core.Bool.{cond}
+use lib.Dec.{ltb}
+use Rattle.std.proofs.Common.{Option, Some, None}
+use Rattle.std.specs.Option.{unwrap_or}
+use Rattle.std.specs.List.{position_or_len}
+use Rattle.wire.proofs.Prelude.{◌≡◌, refl, sym, ◌∙◌, true, List, [], ◌∷◌, ℕ, suc, ◌≤◌, arith}
+use Rattle.wire.proofs.Prelude.{eqb, length, drop, eq-eqb, ne_eqb, eqb-true, eqb-false, ltb-false}
+use Rattle.wire.specs.Names.{◌and◌, are_zero}
 use Rattle.wire.proofs.ChoiceLaws.{cases, and_both}
-use Rattle.wire.proofs.PartLaws.{part-split, part-one, field-one}
 use Rattle.slots.specs.Names.{none_zero, is_padded}
 use Rattle.versions.specs.Leading.{before_zero}
 
@@ -39,19 +42,19 @@ none_before (b ∷ bs) =
     cases (eqb b 0) (λ e. rw e (sym (ne_eqb 0 (suc (length bs)) (λ q. omega arith))))
     (λ e. rw e (ih ∙ sym (eqb-suc (before_zero bs) (length bs))))
 
--- A TURN OF A LOOP over bytes
-pub before-turn : (from i size : ℕ) (bs : List ℕ) → i < size → from + size ≤ length bs →
-    before_zero (part (from + i) (size - i) bs) ≡
-    pick (eqb (field (from + i) 1 bs) 0) 0 (suc (before_zero (part (from + (i + 1)) (size - (i + 1)) bs)))
+-- AS `position` SAYS IT, of `size` bytes
+before-position : (bs : List ℕ) → before_zero bs ≡ position_or_len (λ b. eqb b 0) bs
 unfolding before_zero
-before-turn from i size bs more room =
-    let rest : ℕ = size - (i + 1) in
-    let k : size - i ≡ 1 + rest = omega arith in
-    let there : from + i < length bs = omega arith in
-    rw (
-      k,
-      part-split 1 rest (from + i) bs,
-      part-one (from + i) bs there,
-      field-one (from + i) bs there,
-      add_assoc from i 1,
-    )
+before-position [] = refl
+before-position (b ∷ bs) =
+    let ih = before-position bs in
+    cases (eqb b 0) (λ e. rw e) (λ e. rw e (omega (arith, ih)))
+
+pub before-found : (bs : List ℕ) (size : ℕ) {found : Option ℕ} → length bs ≡ size →
+    found ≡ cond (ltb (position_or_len (λ b. eqb b 0) bs) (length bs)) (Some (position_or_len (λ b. eqb b 0) bs)) None →
+    unwrap_or found size ≡ before_zero bs
+before-found bs size {found} l p =
+    let at : ℕ = position_or_len (λ b. eqb b 0) bs in
+    let same : before_zero bs ≡ at = before-position bs in
+    cases (ltb at (length bs)) (λ e. rw (p, e) (sym same))
+    (λ e. let past = ltb-false at (length bs) e in rw (p, e) (omega (arith, before-upto bs)))

@@ -9,21 +9,17 @@ ghost use Rattle.slots.specs.Version.{version_fits, padded, is_padded};
 ghost use Rattle.versions.specs.Leading.{before_zero};
 
 use slots::VERSION;
-use wire::{are_zero, put_part, same_two, same_word, u8_at};
+use wire::{are_zero, put_part};
 
 // How many of `size` bytes stand before the first zero byte.
 fn before_zero(s: &[u8], from: usize, size: usize) -> usize
     requires { from + size ≤ length s.now }
     ensures { result ≡ before_zero (part from size s.now) }
 {
-    let mut i: usize = 0;
-    while i < size {
-        if u8_at(s, from + i) == 0 {
-            return i;
-        }
-        i += 1;
-    }
-    size
+    s[from..from + size]
+        .iter()
+        .position(|&byte| byte == 0)
+        .unwrap_or(size)
 }
 
 // Only zeros stand behind the first one. Most ends have no version, so that is asked first.
@@ -60,8 +56,9 @@ pub fn version_from(d: &[u8], at: usize) -> [u8; VERSION]
     v
 }
 
+#[tactic(auto, using(wire::proofs::ZeroLaws::equal_arrays))]
 pub fn same_version(a: [u8; VERSION], b: [u8; VERSION]) -> bool
     ensures { result ≡ same a b }
 {
-    same_two(&a, &b, 0) & same_word(&a, &b, 16)
+    a == b
 }

@@ -5,4 +5,6 @@ pub mod BytesLaws
 pub mod Laws
 pub mod PartLaws
 pub mod PatchLaws
+pub mod ArrayLaws
+pub mod ZeroLaws
 pub mod TestLaws

@@ -1,21 +1,22 @@
 -- Laws of parts of bytes and of the numbers in them, over the width. Assumes nothing.
-use mathlib.Core.Path.{◌≡◌, refl, sym, ap, ◌∙◌}
+use mathlib.Core.Path.{◌≡◌, refl, sym}
 use mathlib.Core.Bool.{Bool, true, false}
 use mathlib.Core.List.{List, [], ◌∷◌, ◌++◌}
-use Prim.Native.Nat.{ℕ, zero, suc, ◌+◌, ◌*◌, ◌/◌, ◌%◌, ◌^◌, ◌-◌, ◌≤◌, ◌<◌}
-use native.Mathlib.Nat.{add_assoc, zero-add, suc-add, suc_inj, suc-ne-zero, sub-zero, zero-sub, suc-sub-suc}
-use native.Mathlib.Nat.{mul_assoc, mul_comm, pow-succ', mod-add-div, mod-lt}
+use Prim.Native.Nat.{ℕ, suc, ◌+◌, ◌*◌, ◌^◌, ◌-◌, ◌≤◌, ◌<◌}
+use native.Mathlib.Nat.{suc_inj, suc-ne-zero}
+use native.Mathlib.Nat.{mul_assoc, pow-succ'}
 use native.Mathlib.Omega.{arith}
 use lib.Dec.{eqb}
-use lib.ListN.{length, get_or, take, drop, length-drop}
-use lib.Seq.{take-add, take-take, take-nil, drop-drop, drop-cons, take_all, get_or-take, get_or-drop}
+use lib.ListN.{length, get_or, drop, length-drop}
+use lib.Seq.{take-add, take-take, drop-drop, drop-cons, take_all, get_or-take, get_or-drop}
+use Rattle.std.proofs.lemmas.Slice.{between_is}
 use mir.Syntax.{w8}
 use mir.Val.{Fits}
 use borrow.Author.Tests.{eq-eqb, ne_eqb, eqb-true, eqb-false}
 use Rattle.wire.specs.Choice.{◌and◌}
-use Rattle.wire.specs.Bytes.{Bytes, same, are_zero, little, number_of, part, field}
+use Rattle.wire.specs.Bytes.{Bytes, same, are_zero, number_of, part, field}
 use Rattle.wire.proofs.ChoiceLaws.{and_assoc}
-use Rattle.wire.proofs.BytesLaws.{length_part, bytes-part}
+use Rattle.wire.proofs.BytesLaws.{length_part}
 
 -- BYTES: what is known of a lent slice, element by element, says that all are bytes
 pub bytes-get_or : (bs : List ℕ) → ((i : ℕ) → get_or bs i 0 < 256) → Bytes bs
@@ -62,54 +63,21 @@ pub field-split : (n m i : ℕ) (bs : List ℕ) → i + n ≤ length bs
 unfolding field
 field-split n m i bs h = rw (part-split n m i bs, number_of-append (part i n bs), length_part i n bs h)
 
--- read by halves of n bytes each
-pub field-halves : (n i : ℕ) (bs : List ℕ) {low high : ℕ} → i + n ≤ length bs
-    → low ≡ field i n bs → high ≡ field (i + n) n bs → low + high * 256 ^ n ≡ field i (n + n) bs
-field-halves n i bs {low} {high} h p q = rw (field-split n n i bs h, p, q, mul_comm (256 ^ n) (field (i + n) n bs))
-
 pub field-one : (i : ℕ) (bs : List ℕ) → i < length bs → field i 1 bs ≡ get_or bs i 0
 unfolding field number_of
 field-one i bs h = rw (part-one i bs h) (omega arith)
 
-little-join : (n m a b : ℕ) → a < 256 ^ n → little (n + m) (a + 256 ^ n * b) ≡ little n a ++ little m b
-unfolding little
-little-join zero m a b h =
-    let z : a + 1 * b ≡ b = omega arith in
-    rw (zero-add m, z)
-little-join (suc n) m a b h =
-    let k : ℕ = 256 ^ n * b in
-    let low : (a + 256 * k) % 256 ≡ a % 256 = omega arith in
-    let high : (a + 256 * k) / 256 ≡ a / 256 + k = omega arith in
-    let rest = little-join n m (a / 256) b (omega (arith, pow-succ' 256 n)) in
-    rw (suc-add n m, pow-succ' 256 n, mul_assoc 256 (256 ^ n) b, low, high, rest)
-
-pow_pos : (n : ℕ) → 0 < 256 ^ n
-pow_pos zero = omega arith
-pow_pos (suc n) =
-    let h : 0 < 256 ^ n = pow_pos n in
-    omega (arith, pow-succ' 256 n)
-
--- and stored as its low n and then its high m
-pub little-split : (n m x : ℕ) → little (n + m) x ≡ little n (x % 256 ^ n) ++ little m (x / 256 ^ n)
-little-split n m x =
-    ap (little (n + m)) (sym (mod-add-div x (256 ^ n)))
-    ∙ little-join n m (x % 256 ^ n) (x / 256 ^ n) (mod-lt x (pow_pos n))
+pub ruleset one_byte = (field-one)
 
 -- A PART OF A PART, for a number and for a byte in it
-drop-take : {A : Type 0} (i m : ℕ) (xs : List A) → drop i (take m xs) ≡ take (m - i) (drop i xs)
-drop-take zero m xs = rw sub-zero
-drop-take (suc i) zero xs = rw zero-sub
-drop-take (suc i) (suc m) [] = sym (take-nil (suc m - suc i))
-drop-take (suc i) (suc m) (x ∷ xs) = rw (suc-sub-suc m i) (drop-take i m xs)
-
 pub part-part : (i n at m : ℕ) (bs : List ℕ) → i + n ≤ m → part i n (part at m bs) ≡ part (at + i) n bs
 unfolding part
 part-part i n at m bs h =
-    rw (drop-take i m (drop at bs), take-take n (m - i) (drop i (drop at bs)) (omega arith), drop-drop i at bs)
+    rw (← between_is (drop at bs) i m, take-take n (m - i) (drop i (drop at bs)) (omega arith), drop-drop i at bs)
 
 pub drop-part : (i at m : ℕ) (bs : List ℕ) → drop i (part at m bs) ≡ part (at + i) (m - i) bs
 unfolding part
-drop-part i at m bs = rw (drop-take i m (drop at bs), drop-drop i at bs)
+drop-part i at m bs = rw (← between_is (drop at bs) i m, drop-drop i at bs)
 
 pub field-part : (i n at m : ℕ) (bs : List ℕ) → i + n ≤ m → field i n (part at m bs) ≡ field (at + i) n bs
 unfolding field
@@ -159,57 +127,3 @@ are_zero-number [] h = refl
 are_zero-number (x ∷ xs) h =
     let t : are_zero xs ≡ eqb (number_of xs) 0 = are_zero-number xs h.1 in
     rw t (sym (eqb-digits x 0 (number_of xs) 0 h.0 (omega arith)))
-
--- TURNS OF A LOOP over numbers of n bytes. A number that fails the test gives the answer; behind one that does not, the
--- answer is that for the rest.
-zero_turn : (n from i size : ℕ) (bs : List ℕ) → Bytes bs → i + n ≤ size
-    → are_zero (part (from + i) (size - i) bs)
-    ≡ (eqb (field (from + i) n bs) 0 and are_zero (part (from + (i + n)) (size - (i + n)) bs))
-unfolding field
-zero_turn n from i size bs bytes more =
-    let first : List ℕ = part (from + i) n bs in
-    let rest : ℕ = size - (i + n) in
-    let k : size - i ≡ n + rest = omega arith in
-    let number = are_zero-number first (bytes-part (from + i) n bs bytes) in
-    rw (k, part-split n rest (from + i) bs, add_assoc from i n, are_zero-append first, number)
-
--- after i bytes the answer for all is the answer for what is left
-abbrev pub ZeroLeft : (from size i : ℕ) → List ℕ → Type 0
-ZeroLeft from size i bs = (i ≤ size) × (are_zero (part from size bs) ≡ are_zero (part (from + i) (size - i) bs))
-
-module _ (n from : ℕ) (bs : List ℕ) {i size v : ℕ} (bytes : Bytes bs) (left : ZeroLeft from size i bs)
-    (more : i + n ≤ size) (number : v ≡ field (from + i) n bs) where
-  pub zero-stop : (v ≡ 0 → ⊥) → false ≡ are_zero (part from size bs)
-  unfolding ◌and◌
-  zero-stop other =
-      let differ = ne_eqb (field (from + i) n bs) 0 (λ e. other (number ∙ e)) in
-      rw (left.1, zero_turn n from i size bs bytes more, differ)
-
-  pub zero-next : v ≡ 0 → ZeroLeft from size (i + n) bs
-  unfolding ◌and◌
-  zero-next none =
-      let agree = eq-eqb (field (from + i) n bs) 0 (sym number ∙ none) in
-      (more, rw (left.1, zero_turn n from i size bs bytes more, agree))
-
--- BY PARTS: n bytes, and the m behind them
-pub same-split : (n m i : ℕ) (xs ys : List ℕ) → i + n ≤ length xs → i + n ≤ length ys →
-    same (part i (n + m) xs) (part i (n + m) ys) ≡
-    (same (part i n xs) (part i n ys) and same (part (i + n) m xs) (part (i + n) m ys))
-same-split n m i xs ys h k =
-    rw (part-split n m i xs, part-split n m i ys)
-    (same-append (part i n xs) (part i n ys) (part (i + n) m xs) (part (i + n) m ys)
-    (length_part i n xs h ∙ sym (length_part i n ys k)))
-
--- two arrays
-pub same-arrays : (n m : ℕ) (xs ys : List ℕ) → length xs ≡ n + m → length ys ≡ n + m →
-    (same (part 0 n xs) (part 0 n ys) and same (part n m xs) (part n m ys)) ≡ same xs ys
-same-arrays n m xs ys l k =
-    let halves = same-split n m 0 xs ys (omega arith) (omega arith) in
-    sym (rw (zero-add n, part-all (n + m) xs l, part-all (n + m) ys k) at halves)
-
-pub same_numbers : (n i : ℕ) (xs ys : List ℕ) → Bytes xs → Bytes ys → i + n ≤ length xs → i + n ≤ length ys →
-    same (part i n xs) (part i n ys) ≡ eqb (field i n xs) (field i n ys)
-unfolding field
-same_numbers n i xs ys b c h k =
-    same-number (part i n xs) (part i n ys) (length_part i n xs h ∙ sym (length_part i n ys k))
-    (bytes-part i n xs b) (bytes-part i n ys c)

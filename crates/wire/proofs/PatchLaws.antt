@@ -1,19 +1,28 @@
 -- Laws of bytes stored over bytes. Assumes nothing.
 use mathlib.Core.Path.{◌≡◌, refl, sym, ◌∙◌}
-use mathlib.Core.List.{List, [], ◌∷◌, ◌++◌, append-nil}
-use Prim.Native.Nat.{ℕ, suc, ◌+◌, ◌-◌, ◌/◌, ◌%◌, ◌^◌, ◌≤◌, ◌<◌}
-use native.Mathlib.Nat.{add-suc, suc-add, add-zero, zero-add, suc_inj, suc-ne-zero}
+use mathlib.Core.List.{List, [], ◌∷◌, ◌++◌, append_assoc}
+use Prim.Native.Nat.{ℕ, suc, ◌+◌, ◌-◌, ◌≤◌, ◌<◌}
+use native.Mathlib.Nat.{add-suc, suc-add, add-zero, zero-add}
 use native.Mathlib.Omega.{arith}
-use lib.ListN.{length, set, replicate, length-set, length-replicate, replicate-append-replicate}
-use lib.Seq.{set_comm}
+use lib.ListN.{length, set, take, drop, replicate, length-set, length-drop, take-append-drop, length-append, length-replicate, replicate-append-replicate}
+use lib.Seq.{set_comm, set-append_left, length-take-le, sets, sets-eq, length-sets, drop_at}
 use Rattle.wire.specs.Bytes.{little, part, patch}
 use Rattle.wire.proofs.BytesLaws.{length-little, length_part}
-use Rattle.wire.proofs.PartLaws.{little-split}
+
+-- as the library says it
+patch-sets : (i : ℕ) (xs bs : List ℕ) → patch i xs bs ≡ sets bs i xs
+unfolding patch
+patch-sets i [] bs = refl
+patch-sets i (x ∷ xs) bs = patch-sets (suc i) xs (set bs i x)
 
 pub length-patch : (i : ℕ) (xs bs : List ℕ) → length (patch i xs bs) ≡ length bs
-unfolding patch
-length-patch i [] bs = refl
-length-patch i (x ∷ xs) bs = length-patch (suc i) xs (set bs i x) ∙ length-set bs i x
+length-patch i xs bs = rw (patch-sets i xs bs) (length-sets bs i xs)
+
+-- within the bytes
+pub patch-within : (i : ℕ) (xs bs : List ℕ) → i + length xs ≤ length bs →
+    patch i xs bs ≡ take i bs ++ (xs ++ drop (i + length xs) bs)
+patch-within i xs bs h =
+    rw (patch-sets i xs bs, sets-eq xs bs i h, append_assoc (take i bs) xs (drop (i + length xs) bs))
 
 pub patch-append : (i : ℕ) (xs ys bs : List ℕ) → patch i (xs ++ ys) bs ≡ patch (i + length xs) ys (patch i xs bs)
 unfolding patch
@@ -37,12 +46,8 @@ pub patch-two : (i n m x y : ℕ) (bs : List ℕ) {mid all : List ℕ}
 patch-two i n m x y bs {mid} {all} p q =
     rw (q, p) (patch-then i n (little n x) (little m y) bs (length-little n x))
 
--- and a number by halves of n bytes each, the low one first
-pub patch-halves : (n i v : ℕ) (bs : List ℕ) {mid all : List ℕ}
-    → mid ≡ patch i (little n (v % 256 ^ n)) bs → all ≡ patch (i + n) (little n (v / 256 ^ n)) mid
-    → all ≡ patch i (little (n + n) v) bs
-patch-halves n i v bs {mid} {all} p q =
-    rw (little-split n n v) (patch-two i n n (v % 256 ^ n) (v / 256 ^ n) bs p q)
+-- so a row of them is stored one by one
+pub ruleset one_by_one = (patch-append, length-append, length-little)
 
 -- WHERE A PATCH LIES
 patch-cons : (i b : ℕ) (xs bs : List ℕ) → patch (suc i) xs (b ∷ bs) ≡ b ∷ patch i xs bs
@@ -58,11 +63,10 @@ patch-behind (p ∷ ps) i xs bs =
 
 -- over a whole head
 pub patch-front : (xs ys bs : List ℕ) → length xs ≡ length ys → patch 0 xs (ys ++ bs) ≡ xs ++ bs
-unfolding patch
-patch-front [] [] bs l = refl
-patch-front [] (y ∷ ys) bs l = absurd (suc-ne-zero _ (sym l))
-patch-front (x ∷ xs) [] bs l = absurd (suc-ne-zero _ l)
-patch-front (x ∷ xs) (y ∷ ys) bs l = rw (patch-cons 0 x xs (ys ++ bs), patch-front xs ys bs (suc_inj l))
+patch-front xs ys bs l =
+    let room : 0 + length xs ≤ length (ys ++ bs) = omega (arith, length-append ys bs) in
+    let end : length ys ≡ 0 + length xs = omega arith in
+    rw (patch-within 0 xs (ys ++ bs) room, drop_at ys bs (0 + length xs) end)
 
 -- over zeros: the rest of them stays
 pub patch-zeros : (n : ℕ) (xs : List ℕ) → length xs ≤ n →
@@ -73,13 +77,6 @@ patch-zeros n xs h =
     let whole : k + (n - k) ≡ n = omega arith in
     let front = patch-front xs (replicate k 0) (replicate (n - k) 0) (sym (length-replicate k 0)) in
     rw (split, whole) at front
-
--- so an array of zeros takes all of a part
-pub patch-array : (n i : ℕ) (bs : List ℕ) → i + n ≤ length bs → patch 0 (part i n bs) (replicate n 0) ≡ part i n bs
-patch-array n i bs h =
-    let l = length_part i n bs h in
-    let none : n - length (part i n bs) ≡ 0 = omega arith in
-    patch-zeros n (part i n bs) (omega arith) ∙ rw (none, append-nil)
 
 -- over the whole middle of three
 pub patch-middle : (i : ℕ) (xs ps qs rs : List ℕ) → length ps ≡ i → length xs ≡ length qs
@@ -101,3 +98,27 @@ unfolding patch
 patch-apart i j [] ys bs h = refl
 patch-apart i j (x ∷ xs) ys bs h =
     rw (← patch-set i x j ys bs (omega arith)) (patch-apart (suc i) j xs ys (set bs i x) (omega arith))
+
+-- within the first of two, and within a part that is stored back
+patch-left : (j : ℕ) (ys qs rs : List ℕ) → j + length ys ≤ length qs → patch j ys (qs ++ rs) ≡ patch j ys qs ++ rs
+unfolding patch
+patch-left j [] qs rs h = refl
+patch-left j (y ∷ ys) qs rs h =
+    rw (set-append_left qs rs j y (omega arith))
+    (patch-left (suc j) ys (set qs j y) rs (omega (arith, length-set qs j y)))
+
+inner : (i j : ℕ) (ys ps qs rs : List ℕ) → length ps ≡ i → j + length ys ≤ length qs →
+    patch i (patch j ys qs) (ps ++ (qs ++ rs)) ≡ patch (i + j) ys (ps ++ (qs ++ rs))
+inner i j ys ps qs rs l h =
+    patch-middle i (patch j ys qs) ps qs rs l (length-patch j ys qs) ∙
+    sym (rw (← l, patch-behind ps j ys (qs ++ rs), patch-left j ys qs rs h))
+
+pub patch-inner : (i j m : ℕ) (ys bs : List ℕ) → i + m ≤ length bs → j + length ys ≤ m →
+    patch i (patch j ys (part i m bs)) bs ≡ patch (i + j) ys bs
+unfolding part
+patch-inner i j m ys bs h k =
+    let qs : List ℕ = take m (drop i bs) in
+    let whole : take i bs ++ (qs ++ drop m (drop i bs)) ≡ bs = rw (take-append-drop m (drop i bs), take-append-drop i bs) in
+    let l : length qs ≡ m = length-take-le m (drop i bs) (omega (arith, length-drop i bs)) in
+    rw whole at
+    (inner i j ys (take i bs) qs (drop m (drop i bs)) (length-take-le i bs (omega arith)) (omega arith))

@@ -1,6 +1,6 @@
 // Numbers, digests and frames in lent bytes. What they mean is in specs/: `field` and `part` of a list
-// of bytes, `patch` for what a store of bytes leaves. Numbers are read and stored by halves, down to
-// bytes: each width is proved by the same law, and the compiler makes one load or one store of it.
+// of bytes, `patch` for what a store of bytes leaves. A number is read and stored as the array of its bytes, whatever its
+// width: the compiler makes one load or one store of it.
 #![tactic(auto)]
 
 ghost use Rattle.std.specs.Prelude.{◌≡◌, ◌++◌, ◌+◌, ◌≤◌, length, replicate};
@@ -12,6 +12,26 @@ pub const DIGEST: usize = 32;
 
 pub const FRAME: usize = 6;
 
+// So many bytes from a place, as an array by value: a number's, a digest's, a version's.
+#[tactic(auto, unfolding(crate::specs::Bytes::part))]
+pub fn array_at<const N: usize>(s: &[u8], at: usize) -> [u8; N]
+    requires { at + N ≤ length s.now }
+    ensures { result ≡ part at N s.now }
+{
+    let mut a = [0u8; N];
+    a.copy_from_slice(&s[at..at + N]);
+    a
+}
+
+#[tactic(auto, using(crate::proofs::ArrayLaws::over_part), unfolding(crate::specs::Bytes::part))]
+pub fn put_array<const N: usize>(s: &mut [u8], at: usize, a: [u8; N])
+    requires { at + N ≤ length s.old }
+    ensures { s.new ≡ patch at a.entry s.old }
+{
+    s[at..at + N].copy_from_slice(&a);
+}
+
+#[tactic(auto, using(crate::proofs::PartLaws::one_byte))]
 pub fn u8_at(s: &[u8], at: usize) -> u8
     requires { at + 1 ≤ length s.now }
     ensures { result ≡ field at 1 s.now }
@@ -23,23 +43,24 @@ pub fn u16_at(s: &[u8], at: usize) -> u16
     requires { at + 2 ≤ length s.now }
     ensures { result ≡ field at 2 s.now }
 {
-    (u8_at(s, at) as u16) + (u8_at(s, at + 1) as u16) * 256
+    u16::from_le_bytes(array_at(s, at))
 }
 
 pub fn u32_at(s: &[u8], at: usize) -> u32
     requires { at + 4 ≤ length s.now }
     ensures { result ≡ field at 4 s.now }
 {
-    (u16_at(s, at) as u32) + (u16_at(s, at + 2) as u32) * 65536
+    u32::from_le_bytes(array_at(s, at))
 }
 
 pub fn u64_at(s: &[u8], at: usize) -> u64
     requires { at + 8 ≤ length s.now }
     ensures { result ≡ field at 8 s.now }
 {
-    (u32_at(s, at) as u64) + (u32_at(s, at + 4) as u64) * 4294967296
+    u64::from_le_bytes(array_at(s, at))
 }
 
+#[tactic(auto, unfolding(crate::specs::Bytes::little, crate::specs::Bytes::patch))]
 pub fn put_u8(s: &mut [u8], at: usize, v: u8)
     requires { at + 1 ≤ length s.old }
     ensures { s.new ≡ patch at (little 1 v) s.old }
@@ -51,46 +72,30 @@ pub fn put_u16(s: &mut [u8], at: usize, v: u16)
     requires { at + 2 ≤ length s.old }
     ensures { s.new ≡ patch at (little 2 v) s.old }
 {
-    put_u8(s, at, (v % 256) as u8);
-    put_u8(s, at + 1, (v / 256) as u8);
+    put_array(s, at, v.to_le_bytes());
 }
 
 pub fn put_u32(s: &mut [u8], at: usize, v: u32)
     requires { at + 4 ≤ length s.old }
     ensures { s.new ≡ patch at (little 4 v) s.old }
 {
-    put_u16(s, at, (v % 65536) as u16);
-    put_u16(s, at + 2, (v / 65536) as u16);
+    put_array(s, at, v.to_le_bytes());
 }
 
 pub fn put_u64(s: &mut [u8], at: usize, v: u64)
     requires { at + 8 ≤ length s.old }
     ensures { s.new ≡ patch at (little 8 v) s.old }
 {
-    put_u32(s, at, (v % 4294967296) as u32);
-    put_u32(s, at + 4, (v / 4294967296) as u32);
-}
-
-// Three numbers of eight bytes, one behind the other.
-pub fn put_three(s: &mut [u8], at: usize, a: u64, b: u64, c: u64)
-    requires { at + 24 ≤ length s.old }
-    ensures { s.new ≡ patch at (little 8 a ++ little 8 b ++ little 8 c) s.old }
-{
-    put_u64(s, at, a);
-    put_u64(s, at + 8, b);
-    put_u64(s, at + 16, c);
+    put_array(s, at, v.to_le_bytes());
 }
 
 // A free record is all zero.
+#[tactic(auto, using(crate::proofs::ArrayLaws::over_part), unfolding(crate::specs::Bytes::part))]
 pub fn put_zeros(s: &mut [u8], from: usize, size: usize)
     requires { from + size ≤ length s.old }
     ensures { s.new ≡ patch from (replicate size 0) s.old }
 {
-    let mut i: usize = 0;
-    while i < size {
-        s[from + i] = 0;
-        i += 1;
-    }
+    s[from..from + size].fill(0);
 }
 
 // Whether `size` bytes are zero. Most sizes are whole words of eight bytes; the rest goes by bytes.
@@ -98,77 +103,31 @@ pub fn are_zero(s: &[u8], from: usize, size: usize) -> bool
     requires { from + size ≤ length s.now }
     ensures { result ≡ are_zero (part from size s.now) }
 {
-    let mut i: usize = 0;
-    while 8 <= size - i {
-        if u64_at(s, from + i) != 0 {
-            return false;
-        }
-        i += 8;
-    }
-    while i < size {
-        if u8_at(s, from + i) != 0 {
-            return false;
-        }
-        i += 1;
-    }
-    true
+    let mut words = s[from..from + size].chunks_exact(8);
+    let rest = words.remainder();
+    words.all(|word| u64_at(word, 0) == 0) && rest.iter().all(|&byte| byte == 0)
 }
 
 // `size` bytes of one slice, stored over those of another.
+#[tactic(auto, using(crate::proofs::ArrayLaws::over_part), unfolding(crate::specs::Bytes::part))]
 pub fn put_part(s: &mut [u8], at: usize, from: &[u8], start: usize, size: usize)
     requires { (at + size ≤ length s.old) × (start + size ≤ length from.now) }
     ensures { s.new ≡ patch at (part start size from.now) s.old }
 {
-    let mut i: usize = 0;
-    while i < size {
-        s[at + i] = from[start + i];
-        i += 1;
-    }
+    s[at..at + size].copy_from_slice(&from[start..start + size]);
 }
 
-// Digests are arrays by value: read whole, compared whole, stored whole.
-pub fn digest_at(s: &[u8], at: usize) -> [u8; DIGEST]
-    requires { at + digest_size ≤ length s.now }
-    ensures { result ≡ part at digest_size s.now }
-{
-    let mut d = [0u8; DIGEST];
-    put_part(&mut d, 0, s, at, DIGEST);
-    d
-}
-
-pub fn put_digest(s: &mut [u8], at: usize, d: [u8; DIGEST])
-    requires { at + digest_size ≤ length s.old }
-    ensures { s.new ≡ patch at d s.old }
-{
-    put_part(s, at, &d, 0, DIGEST);
-}
-
-// Eight bytes, as one word.
-pub fn same_word(a: &[u8], b: &[u8], at: usize) -> bool
-    requires { (at + 8 ≤ length a.now) × (at + 8 ≤ length b.now) }
-    ensures { result ≡ same (part at 8 a.now) (part at 8 b.now) }
-{
-    u64_at(a, at) == u64_at(b, at)
-}
-
-// Sixteen, as two.
-pub fn same_two(a: &[u8], b: &[u8], at: usize) -> bool
-    requires { (at + 16 ≤ length a.now) × (at + 16 ≤ length b.now) }
-    ensures { result ≡ same (part at 16 a.now) (part at 16 b.now) }
-{
-    same_word(a, b, at) & same_word(a, b, at + 8)
-}
-
+#[tactic(auto, using(crate::proofs::ZeroLaws::equal_arrays))]
 pub fn same_digest(a: [u8; DIGEST], b: [u8; DIGEST]) -> bool
     ensures { result ≡ same a b }
 {
-    same_two(&a, &b, 0) & same_two(&a, &b, 16)
+    a == b
 }
 
 pub fn is_zero_digest(d: [u8; DIGEST]) -> bool
     ensures { result ≡ are_zero d }
 {
-    are_zero(&d, 0, DIGEST)
+    d == [0; DIGEST]
 }
 
 // What a slice is as a framed record: whole, or malformed, as where its length field is another.
@@ -197,6 +156,7 @@ pub fn frame_in(s: &[u8]) -> Frame
 }
 
 // A record's frame at the front of a slice.
+#[tactic(auto, using(crate::proofs::PatchLaws::one_by_one))]
 pub fn put_frame(s: &mut [u8], size: u32, kind: u16)
     requires { frame_size ≤ length s.old }
     ensures { s.new ≡ patch 0 (little 4 size ++ little 2 kind) s.old }

@@ -18,7 +18,7 @@ returns c =
     let l = length-packet-bytes c.args.p whole in
     let size : length (bs ++ a) ≡ packet_size + digest_size = omega (arith, length-append bs a, full) in
     let e =
-        emitted 0x0104 (packet_size + digest_size) (bs ++ a) c.args.out.now size (omega (arith, c.requires))
+    emitted 0x0104 (packet_size + digest_size) (bs ++ a) c.args.out.now size (omega (arith, c.requires))
     c.put_frame.ensures
-    (rw (c.put_digest.ensures, c.put_packet.ensures) (patch-then frame_size packet_size bs a _ l)) in
+    (rw (c.put_array.ensures, c.put_packet.ensures) (patch-then frame_size packet_size bs a _ l)) in
     record { output = e.0; size = e.1 }

@@ -10,5 +10,5 @@ returns c =
     let end : List ℕ = port_channel_bytes c.args.e in
     let six : length end ≡ 6 = simp (length-append, length-little) in
     let e =
-        emitted 0x0107 6 end c.args.out.now six (omega (arith, c.requires)) c.put_frame.ensures c.put_port_channel.ensures in
+    emitted 0x0107 6 end c.args.out.now six (omega (arith, c.requires)) c.put_frame.ensures c.put_port_channel.ensures in
     record { output = e.0; size = e.1 }

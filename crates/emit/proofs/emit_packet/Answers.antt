@@ -10,6 +10,6 @@ pub returns : goal.returns
 returns c =
     let full : length c.args.p.digest ≡ 32 = search rules in
     let e =
-        emitted c.args.kind packet_size (packet_bytes c.args.p) c.args.out.now (length-packet-bytes c.args.p full)
+    emitted c.args.kind packet_size (packet_bytes c.args.p) c.args.out.now (length-packet-bytes c.args.p full)
     (omega (arith, c.requires)) c.put_frame.ensures c.put_packet.ensures in
     record { output = e.0; size = e.1 }

@@ -18,8 +18,8 @@ returns c =
     let more : length (end ++ n) ≡ 14 = simp (length-append, length-little) in
     let size : length (end ++ n ++ a) ≡ 14 + digest_size = omega (arith, length-append (end ++ n) a) in
     let e =
-        emitted 0x0103 (14 + digest_size) (end ++ n ++ a) c.args.out.now size (omega (arith, c.requires))
+    emitted 0x0103 (14 + digest_size) (end ++ n ++ a) c.args.out.now size (omega (arith, c.requires))
     c.put_frame.ensures
-    (rw (c.put_digest.ensures, c.put_u64.ensures, c.put_port_channel.ensures)
+    (rw (c.put_array.ensures, c.put_u64.ensures, c.put_port_channel.ensures)
     (rw (patch-then frame_size 6 end n _ six) (patch-then frame_size 14 (end ++ n) a _ more))) in
     record { output = e.0; size = e.1 }

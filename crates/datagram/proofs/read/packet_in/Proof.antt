@@ -13,7 +13,7 @@ returns c =
       timeout = timeout.timeout_at.ensures i;
       source = c.port_channel_at.ensures i;
       destination = c.port_channel_at-2.ensures i;
-      digest = c.digest_at.ensures i;
+      digest = c.array_at.ensures i;
     }
 
 pub packet_in_spec : {M : Type 1} → statement M

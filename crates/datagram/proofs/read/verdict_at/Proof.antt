@@ -15,7 +15,7 @@ returns c =
       about = about.port_channel_at.ensures i;
       sequence = c.u64_at.ensures i;
       timeout = c.timeout_at.ensures i;
-      digest = c.digest_at.ensures i;
+      digest = c.array_at.ensures i;
     }
 
 pub verdict_at_spec : {M : Type 1} → statement M
