@@ -7,7 +7,7 @@ use Rattle.wire.proofs.Laws.{and_both, both-and, some-if}
 use Rattle.slots.specs.declared.PortChannel.{PortChannel}
 use Rattle.slots.specs.declared.Channel.{Channel}
 use Rattle.std.specs.Prelude.{Option as Found, Some, None}
-use Rattle.slots.specs.Names.{channel_limit, output_limit, top, is_numbered, channel_at, Store, bytes_of, store_in, is_fit}
+use Rattle.slots.specs.Names.{channel_limit, output_limit, top, is_numbered, channel_at, Store, store_in, is_fit}
 use Rattle.slots.specs.Names.{is_below, numbers_fit, fits_end, record_fits, entries_fit}
 use Rattle.slots.specs.Effect.{with_times, with_next}
 use Rattle.slots.specs.declared.OwnHeight.{OwnHeight}

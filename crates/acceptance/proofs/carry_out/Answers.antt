@@ -1,6 +1,6 @@
 -- The times, the next channel number, the end and the packet record, one after another: the bytes hold the store that
 -- each leaves. Assumes nothing.
-use Rattle.std.proofs.Common.{arith, rules, ◌≡◌, sym, ap, subst, ◌∙◌, ℕ, ◌^◌, ◌<◌, List, get_or, length, true, Fits, w8}
+use Rattle.std.proofs.Common.{arith, rules, ◌≡◌, sym, ap, subst, ◌∙◌, ℕ, ◌^◌, ◌<◌, List, get_or, true, Fits, w8}
 use Rattle.wire.proofs.Laws.{and_both}
 use Rattle.wire.proofs.PartLaws.{bytes-array}
 use Rattle.slots.specs.Layout.{Store, bytes_of, store_in}

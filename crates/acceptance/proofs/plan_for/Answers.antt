@@ -11,7 +11,7 @@ use Rattle.slots.specs.Fit.{is_fit}
 use Rattle.slots.proofs.Laws.{fit-in-order}
 use Rattle.datagram.specs.Kind.{kind_of}
 use Rattle.datagram.specs.Datagram.{channel_from, datagram_in, kind_in}
-use Rattle.datagram.proofs.DatagramLaws.{Sound, sound-is}
+use Rattle.datagram.proofs.DatagramLaws.{sound-is}
 use Rattle.rules.specs.Refusals.{or_none, end_for}
 use Rattle.rules.specs.Acceptance.{Effect, number_after}
 use Rattle.effects.specs.Decided.{ends_by}

@@ -1,5 +1,5 @@
 -- The end is stored at its slot; where there is none, all stay. Assumes nothing.
-use Rattle.std.proofs.Common.{arith, rules, ◌≡◌, sym, subst, ℕ, List, get_or, length, true, Fits, w8}
+use Rattle.std.proofs.Common.{arith, rules, ◌≡◌, sym, subst, ℕ, List, get_or, true, Fits, w8}
 use Rattle.std.proofs.Math.Option.{some}
 use Rattle.wire.specs.Bytes.{same}
 use Rattle.wire.proofs.Laws.{both-and}
