@@ -3,7 +3,6 @@ use Rattle.std.proofs.Common.{arith, ◌≡◌, sym, ap, ◌∙◌, ℕ, suc, �
 use Rattle.std.proofs.Math.Option.{Option}
 use Rattle.std.specs.Prelude.{Option as Found, Some}
 use Rattle.slots.specs.declared.Record.{Record}
-use Rattle.slots.specs.Table.{key_of}
 use Rattle.slots.specs.Layout.{bytes_of, store_in}
 use Rattle.slots.specs.Scan.{used_slots}
 use Rattle.slots.specs.Effect.{with_records}
