@@ -115,8 +115,8 @@ fn feed_front(
     }
 }
 
-// What a read does that gave so many bytes, or failed, where so many bytes of the piece were held and what it read stands
-// behind them. A read that failed is not the end of the input: it counts as torn.
+// What a read does that gave so many bytes, or failed, where so many bytes of the piece were held and what it read
+// stands behind them. A read that failed is not the end of the input: it counts as torn.
 pub fn after_read(
     room: &mut [u8],
     piece: &mut [u8],

@@ -15,7 +15,8 @@ returns-then-text-lt-LINE-clause-text c =
 
 pub returns-clause-size : goal.returns-clause-size
 returns-clause-size c =
-    rw (last-within (length c.args.text.now) c.args.replay c.args.left (omega arith)) (omega (arith, c.put_last_line.ensures.place))
+    rw (last-within (length c.args.text.now) c.args.replay c.args.left (omega arith))
+    (omega (arith, c.put_last_line.ensures.place))
 
 pub returns-clause-text : goal.returns-clause-text
 returns-clause-text c =

@@ -16,7 +16,8 @@ returns-then-q-p c =
     let n = length text / line_room in
     let v = c.loop.invariant in
     let next = reached-next n a.replay a.room.now a.input.now text v.0 c.loop-test.true c.turn-q.ensures in
-    let still = reached-still n a.replay a.room.now a.input.now text v.0 c.loop-test.true c.turn-q.ensures c.if-q-p.true in
+    let still = reached-still n a.replay a.room.now a.input.now text v.0 c.loop-test.true c.turn-q.ensures
+    c.if-q-p.true in
     reached-done n a.replay a.room.now a.input.now text next still
 
 pub loop-preserved : goal.loop-preserved

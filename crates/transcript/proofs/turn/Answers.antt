@@ -22,7 +22,9 @@ pub overflow_add-read : goal.overflow_add-read
 overflow_add-read c =
     let p = c.args.p in
     let input = c.args.input.now in
-    let whole : front_of (drop p.read input) ≡ Whole c.in-Whole.length = rw (c.moved-reader.ensures.0, c.moved-reader.ensures.1, c.new.ensures.0) at (sym (sym c.in-Whole.is ∙ c.next.ensures)) in
+    let front = sym (sym c.in-Whole.is ∙ c.next.ensures) in
+    let whole : front_of (drop p.read input) ≡ Whole c.in-Whole.length =
+    rw (c.moved-reader.ensures.0, c.moved-reader.ensures.1, c.new.ensures.0) at front in
     let room = front-room (drop p.read input) c.in-Whole.length whole in
     omega (arith, length-drop p.read input, c.requires.0)
 

@@ -25,6 +25,7 @@ returns c =
     let m = c.make_store-told.ensures in
     let told = c.told_opening.ensures in
     let rest = take_all (length first - 8) (drop 8 first) (omega (arith, length-drop 8 first)) in
-    let size : c.length-size.result ≡ length_of first = c.length-size.ensures ∙ ap length_for (c.from.ensures ∙ c.u16_at.ensures) in
+    let size : c.length-size.result ≡ length_of first =
+    c.length-size.ensures ∙ ap length_for (c.from.ensures ∙ c.u16_at.ensures) in
     rw (opens-made c.args.room.now first (sym c.is_opening.ensures ∙ c.if-not-is_opening.false))
     (told.replay ∙ rw (m.told, rest, size), (m.room ∙ rw (rest, size), rw (m.told, rest, size) at told.lines))
