@@ -16,7 +16,7 @@ use slots::{Channel, Key, Layout, Record, Timeout};
 use tables::ordering::{may_have_receipt, may_have_timeout_receipt};
 use tables::scan::{find_channel, first_record};
 use versions::is_padded;
-use wire::{is_zero_digest, u32_at, u64_at};
+use wire::{DIGEST, u32_at, u64_at};
 
 // INIT, TRYOPEN, OPEN or CLOSED, a known order, counters at least 1, a version with zeros behind it; an INIT end
 // names no counterparty's channel. The channel record from `at` on, field by field; the version and the counterparty's
@@ -46,9 +46,7 @@ fn is_no_timeout(t: Timeout) -> bool
 fn has_zero_timeouts_and_digest(r: Record) -> bool
     ensures { result ≡ has_zero_timeouts_and_digest r }
 {
-    let t = r.timeout;
-    let d = r.digest;
-    is_no_timeout(t) & is_zero_digest(d)
+    is_no_timeout(r.timeout) & (r.digest == [0; DIGEST])
 }
 
 // A packet record of this kind, wherever it stands.

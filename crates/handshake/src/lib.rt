@@ -13,7 +13,6 @@ ghost use Rattle.rules.specs.Handshake.{port_only, new_end, needed_end, needed_p
 
 use datagram::EndVerdict;
 use slots::{Channel, Counters, PortChannel, VERSION};
-use versions::same_version;
 
 fn same_but_version(a: Channel, b: Channel) -> bool
     ensures { result ≡ same_but_version a b }
@@ -43,12 +42,11 @@ pub fn end_difference(v: EndVerdict, needed: Channel) -> u8
 }
 
 // 27, for 7 to 9, 11 and 12.
+#[tactic(auto, using(wire::proofs::ZeroLaws::equal_arrays), unfolding(rules::specs::Verdict::has_version))]
 pub fn has_version(v: EndVerdict, needed: Channel) -> bool
     ensures { result ≡ has_version v needed }
 {
-    let shown = v.end.version;
-    let version = needed.version;
-    same_version(shown, version)
+    v.end.version == needed.version
 }
 
 // A verdict shows an end with zero counters.

@@ -15,7 +15,7 @@ use heights::same_timeout;
 use slots::slot::record_at;
 use slots::{Channel, Key, Layout, PortChannel, Record, Timeout};
 use tables::halves::find_record;
-use wire::{are_zero, same_digest};
+use wire::are_zero;
 
 #[tactic(auto, using(slots::proofs::FieldLaws::by_fields))]
 fn same_port_channel(a: PortChannel, b: PortChannel) -> bool
@@ -67,15 +67,11 @@ pub fn has_free(store: &[u8], count: usize) -> bool
     )
 }
 
+#[tactic(auto, using(slots::proofs::FieldLaws::by_fields, wire::proofs::ZeroLaws::equal_arrays), unfolding(rules::specs::Verdict::has_values))]
 fn has_values(timeout: Timeout, digest: [u8; 32], r: Record) -> bool
     ensures { result ≡ has_values timeout digest (some r) }
 {
-    let stored = r.timeout;
-    if !same_timeout(stored, timeout) {
-        return false;
-    }
-    let kept = r.digest;
-    same_digest(kept, digest)
+    r.timeout == timeout && r.digest == digest
 }
 
 // 13: the commitment at the packet's source is there, with its timeouts and digest.
