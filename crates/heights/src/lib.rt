@@ -2,7 +2,8 @@
 // at its sender and this ledger's at its receiver; four conversions say which.
 #![tactic(auto)]
 
-ghost use Rattle.std.specs.Prelude.{◌≡◌};
+ghost use Rattle.std.specs.Prelude.{◌≡◌, not, ◌&&◌};
+ghost use Rattle.std.specs.Ordering.{partial_le};
 ghost use Rattle.slots.specs.declared.Timeout.{Timeout};
 ghost use Rattle.slots.specs.Layout.{Store};
 ghost use Rattle.slots.specs.Height.{height_at_sender, time_at_sender, height_at_receiver, time_at_receiver};
@@ -51,94 +52,57 @@ pub fn same_timeout(t: Timeout, u: Timeout) -> bool
 }
 
 // 10: neither height nor time.
+#[tactic(auto, using(slots::proofs::FieldLaws::by_fields))]
 pub fn is_no_timeout(t: Timeout) -> bool
     ensures { result ≡ same_timeout t no_timeout }
 {
-    same_timeout(t, no_timeout())
+    t == no_timeout()
 }
 
-// A limit of 0 is none.
-fn is_past(limit: u64, reached: u64) -> bool
-    ensures { result ≡ is_past limit reached }
+// At or above a limit, of a height or a time. The default limit, 0, is none.
+fn is_past<T: PartialOrd + Default + Copy>(limit: T, reached: T) -> bool
+    ensures { (none : T) × T.is_default none ×
+        (result ≡ (not (T.eq limit none) && partial_le T.partial_cmp limit reached)) }
 {
-    if limit == 0 {
-        return false;
-    }
-    limit <= reached
-}
-
-fn is_past_own(limit: OwnHeight, reached: OwnHeight) -> bool
-    ensures { result ≡ is_past_own limit reached }
-{
-    is_past(limit.0, reached.0)
-}
-
-fn is_past_own_time(limit: OwnTime, reached: OwnTime) -> bool
-    ensures { result ≡ is_past_own_time limit reached }
-{
-    is_past(limit.0, reached.0)
-}
-
-fn is_past_other(limit: OtherHeight, reached: OtherHeight) -> bool
-    ensures { result ≡ is_past_other limit reached }
-{
-    is_past(limit.0, reached.0)
-}
-
-fn is_past_other_time(limit: OtherTime, reached: OtherTime) -> bool
-    ensures { result ≡ is_past_other_time limit reached }
-{
-    is_past(limit.0, reached.0)
+    limit != T::default() && limit <= reached
 }
 
 // A timeout has passed at a block of the other ledger.
+#[tactic(auto, using(slots::proofs::FieldLaws::by_fields), unfolding(rules::specs::Refusals::has_passed_at))]
 fn has_passed_at(block: Block, t: Timeout) -> bool
     ensures { result ≡ has_passed_at block t }
 {
-    let height = block.height;
-    let time = block.time;
-    is_past_other(height_at_sender(t), height) | is_past_other_time(time_at_sender(t), time)
+    is_past(height_at_sender(t), block.height) || is_past(time_at_sender(t), block.time)
 }
 
 // 4: the clock of a call, against the store's last height and time.
+#[tactic(auto, using(slots::proofs::FieldLaws::by_fields), unfolding(rules::specs::Refusals::goes_back))]
 pub fn goes_back(last: OwnHeight, last_time: OwnTime, x: Context) -> bool
     ensures { (s : Store) → s.height ≡ last → s.time ≡ last_time → result ≡ goes_back s x }
 {
-    let height = x.height;
-    let time = x.time;
-    if height.0 < last.0 {
-        return true;
-    }
-    if time.0 < last_time.0 {
-        return true;
-    }
-    if height.0 != last.0 {
-        return false;
-    }
-    time.0 != last_time.0
+    x.height < last || x.time < last_time || x.height == last && x.time != last_time
 }
 
 // 11, at the sender: by the client's latest block of the other ledger.
+#[tactic(auto, using(slots::proofs::FieldLaws::by_fields), unfolding(rules::specs::Refusals::is_late_at_sender))]
 pub fn is_late_at_sender(x: Context, t: Timeout) -> bool
     ensures { result ≡ is_late_at_sender x t }
 {
-    let client = x.client;
-    has_passed_at(client, t)
+    has_passed_at(x.client, t)
 }
 
 // 11, at the receiver: by its own height or time.
+#[tactic(auto, using(slots::proofs::FieldLaws::by_fields), unfolding(rules::specs::Refusals::is_late_at_receiver))]
 pub fn is_late_at_receiver(x: Context, u: Timeout) -> bool
     ensures { result ≡ is_late_at_receiver x u }
 {
-    let height = x.height;
-    let time = x.time;
-    is_past_own(height_at_receiver(u), height) | is_past_own_time(time_at_receiver(u), time)
+    is_past(height_at_receiver(u), x.height) || is_past(time_at_receiver(u), x.time)
 }
 
 // 12: by the verdict's block of the other ledger.
+#[tactic(auto, using(slots::proofs::FieldLaws::by_fields), unfolding(rules::specs::Refusals::is_proved_late))]
 pub fn is_proved_late(t: Timeout, v: Verdict) -> bool
     ensures { result ≡ is_proved_late t v }
 {
-    let block = v.block;
-    has_passed_at(block, t)
+    has_passed_at(v.block, t)
 }

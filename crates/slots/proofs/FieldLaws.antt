@@ -1,14 +1,16 @@
 -- What a derived comparison computes, field by field, is what the definitions say. Assumes nothing.
 use mathlib.Core.Bool.{◌&&◌}
-use Rattle.std.specs.Ordering.{nat_cmp, partial_lt, is_lt, is_some_and, partial_ordering_then}
+use Rattle.std.specs.Ordering.{nat_cmp, partial_lt, is_lt, is_le, is_some_and, partial_ordering_then}
 use Rattle.std.proofs.Common.{Option, Some, Ordering}
-use Rattle.wire.proofs.Prelude.{◌≡◌, refl, sym, ap, ◌∙◌, Bool, true, false, ℕ, eqb, ltb, ltb-true, ne_eqb, arith}
+use Rattle.wire.proofs.Prelude.{◌≡◌, refl, sym, ap, ◌∙◌, Bool, true, false, ℕ, eqb, ltb, leb, not, arith}
+use Rattle.wire.proofs.Prelude.{ltb-true, ltb-false, eqb-true, eqb-false, ne_eqb, le-leb, le-ltb, lt-ltb}
+use borrow.Author.Tests.{lt-leb}
 use Rattle.wire.specs.Names.{◌and◌, pick}
 use Rattle.wire.proofs.Laws.{cases}
 use Rattle.slots.specs.declared.Timeout.{Timeout}
 use Rattle.slots.specs.declared.PortChannel.{PortChannel}
 use Rattle.slots.specs.declared.Record.{Record}
-use Rattle.slots.specs.Names.{Key, key_of, has_key, same_timeout, same_port_channel, is_before}
+use Rattle.slots.specs.Names.{Key, key_of, has_key, same_timeout, same_port_channel, is_before, is_past}
 use Rattle.slots.specs.contracts.KeyPartialOrd.TheImpl.{partial_cmp-value as key_cmp}
 
 -- EQUAL: `==` joins the fields by `&&`
@@ -46,6 +48,22 @@ below-last x y =
     cases (ltb x y)
     (λ e. rw e)
     (λ e. cases (eqb x y) (λ f. rw (e, f)) (λ f. rw (e, f)))
+
+pub up-to-last : (x y : ℕ) → is_some_and is_le (Some (nat_cmp x y)) ≡ leb x y
+up-to-last x y =
+    cases (ltb x y)
+    (λ e. let d = le-leb x y (omega (arith, ltb-true x y e)) in rw (e, d))
+    (λ e. cases (eqb x y)
+    (λ f. let d = le-leb x y (omega (arith, eqb-true x y f)) in rw (e, f, d))
+    (λ f. let d = lt-leb x y (omega (arith, ltb-false x y e, eqb-false x y f)) in rw (e, f, d)))
+
+-- a limit is at or below what is compared with it, and not the default, which is 0
+pub past-default : (l n m z : ℕ) (b : Bool) → l ≡ m → z ≡ 0 →
+    b ≡ (not (eqb l z) && is_some_and is_le (Some (nat_cmp l n))) → b ≡ is_past m n
+unfolding is_past ◌and◌
+past-default l n m z b d e h = h ∙ rw (d, e, up-to-last m n) (cases (eqb m 0)
+    (λ f. let g = le-ltb 0 m (omega (arith, eqb-true m 0 f)) in rw (f, g))
+    (λ f. let g = lt-ltb 0 m (omega (arith, eqb-false m 0 f)) in rw (f, g)))
 
 below-first : (x y : ℕ) (o : Option Ordering) →
     is_some_and is_lt (partial_ordering_then (Some (nat_cmp x y)) o) ≡
