@@ -1,15 +1,15 @@
 -- Laws of a test of each slot of a table, turn by turn; and the tests of a fit store by its parts. Assumes nothing.
-use mathlib.Core.Path.{◌≡◌, refl, sym, ap, ◌∙◌}
-use mathlib.Core.Bool.{Bool, true, false, not}
+use mathlib.Core.Path.{◌≡◌, refl, sym, ap, subst, ◌∙◌}
+use mathlib.Core.Bool.{Bool, true, false}
 use mathlib.Core.List.{List, [], ◌∷◌, ◌++◌, map, append_assoc, append-nil}
 use mathlib.Core.Option.{Option, none, some}
 use Prim.Native.Nat.{ℕ, zero, suc, ◌+◌, ◌*◌, ◌≤◌, ◌<◌}
-use native.Mathlib.Nat.{sub-zero}
+use native.Mathlib.Nat.{sub-zero, add-zero}
 use native.Mathlib.Omega.{arith}
 use lib.Dec.{leb}
 use lib.ListN.{length, take, drop, length-drop, take-append-drop, drop_of_length-le}
 use lib.Seq.{length-take-le, drop-drop}
-use borrow.Author.Tests.{not-true, not-false}
+use Rattle.std.specs.Bool.{MatchBool}
 use Rattle.wire.specs.Choice.{◌and◌, ◌or◌}
 use Rattle.wire.specs.Bytes.{same, are_zero, part, field, pieces, digest_size}
 use Rattle.wire.proofs.ChoiceLaws.{cases, of-pick, and_assoc, and-true, and_comm, and-swap}
@@ -47,6 +47,32 @@ module _ (t : List ℕ → List (List ℕ) → Bool) (start n : ℕ) (bs : List 
     pub passed : n ≤ i → true ≡ all
     unfolding every_slot
     passed h = rw (left, pieces_end slot_size start n bs i h)
+
+  -- an iterator over all indices asks whether each passes
+  abbrev pub Tests : Bool → (i : ℕ) → Type 0
+  Tests r i = t (slot_at start bs i) (slots_from start n bs (i + 1)) ≡ r
+
+  up : (i : ℕ) → i ≤ n → ((k : ℕ) → k < i → Tests true k) → every_from 0 ≡ every_from i
+  up zero l h = refl
+  up (suc i) l h =
+      let e : i + 1 ≡ suc i = omega arith in
+      passes i (up i (omega arith) (λ k m. h k (omega arith))) (omega arith) refl (h i (omega arith)) ∙ ap every_from e
+
+  down : (m i : ℕ) → i + m < n → Tests false (i + m) → false ≡ every_from i
+  down zero i l h = fails i refl (omega arith) refl (rw add-zero at h)
+  down (suc m) i l h =
+      let e : i + suc m ≡ i + 1 + m = omega arith in
+      cases (t (slot_at start bs i) (slots_from start n bs (i + 1)))
+      (λ p. down m (i + 1) (omega arith) (subst (Tests false) e h) ∙ sym (passes i refl (omega arith) refl p))
+      (λ p. fails i refl (omega arith) refl p)
+
+  pub every-in : (r : Bool) →
+      MatchBool r ((k : ℕ) → 0 ≤ k → k < n → Tests true k) ((k : ℕ) × (0 ≤ k) × (k < n) × Tests false k) →
+      r ≡ every_from 0
+  every-in true h = passed n (up n (omega arith) (λ k l. h k (omega arith) l)) (omega arith)
+  every-in false h =
+      let e : 0 + h.0 ≡ h.0 = omega arith in
+      down h.0 0 (omega (arith, h.2)) (subst (Tests false) (sym e) h.3)
 
 -- A SLOT: its bytes are zero; or q tells whether what is read there is exact and passes, and b tells of the other slots
 module _ {A : Type 0} (write : A → List ℕ) (g : List ℕ → A) (t : A → Bool) (v : A → List (Option A) → Bool)

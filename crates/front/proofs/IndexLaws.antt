@@ -8,7 +8,7 @@ use native.Mathlib.Omega.{arith}
 use lib.Dec.{ltb}
 use lib.ListN.{length, get_or}
 use borrow.Author.Tests.{ltb-true, ltb-false}
-use Rattle.wire.specs.Choice.{◌and◌, is_some}
+use Rattle.wire.specs.Choice.{is_some}
 use Rattle.wire.specs.Bytes.{are_zero}
 use Rattle.wire.proofs.ChoiceLaws.{cases, and_both, both-and, some_is}
 use Rattle.wire.proofs.BytesLaws.{pieces-turn, pieces_end}

@@ -44,12 +44,10 @@ fn channels_fit(s: &[u8], next: u64) -> bool
         every_slot (slot_fits channel_bytes channel_in (fits_below next) (is_lone same_number))
         (slots_from header_size channel_limit s.now 0) }
 {
-    let mut i: usize = 0;
-    while i < Layout::CHANNELS {
+    for i in 0..Layout::CHANNELS {
         if !channel_slot_fits(s, next, i) {
             return false;
         }
-        i += 1;
     }
     true
 }

@@ -110,14 +110,12 @@ fn pass_below(s: &[u8], q: usize, i: usize, sequence: u64) -> usize
     requires { (size_for i ≤ length s.now) × (q ≤ i) }
     ensures { Reached s.now q i sequence result }
 {
-    let mut k = q;
-    while k < i {
+    for k in q..i {
         if sequence <= u64_at(s, Layout::RECORDS_FROM + Layout::SLOT * k + 8) {
             return k;
         }
-        k += 1;
     }
-    k
+    i
 }
 
 // Slot m stands before slot i and has this sequence.
@@ -140,14 +138,12 @@ fn are_beside(s: &[u8], q: usize, i: usize, e: usize, kind: u16, wanted: bool) -
         (e - i) }
 {
     let mut m = q;
-    let mut k = i;
-    while k < e {
+    for k in i..e {
         let sequence = u64_at(s, Layout::RECORDS_FROM + Layout::SLOT * k + 8);
         m = pass_below(s, m, i, sequence);
         if is_there(s, m, i, sequence) != wanted {
             return false;
         }
-        k += 1;
     }
     true
 }

@@ -4,6 +4,7 @@ pub mod RoomLaws
 pub mod OrderLaws
 pub mod KeyLaws
 pub mod FieldLaws
+pub mod RangeLaws
 pub mod RecordLaws
 pub mod RecordOrderLaws
 pub mod ChannelLaws

@@ -4,12 +4,16 @@ use mathlib.Core.Path.{◌≡◌, refl, sym, ap, ◌∙◌}
 use mathlib.Core.Bool.{Bool, true, false}
 use mathlib.Core.List.{List}
 use mathlib.Core.Option.{Option}
-use Prim.Native.Nat.{ℕ, ◌+◌, ◌-◌, ◌≤◌, ◌<◌}
+use Prim.Native.Nat.{ℕ, zero, suc, ◌+◌, ◌-◌, ◌≤◌, ◌<◌}
+use native.Mathlib.Nat.{add-zero}
 use native.Mathlib.Numerals.{add-one}
 use native.Mathlib.Omega.{arith}
+use lib.Dec.{ltb}
 use lib.ListN.{length}
+use borrow.Author.Tests.{ltb-true, ltb-false}
+use Rattle.wire.proofs.ChoiceLaws.{cases}
 use Rattle.wire.proofs.BytesLaws.{pieces-turn, pieces_end}
-use Rattle.std.specs.Prelude.{Option as Found, Some, None}
+use Rattle.std.specs.Prelude.{Option as Found, Some, None, MatchOption}
 use Rattle.slots.specs.Limits.{channel_limit}
 use Rattle.slots.specs.Table.{in_order, precedes}
 use Rattle.slots.specs.Layout.{header_size, slot_size, records_from, size_for, room_in}
@@ -49,3 +53,30 @@ module _ {A : Type 0} (g : List ℕ → A) (t : Option A → Bool) (start n : �
     pub nothing : n ≤ i → None ≡ all
     unfolding index_where
     nothing h = rw (left, pieces_end slot_size start n bs i h)
+
+-- AN ITERATOR over the indices from one on finds the first that passes
+module _ {A : Type 0} (g : List ℕ → A) (t : Option A → Bool) (start n : ℕ) (bs : List ℕ) (from : ℕ) where
+  abbrev pub Tests : Bool → (i : ℕ) → Type 0
+  Tests r i = t (slot_in g (slot_at start bs i)) ≡ r
+
+  passed-over : (m : ℕ) → from + m ≤ n → ((k : ℕ) → from ≤ k → k < from + m → Tests false k) →
+      first_from g t start n bs from ≡ first_from g t start n bs (from + m)
+  passed-over zero l h = ap (first_from g t start n bs) (sym (add-zero from))
+  passed-over (suc m) l h =
+      let e : from + m + 1 ≡ from + suc m = omega arith in
+      missed g t start n bs (from + m) (passed-over m (omega arith) (λ k p q. h k p (omega arith))) (omega arith) refl
+      (h (from + m) (omega arith) (omega arith)) ∙ ap (first_from g t start n bs) e
+
+  over : (i : ℕ) → from ≤ i → i ≤ n → ((k : ℕ) → from ≤ k → k < i → Tests false k) →
+      first_from g t start n bs from ≡ first_from g t start n bs i
+  over i p q h =
+      let e : from + (i - from) ≡ i = omega arith in
+      passed-over (i - from) (omega arith) (λ k a b. h k a (omega arith)) ∙ ap (first_from g t start n bs) e
+
+  pub first-in : (r : Found ℕ) → MatchOption r ((k : ℕ) → from ≤ k → k < n → Tests false k)
+      (λ i. (from ≤ i) × (i < n) × Tests true i × ((k : ℕ) → from ≤ k → k < i → Tests false k)) →
+      r ≡ first_from g t start n bs from
+  first-in (Some i) h = found g t start n bs i (over i h.0 (omega (arith, h.1)) h.3) h.1 refl h.2
+  first-in None h =
+      cases (ltb n from) (λ e. nothing g t start n bs from refl (omega (arith, ltb-true n from e)))
+      (λ e. nothing g t start n bs n (over n (omega (arith, ltb-false n from e)) (omega arith) h) (omega arith))

@@ -35,14 +35,7 @@ fn records_fit(s: &[u8], count: usize) -> bool
         every_slot (slot_fits record_bytes record_in (record_fits (store_in s.now)) anywhere)
         (slots_from records_from count s.now 0) }
 {
-    let mut i: usize = 0;
-    while i < count {
-        if !record_slot_fits(s, count, i) {
-            return false;
-        }
-        i += 1;
-    }
-    true
+    (0..count).all(|i| record_slot_fits(s, count, i))
 }
 
 // Laid out exactly as a store, and each entry fits, wherever it stands in its table.

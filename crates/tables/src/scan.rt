@@ -27,14 +27,7 @@ pub fn first_channel(s: &[u8], upto: usize, number: u32) -> Option<usize>
     requires { (records_from ≤ length s.now) × (upto ≤ channel_limit) }
     ensures { result ≡ first_that (is_numbered number) (table_from channel_in header_size upto s.now 0) }
 {
-    let mut i: usize = 0;
-    while i < upto {
-        if is_numbered(s, Layout::HEADER + Layout::SLOT * i, number) {
-            return Some(i);
-        }
-        i += 1;
-    }
-    None
+    (0..upto).find(|&i| is_numbered(s, Layout::HEADER + Layout::SLOT * i, number))
 }
 
 // The first packet record of this key among the slots from `from` on, whatever their order.
@@ -42,14 +35,7 @@ pub fn first_record(s: &[u8], count: usize, from: usize, k: Key) -> Option<usize
     requires { size_for count ≤ length s.now }
     ensures { result ≡ index_where (holds (has_key k)) from (table_from record_in records_from count s.now from) }
 {
-    let mut i = from;
-    while i < count {
-        if has_key(s, Layout::RECORDS_FROM + Layout::SLOT * i, k) {
-            return Some(i);
-        }
-        i += 1;
-    }
-    None
+    (from..count).find(|&i| has_key(s, Layout::RECORDS_FROM + Layout::SLOT * i, k))
 }
 
 pub fn find_channel(s: &[u8], number: u32) -> Option<usize>
@@ -64,12 +50,5 @@ pub fn find_free_channel(s: &[u8]) -> Option<usize>
     requires { records_from ≤ length s.now }
     ensures { result ≡ first_free (store_in s.now).channels }
 {
-    let mut i: usize = 0;
-    while i < Layout::CHANNELS {
-        if are_zero(s, Layout::HEADER + Layout::SLOT * i, Layout::SLOT) {
-            return Some(i);
-        }
-        i += 1;
-    }
-    None
+    (0..Layout::CHANNELS).find(|&i| are_zero(s, Layout::HEADER + Layout::SLOT * i, Layout::SLOT))
 }

@@ -8,7 +8,6 @@ use lib.Dec.{ltb}
 use Rattle.std.specs.Prelude.{is_some}
 use Rattle.std.proofs.Math.Bool.{not-not}
 use borrow.Author.Rules.{rules}
-use borrow.Author.Tests.{not-true, not-false}
 use Rattle.wire.specs.Choice.{◌and◌}
 use Rattle.wire.proofs.ChoiceLaws.{and-false}
 use Rattle.wire.proofs.PartLaws.{field-part}
