@@ -13,8 +13,6 @@ use Rattle.datagram.specs.Datagram.{datagram_in, is_sound}
 use Rattle.rules.specs.Refusals.{makes_end, or_none, end_for}
 use Rattle.rules.specs.Acceptance.{EndEdit, leaves, puts, adds, number_after}
 use Rattle.records.specs.Edited.{edit_by, slot_of}
-use Rattle.effects.specs.declared.EndAction.{EndAction}
-use Rattle.effects.specs.declared.EndAction.TheVariants.{Leaves, Puts, Adds}
 use Rattle.effects.specs.Decided.{ends_by, Left}
 use Rattle.acceptance.specs.declared.Plan.{Plan}
 
@@ -35,19 +33,21 @@ end_slot (puts c) cs = first_that (is_numbered c.own.channel) cs
 end_slot (adds c) cs = first_free cs
 
 -- the same, where the end that changes is known to be at a slot
-abbrev pub slot_by : EndAction → Found ℕ → List (Option Channel) → Found ℕ
-slot_by Leaves at cs = None
-slot_by Puts at cs = at
-slot_by Adds at cs = first_free cs
+abbrev pub slot_by : EndEdit → Found ℕ → List (Option Channel) → Found ℕ
+slot_by leaves at cs = None
+slot_by (puts c) at cs = at
+slot_by (adds c) at cs = first_free cs
 
--- an end at a slot, if there is one
-abbrev pub with_end : Store → Found ℕ → Channel → Store
-with_end s (Some j) c = with_channel_slot s j (some c)
-with_end s None c = s
+-- the end that changes or is added, at a slot, if there is one
+abbrev pub with_end : Store → Found ℕ → EndEdit → Store
+with_end s None x = s
+with_end s (Some j) leaves = s
+with_end s (Some j) (puts c) = with_channel_slot s j (some c)
+with_end s (Some j) (adds c) = with_channel_slot s j (some c)
 
 -- the slots of the end and of the packet record that it changes, the next channel number, and the slots in use
 pub record Placed (s : Store) (p : Plan) : Type 0 where
-  pub end : p.at ≡ end_slot (ends_by p.decision) s.channels
-  pub next : p.next ≡ number_after (ends_by p.decision) s.next
+  pub end : p.at ≡ end_slot (ends_by p.decision.ends) s.channels
+  pub next : p.next ≡ number_after (ends_by p.decision.ends) s.next
   pub edit : p.slot ≡ slot_of (edit_by p.decision.edit) s.records
   pub used : p.used ≡ used_slots s.records

@@ -7,19 +7,19 @@ ghost use Rattle.slots.specs.Table.{is_numbered, channel_at};
 ghost use Rattle.slots.specs.Layout.{records_from, bytes_of, store_in};
 ghost use Rattle.slots.specs.Scan.{first_that, used_slots};
 ghost use Rattle.slots.specs.Effect.{Exact};
-ghost use Rattle.slots.specs.Fit.{is_fit};
+ghost use Rattle.slots.specs.Fit.{entries_fit, is_fit};
 ghost use Rattle.datagram.specs.Datagram.{datagram_in};
 ghost use Rattle.emit.specs.Output.{at_front};
 ghost use Rattle.rules.specs.Refusals.{or_none};
 ghost use Rattle.rules.specs.Acceptance.{number_after, applied};
 ghost use Rattle.rules.specs.Call.{answer_to, effect_in, next_store};
-ghost use Rattle.effects.specs.Decided.{end_edit_of, effect_by};
+ghost use Rattle.effects.specs.Decided.{ends_by, effect_by};
 ghost use Rattle.acceptance.specs.Planned.{Ready, slot_by, with_end, Placed};
 
 use changes::{set_channel, set_next, set_times};
 use datagram::Context;
 use datagram::read::{channel_in, context_in, kind_in};
-use effects::{Decision, EndAction, decide};
+use effects::{Decision, EndEdit, decide};
 use emit::emit_record;
 use handshake::no_channel;
 use records::{edit_records, slot_of};
@@ -52,26 +52,26 @@ fn end_of(store: &[u8], number: u32, at: Option<usize>) -> Channel
 }
 
 // The slot of the end that changes, which is that of the datagram's end, or the free one of lowest index.
-fn end_slot(store: &[u8], ends: EndAction, at: Option<usize>) -> Option<usize>
+fn end_slot(store: &[u8], ends: EndEdit, at: Option<usize>) -> Option<usize>
     requires { records_from ≤ length store.now }
-    ensures { result ≡ slot_by ends at (store_in store.now).channels }
+    ensures { result ≡ slot_by (ends_by ends) at (store_in store.now).channels }
 {
     match ends {
-        EndAction::Leaves => None,
-        EndAction::Puts => at,
-        EndAction::Adds => find_free_channel(store),
+        EndEdit::Leaves => None,
+        EndEdit::Puts(_) => at,
+        EndEdit::Adds(_) => find_free_channel(store),
     }
 }
 
 // An end that is added takes the next channel number.
-fn number_after(ends: EndAction, end: Channel, next: u64) -> u64
-    requires { number_after (end_edit_of ends end) next ≤ top }
-    ensures { result ≡ number_after (end_edit_of ends end) next }
+#[tactic(auto, unfolding(rules::specs::Acceptance::number_after))]
+fn number_after(ends: EndEdit, next: u64) -> u64
+    requires { number_after (ends_by ends) next ≤ top }
+    ensures { result ≡ number_after (ends_by ends) next }
 {
     match ends {
-        EndAction::Leaves => next,
-        EndAction::Puts => next,
-        EndAction::Adds => next + 1,
+        EndEdit::Leaves | EndEdit::Puts(_) => next,
+        EndEdit::Adds(_) => next + 1,
     }
 }
 
@@ -88,27 +88,30 @@ fn plan_for(store: &[u8], datagram: &[u8], used: usize) -> Plan
     let c = end_of(store, number, found);
     let next = u64_at(store, 28);
     let decision = decide(datagram, kind, next, c);
-    let ends = decision.ends;
-    let end = decision.end;
-    let edit = decision.edit;
     Plan {
-        decision: decision,
+        decision,
         context: context_in(datagram),
-        next: number_after(ends, end, next),
-        at: end_slot(store, ends, found),
-        slot: slot_of(store, edit),
-        used: used,
+        next: number_after(decision.ends, next),
+        at: end_slot(store, decision.ends, found),
+        slot: slot_of(store, decision.edit),
+        used,
     }
 }
 
-fn put_end(store: &mut [u8], at: Option<usize>, c: Channel)
-    requires { Exact store.old × ((j : ℕ) → at ≡ Some j → j < channel_limit) }
-    ensures { store.new ≡ bytes_of (with_end (store_in store.old) at c) }
+// The end that changes or is added is stored at its slot.
+fn put_end(store: &mut [u8], at: Option<usize>, ends: EndEdit)
+    requires { Exact store.old × (entries_fit (store_in store.old) ≡ true) × ((j : ℕ) → at ≡ Some j → j < channel_limit) }
+    ensures bytes { store.new ≡ bytes_of (with_end (store_in store.old) at (ends_by ends)) }
+    ensures told { store_in store.new ≡ with_end (store_in store.old) at (ends_by ends) }
 {
     let Some(j) = at else {
         return;
     };
-    set_channel(store, j, c);
+    match ends {
+        EndEdit::Leaves => {}
+        EndEdit::Puts(c) => set_channel(store, j, c),
+        EndEdit::Adds(c) => set_channel(store, j, c),
+    }
 }
 
 // All that is written to the store.
@@ -116,16 +119,10 @@ fn carry_out(store: &mut [u8], p: Plan)
     requires { (is_fit store.old ≡ true) × Placed (store_in store.old) p }
     ensures { store.new ≡ bytes_of (applied (store_in store.old) p.context (effect_by p.decision)) }
 {
-    let height = p.context.height;
-    let time = p.context.time;
-    set_times(store, height, time);
+    set_times(store, p.context.height, p.context.time);
     set_next(store, p.next);
-    let at = p.at;
-    let end = p.decision.end;
-    put_end(store, at, end);
-    let slot = p.slot;
-    let edit = p.decision.edit;
-    edit_records(store, slot, p.used, edit);
+    put_end(store, p.at, p.decision.ends);
+    edit_records(store, p.slot, p.used, p.decision.edit);
 }
 
 // Carries out a datagram that the table of answers accepts; so many packet records are in use. Returns the length of
@@ -140,6 +137,5 @@ pub fn accept(store: &mut [u8], output: &mut [u8], datagram: &[u8], used: usize)
 {
     let p = plan_for(store, datagram, used);
     carry_out(store, p);
-    let emission = p.decision.emission;
-    emit_record(output, emission)
+    emit_record(output, p.decision.emission)
 }

@@ -9,20 +9,17 @@ use Rattle.rules.specs.Ordering.{is_send_at_top, is_receive_at_top, is_acknowled
 use Rattle.rules.specs.Acceptance.{EndEdit, leaves, puts, adds, Effect, effect}
 use Rattle.lifecycle.specs.Number.{NumberLeft}
 use Rattle.records.specs.Edited.{edit_by}
-use Rattle.effects.specs.declared.EndAction.{EndAction}
-use Rattle.effects.specs.declared.EndAction.TheVariants.{Leaves, Puts, Adds}
+use Rattle.effects.specs.declared.EndEdit.{EndEdit as DecidedEnds}
+use Rattle.effects.specs.declared.EndEdit.TheVariants.{Leaves, Puts, Adds}
 use Rattle.effects.specs.declared.Decision.{Decision}
 
-abbrev pub end_edit_of : EndAction → Channel → EndEdit
-end_edit_of Leaves c = leaves
-end_edit_of Puts c = puts c
-end_edit_of Adds c = adds c
-
-abbrev pub ends_by : Decision → EndEdit
-ends_by d = end_edit_of d.ends d.end
+abbrev pub ends_by : DecidedEnds → EndEdit
+ends_by Leaves = leaves
+ends_by (Puts c) = puts c
+ends_by (Adds c) = adds c
 
 abbrev pub effect_by : Decision → Effect
-effect_by d = effect (ends_by d) (edit_by d.edit) (emitted_by d.emission)
+effect_by d = effect (ends_by d.ends) (edit_by d.edit) (emitted_by d.emission)
 
 -- WHAT MUST BE LEFT, by kind: a counter that rises is below its top, and there is a number for a new end
 pub record Left (k : Option Kind) (next : ℕ) (c : Channel) (d : Datagram) : Type 0 where

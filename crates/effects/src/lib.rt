@@ -12,30 +12,30 @@ ghost use Rattle.rules.specs.Ordering.{received_kind, is_send_at_top, is_receive
 ghost use Rattle.rules.specs.Refusals.{comes_late};
 ghost use Rattle.rules.specs.Acceptance.{sent_packet, commitment, sends, receives};
 ghost use Rattle.rules.specs.Acceptance.{writes_acknowledgement, acknowledges, times_out, makes, moves, effect_for};
+ghost use Rattle.emit.specs.Output.{packet_record, emitted_by};
 ghost use Rattle.effects.specs.Decided.{effect_by, Left};
 
 use datagram::Packet;
 use datagram::read::{context_in, digest_in, packet_in, sequence_in, timeout_in};
-use emit::{DELIVERED, Emission, Form, LAPSED, SENT, TIMED_OUT, made, nothing};
+use emit::Emission;
 use ends::{acknowledged_end, received_end, sent_end, timed_out_end};
 use heights::is_late_at_receiver;
 use lifecycle::{answered_end, closed_end, init_end, opened_end, tried_end};
 use ordering::lapses;
-use records::{Action, RecordEdit, freed_commitment, no_edit, plain_record, received_edit};
-use slots::{Channel, Record, Timeout};
+use records::{RecordEdit, freed_commitment, plain_record, received_edit};
+use slots::{Channel, Record};
 
 // The ends stay, the one of this number becomes this one, or a new one takes the next channel number.
 #[derive(Clone, Copy)]
-pub enum EndAction {
+pub enum EndEdit {
     Leaves,
-    Puts,
-    Adds,
+    Puts(Channel),
+    Adds(Channel),
 }
 
 #[derive(Clone, Copy)]
 pub struct Decision {
-    pub ends: EndAction,
-    pub end: Channel,
+    pub ends: EndEdit,
     pub edit: RecordEdit,
     pub emission: Emission,
 }
@@ -45,63 +45,51 @@ fn sent_packet(d: &[u8], c: Channel) -> Packet
     requires { size_of (some send) ≤ length d.now }
     ensures { result ≡ sent_packet c (datagram_of (some send) d.now) }
 {
-    let timeout = timeout_in(d);
-    let digest = digest_in(d, 1);
-    let source = c.own;
-    let destination = c.counterparty;
     Packet {
         sequence: c.next.send,
-        timeout: timeout,
-        source: source,
-        destination: destination,
-        digest: digest,
+        timeout: timeout_in(d),
+        source: c.own,
+        destination: c.counterparty,
+        digest: digest_in(d, 1),
     }
 }
 
+#[tactic(auto, unfolding(rules::specs::Acceptance::commitment))]
 fn commitment_of(p: Packet) -> Record
     ensures { result ≡ commitment p }
 {
-    let timeout = p.timeout;
     let digest = p.digest;
     Record {
         kind: Record::COMMITMENT,
         channel: p.source.channel,
         sequence: p.sequence,
-        timeout: timeout,
-        digest: digest,
+        timeout: p.timeout,
+        digest,
     }
 }
 
+#[tactic(auto, unfolding(rules::specs::Acceptance::sends))]
 fn decide_send(d: &[u8], c: Channel) -> Decision
     requires { (size_of (some send) ≤ length d.now) × (is_send_at_top c ≡ false) }
     ensures { effect_by result ≡ sends c (datagram_of (some send) d.now) }
 {
     let packet = sent_packet(d, c);
-    let committed = commitment_of(packet);
-    let end = sent_end(c);
     Decision {
-        ends: EndAction::Puts,
-        end: end,
-        edit: RecordEdit {
-            action: Action::Writes,
-            about: committed,
-        },
-        emission: Emission {
-            form: Form::PacketOnly(SENT),
-            packet: packet,
-            digest: [0; 32],
-        },
+        ends: EndEdit::Puts(sent_end(c)),
+        edit: RecordEdit::Writes(commitment_of(packet)),
+        emission: Emission::Sent(packet),
     }
 }
 
 // A packet that lapses is not delivered.
-fn received_kind(c: Channel, late: bool) -> u16
-    ensures { result ≡ received_kind c late }
+#[tactic(auto, unfolding(rules::specs::Ordering::received_kind))]
+fn received_emission(c: Channel, late: bool, packet: Packet) -> Emission
+    ensures { emitted_by result ≡ packet_record (received_kind c late) packet }
 {
     if lapses(c, late) {
-        return LAPSED;
+        return Emission::Lapsed(packet);
     }
-    DELIVERED
+    Emission::Delivered(packet)
 }
 
 fn decide_receive(d: &[u8], c: Channel) -> Decision
@@ -111,24 +99,15 @@ fn decide_receive(d: &[u8], c: Channel) -> Decision
         (packet_from (some receive) d.now) }
 {
     let packet = packet_in(d);
-    let timeout = packet.timeout;
-    let late = is_late_at_receiver(context_in(d), timeout);
-    let edit = received_edit(c, late, packet.sequence);
-    let end = received_end(c);
-    let kind = received_kind(c, late);
+    let late = is_late_at_receiver(context_in(d), packet.timeout);
     Decision {
-        ends: EndAction::Puts,
-        end: end,
-        edit: edit,
-        emission: Emission {
-            form: Form::PacketOnly(kind),
-            packet: packet,
-            digest: [0; 32],
-        },
+        ends: EndEdit::Puts(received_end(c)),
+        edit: received_edit(c, late, packet.sequence),
+        emission: received_emission(c, late, packet),
     }
 }
 
-// Of the packet that is acknowledged the channel end tells the ends, and the datagram the sequence.
+// The channel end is the destination of the packet that is acknowledged; the datagram tells the sequence.
 fn decide_write(d: &[u8], c: Channel) -> Decision
     requires { size_of (some write) ≤ length d.now }
     ensures { effect_by result ≡
@@ -136,26 +115,18 @@ fn decide_write(d: &[u8], c: Channel) -> Decision
 {
     let sequence = sequence_in(d);
     let digest = digest_in(d, 3);
-    let written = plain_record(Record::ACKNOWLEDGEMENT, c.own.channel, sequence, digest);
-    let source = c.counterparty;
-    let destination = c.own;
     Decision {
-        ends: EndAction::Leaves,
-        end: c,
-        edit: RecordEdit {
-            action: Action::Writes,
-            about: written,
-        },
-        emission: Emission {
-            form: Form::Written,
-            packet: Packet {
-                sequence: sequence,
-                timeout: Timeout { height: 0, time: 0 },
-                source: source,
-                destination: destination,
-                digest: [0; 32],
-            },
-            digest: digest,
+        ends: EndEdit::Leaves,
+        edit: RecordEdit::Writes(plain_record(
+            Record::ACKNOWLEDGEMENT,
+            c.own.channel,
+            sequence,
+            digest,
+        )),
+        emission: Emission::Written {
+            destination: c.own,
+            sequence,
+            digest,
         },
     }
 }
@@ -167,67 +138,51 @@ fn decide_acknowledge(d: &[u8], c: Channel) -> Decision
         (digest_from (some acknowledge) d.now) }
 {
     let packet = packet_in(d);
-    let digest = digest_in(d, 4);
-    let edit = freed_commitment(c, packet.sequence);
-    let end = acknowledged_end(c);
     Decision {
-        ends: EndAction::Puts,
-        end: end,
-        edit: edit,
-        emission: Emission {
-            form: Form::Acknowledged,
-            packet: packet,
-            digest: digest,
+        ends: EndEdit::Puts(acknowledged_end(c)),
+        edit: freed_commitment(c, packet.sequence),
+        emission: Emission::Acknowledged {
+            packet,
+            digest: digest_in(d, 4),
         },
     }
 }
 
 // A time-out, and one on close: the packet stands at the front of the body of both.
+#[tactic(auto, unfolding(rules::specs::Acceptance::times_out))]
 fn decide_time_out(d: &[u8], c: Channel) -> Decision
     requires { (body_from + packet_size ≤ length d.now) × (is_timeout_at_top c ≡ false) }
     ensures { effect_by result ≡ times_out c (packet_in body_from d.now) }
 {
     let packet = packet_in(d);
-    let edit = freed_commitment(c, packet.sequence);
-    let end = timed_out_end(c);
     Decision {
-        ends: EndAction::Puts,
-        end: end,
-        edit: edit,
-        emission: Emission {
-            form: Form::PacketOnly(TIMED_OUT),
-            packet: packet,
-            digest: [0; 32],
-        },
+        ends: EndEdit::Puts(timed_out_end(c)),
+        edit: freed_commitment(c, packet.sequence),
+        emission: Emission::TimedOut(packet),
     }
 }
 
 // A new end: its port and channel are emitted.
+#[tactic(auto, unfolding(rules::specs::Acceptance::makes))]
 fn decide_made(end: Channel) -> Decision
     ensures { effect_by result ≡ makes end }
 {
-    let own = end.own;
-    let edit = no_edit();
-    let emission = made(own);
     Decision {
-        ends: EndAction::Adds,
-        end: end,
-        edit: edit,
-        emission: emission,
+        ends: EndEdit::Adds(end),
+        edit: RecordEdit::Keeps,
+        emission: Emission::Made(end.own),
     }
 }
 
 // An end that opens or closes.
+#[tactic(auto, unfolding(rules::specs::Acceptance::moves))]
 fn decide_moved(end: Channel) -> Decision
     ensures { effect_by result ≡ moves end }
 {
-    let edit = no_edit();
-    let emission = nothing();
     Decision {
-        ends: EndAction::Puts,
-        end: end,
-        edit: edit,
-        emission: emission,
+        ends: EndEdit::Puts(end),
+        edit: RecordEdit::Keeps,
+        emission: Emission::Nothing,
     }
 }
 

@@ -3,10 +3,10 @@ use Rattle.std.specs.Prelude.{List, [], ◌++◌, ℕ, length, drop}
 use Rattle.wire.specs.Bytes.{little}
 use Rattle.slots.specs.declared.PortChannel.{PortChannel}
 use Rattle.datagram.specs.declared.Packet.{Packet}
-use Rattle.emit.specs.declared.Form.{Form}
-use Rattle.emit.specs.declared.Form.TheVariants.{PacketOnly, Written, Acknowledged, Made, Nothing}
 use Rattle.emit.specs.declared.Emission.{Emission}
-use Rattle.datagram.specs.Emitted.{written_kind, acknowledged_kind, made_kind, framed, packet_bytes}
+use Rattle.emit.specs.declared.Emission.TheVariants.{Sent, Delivered, TimedOut, Lapsed, Written, Acknowledged, Made, Nothing}
+use Rattle.datagram.specs.Emitted.{sent_kind, delivered_kind, written_kind, acknowledged_kind, timed_out_kind, lapsed_kind}
+use Rattle.datagram.specs.Emitted.{made_kind, framed, packet_bytes}
 
 abbrev pub at_front : (emitted output : List ℕ) → List ℕ
 at_front e o = e ++ drop (length e) o
@@ -28,13 +28,13 @@ acknowledged_record p a = framed acknowledged_kind (packet_bytes p ++ a)
 abbrev pub made_record : PortChannel → List ℕ
 made_record e = framed made_kind (port_channel_bytes e)
 
--- the record that a struct by value tells
-abbrev pub emitted_as : Form → Packet → (digest : List ℕ) → List ℕ
-emitted_as (PacketOnly k) p a = packet_record k p
-emitted_as Written p a = written_record p.destination p.sequence a
-emitted_as Acknowledged p a = acknowledged_record p a
-emitted_as (Made e) p a = made_record e
-emitted_as Nothing p a = []
-
+-- the record that a value tells
 abbrev pub emitted_by : Emission → List ℕ
-emitted_by e = emitted_as e.form e.packet e.digest
+emitted_by (Sent p) = packet_record sent_kind p
+emitted_by (Delivered p) = packet_record delivered_kind p
+emitted_by (TimedOut p) = packet_record timed_out_kind p
+emitted_by (Lapsed p) = packet_record lapsed_kind p
+emitted_by (Written e n a) = written_record e n a
+emitted_by (Acknowledged p a) = acknowledged_record p a
+emitted_by (Made e) = made_record e
+emitted_by Nothing = []

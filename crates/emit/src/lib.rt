@@ -1,7 +1,7 @@
 // The records that are handed out, written at the front of the lent output. Each writer returns the record's length.
 #![tactic(auto)]
 
-ghost use Rattle.std.specs.Prelude.{◌≡◌, [], ◌+◌, ◌≤◌, length};
+ghost use Rattle.std.specs.Prelude.{◌≡◌, ◌+◌, ◌≤◌, length};
 ghost use Rattle.wire.specs.Bytes.{patch};
 ghost use Rattle.slots.specs.Limits.{output_limit};
 ghost use Rattle.datagram.specs.Kind.{packet_size};
@@ -11,8 +11,8 @@ ghost use Rattle.emit.specs.Output.{emitted_by};
 
 use datagram::Packet;
 use datagram::place::PACKET;
+use slots::PortChannel;
 use slots::part::{put_port_channel, put_timeout};
-use slots::{PortChannel, Timeout};
 use wire::{DIGEST, FRAME, put_array, put_frame, put_u64};
 
 // The records by their whole lengths: a packet; a port, a channel, a sequence and a digest; a packet and a digest; a
@@ -26,72 +26,40 @@ const ACKNOWLEDGED_SIZE: u32 = (FRAME + PACKET + DIGEST) as u32;
 const MADE_SIZE: u32 = (FRAME + 6) as u32;
 
 // The kinds of the records.
-pub const SENT: u16 = 0x0101;
+const SENT: u16 = 0x0101;
 
-pub const DELIVERED: u16 = 0x0102;
+const DELIVERED: u16 = 0x0102;
 
 const WRITTEN: u16 = 0x0103;
 
 const ACKNOWLEDGED: u16 = 0x0104;
 
-pub const TIMED_OUT: u16 = 0x0105;
+const TIMED_OUT: u16 = 0x0105;
 
-pub const LAPSED: u16 = 0x0106;
+const LAPSED: u16 = 0x0106;
 
 const MADE: u16 = 0x0107;
 
-// What is emitted: a packet alone under one of its kinds, a written acknowledgement, an acknowledged packet, a new end,
-// or nothing.
+// A record that is emitted, or nothing: a packet alone under one of four kinds, a written acknowledgement's digest with
+// the destination and the sequence of its packet, an acknowledged packet with the digest, or the port and the channel of
+// a new end.
 #[derive(Clone, Copy)]
-pub enum Form {
-    PacketOnly(u16),
-    Written,
-    Acknowledged,
+pub enum Emission {
+    Sent(Packet),
+    Delivered(Packet),
+    TimedOut(Packet),
+    Lapsed(Packet),
+    Written {
+        destination: PortChannel,
+        sequence: u64,
+        digest: [u8; DIGEST],
+    },
+    Acknowledged {
+        packet: Packet,
+        digest: [u8; DIGEST],
+    },
     Made(PortChannel),
     Nothing,
-}
-
-// A record that is emitted. Of a written acknowledgement's packet the destination and the sequence matter alone. A new
-// end and nothing have no packet and no digest: `made` and `nothing` have zeros there.
-#[derive(Clone, Copy)]
-pub struct Emission {
-    pub form: Form,
-    pub packet: Packet,
-    pub digest: [u8; 32],
-}
-
-pub fn nothing() -> Emission
-    ensures { emitted_by result ≡ [] }
-{
-    Emission {
-        form: Form::Nothing,
-        packet: Packet {
-            sequence: 0,
-            timeout: Timeout { height: 0, time: 0 },
-            source: PortChannel {
-                port: 0,
-                channel: 0,
-            },
-            destination: PortChannel {
-                port: 0,
-                channel: 0,
-            },
-            digest: [0; 32],
-        },
-        digest: [0; 32],
-    }
-}
-
-pub fn made(end: PortChannel) -> Emission
-    ensures { emitted_by result ≡ made_record end }
-{
-    let none = nothing();
-    let packet = none.packet;
-    Emission {
-        form: Form::Made(end),
-        packet: packet,
-        digest: [0; 32],
-    }
 }
 
 fn put_packet(out: &mut [u8], at: usize, p: Packet)
@@ -116,19 +84,24 @@ fn emit_packet(out: &mut [u8], kind: u16, p: Packet) -> u32
 }
 
 // The acknowledgement of a packet, by its destination and its sequence.
-fn emit_written(out: &mut [u8], p: Packet, digest: [u8; 32]) -> u32
+fn emit_written(
+    out: &mut [u8],
+    destination: PortChannel,
+    sequence: u64,
+    digest: [u8; DIGEST],
+) -> u32
     requires { output_limit ≤ length out.old }
-    ensures output { out.new ≡ at_front (written_record p.destination p.sequence digest) out.old }
-    ensures size { result ≡ length (written_record p.destination p.sequence digest) }
+    ensures output { out.new ≡ at_front (written_record destination sequence digest) out.old }
+    ensures size { result ≡ length (written_record destination sequence digest) }
 {
     put_frame(out, WRITTEN_SIZE, WRITTEN);
-    put_port_channel(out, FRAME, p.destination);
-    put_u64(out, FRAME + 6, p.sequence);
+    put_port_channel(out, FRAME, destination);
+    put_u64(out, FRAME + 6, sequence);
     put_array(out, FRAME + 14, digest);
     WRITTEN_SIZE
 }
 
-fn emit_acknowledged(out: &mut [u8], p: Packet, digest: [u8; 32]) -> u32
+fn emit_acknowledged(out: &mut [u8], p: Packet, digest: [u8; DIGEST]) -> u32
     requires { output_limit ≤ length out.old }
     ensures output { out.new ≡ at_front (acknowledged_record p digest) out.old }
     ensures size { result ≡ length (acknowledged_record p digest) }
@@ -154,14 +127,18 @@ pub fn emit_record(out: &mut [u8], e: Emission) -> u32
     ensures output { out.new ≡ at_front (emitted_by e) out.old }
     ensures size { result ≡ length (emitted_by e) }
 {
-    let form = e.form;
-    let packet = e.packet;
-    let digest = e.digest;
-    match form {
-        Form::PacketOnly(kind) => emit_packet(out, kind, packet),
-        Form::Written => emit_written(out, packet, digest),
-        Form::Acknowledged => emit_acknowledged(out, packet, digest),
-        Form::Made(end) => emit_made(out, end),
-        Form::Nothing => 0,
+    match e {
+        Emission::Sent(packet) => emit_packet(out, SENT, packet),
+        Emission::Delivered(packet) => emit_packet(out, DELIVERED, packet),
+        Emission::TimedOut(packet) => emit_packet(out, TIMED_OUT, packet),
+        Emission::Lapsed(packet) => emit_packet(out, LAPSED, packet),
+        Emission::Written {
+            destination,
+            sequence,
+            digest,
+        } => emit_written(out, destination, sequence, digest),
+        Emission::Acknowledged { packet, digest } => emit_acknowledged(out, packet, digest),
+        Emission::Made(end) => emit_made(out, end),
+        Emission::Nothing => 0,
     }
 }

@@ -50,6 +50,7 @@ pub fn has_version(v: EndVerdict, needed: Channel) -> bool
 }
 
 // A verdict shows an end with zero counters.
+#[tactic(auto, unfolding(rules::specs::Handshake::needed_end))]
 fn needed_end(
     state: u8,
     order: u8,
@@ -60,16 +61,12 @@ fn needed_end(
     ensures { result ≡ needed_end state order own counterparty version }
 {
     Channel {
-        state: state,
-        order: order,
-        own: own,
-        counterparty: counterparty,
-        next: Counters {
-            send: 0,
-            receive: 0,
-            acknowledge: 0,
-        },
-        version: version,
+        state,
+        order,
+        own,
+        counterparty,
+        next: Counters::default(),
+        version,
     }
 }
 
@@ -82,16 +79,8 @@ pub fn needed_init(
 ) -> Channel
     ensures { result ≡ needed_end state_init order counterparty (port_only port) version }
 {
-    needed_end(
-        Channel::INIT,
-        order,
-        counterparty,
-        PortChannel {
-            port: port,
-            channel: 0,
-        },
-        version,
-    )
+    let own = PortChannel { port, channel: 0 };
+    needed_end(Channel::INIT, order, counterparty, own, version)
 }
 
 // An open acknowledge needs the TRYOPEN end of the datagram's channel, which names this one.
@@ -100,32 +89,24 @@ pub fn needed_try_open(c: Channel, channel: u32) -> Channel
         needed_end state_try_open c.order (record { port = c.counterparty.port; channel = channel }) c.own
         c.version }
 {
-    let own = c.own;
-    let version = c.version;
-    needed_end(
-        Channel::TRY_OPEN,
-        c.order,
-        PortChannel {
-            port: c.counterparty.port,
-            channel: channel,
-        },
-        own,
-        version,
-    )
+    let other = PortChannel {
+        channel,
+        ..c.counterparty
+    };
+    needed_end(Channel::TRY_OPEN, c.order, other, c.own, c.version)
 }
 
 // The counterparty in a state, which names this end: an open confirm needs it OPEN, a close confirm and a time-out on
 // close need it CLOSED.
+#[tactic(auto, unfolding(rules::specs::Handshake::needed_peer))]
 pub fn needed_peer(state: u8, c: Channel) -> Channel
     ensures { result ≡ needed_peer state c }
 {
-    let own = c.own;
-    let counterparty = c.counterparty;
-    let version = c.version;
-    needed_end(state, c.order, counterparty, own, version)
+    needed_end(state, c.order, c.counterparty, c.own, c.version)
 }
 
 // A new end, for a datagram of this order, version and caller's port.
+#[tactic(auto, unfolding(rules::specs::Handshake::new_end))]
 pub fn new_end(
     state: u8,
     order: u8,
@@ -137,56 +118,35 @@ pub fn new_end(
         result ≡ new_end state counterparty own.channel d }
 {
     Channel {
-        state: state,
-        order: order,
-        own: own,
-        counterparty: counterparty,
+        state,
+        order,
+        own,
+        counterparty,
         next: Counters {
             send: 1,
             receive: 1,
             acknowledge: 1,
         },
-        version: version,
+        version,
     }
 }
 
 // The end in another state, with this counterparty.
+#[tactic(auto, unfolding(rules::specs::Ordering::moved))]
 pub fn moved(state: u8, counterparty: PortChannel, c: Channel) -> Channel
     ensures { result ≡ moved state counterparty c }
 {
-    let own = c.own;
-    let next = c.next;
-    let version = c.version;
     Channel {
-        state: state,
-        order: c.order,
-        own: own,
-        counterparty: counterparty,
-        next: next,
-        version: version,
+        state,
+        counterparty,
+        ..c
     }
 }
 
 // What stands for the end that a datagram is about where none is there.
+#[tactic(auto, unfolding(rules::specs::Refusals::no_channel))]
 pub fn no_channel() -> Channel
     ensures { result ≡ no_channel }
 {
-    Channel {
-        state: 0,
-        order: 0,
-        own: PortChannel {
-            port: 0,
-            channel: 0,
-        },
-        counterparty: PortChannel {
-            port: 0,
-            channel: 0,
-        },
-        next: Counters {
-            send: 0,
-            receive: 0,
-            acknowledge: 0,
-        },
-        version: [0u8; VERSION],
-    }
+    Channel::default()
 }

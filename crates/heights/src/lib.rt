@@ -41,7 +41,7 @@ fn time_at_receiver(t: Timeout) -> OwnTime
 pub fn no_timeout() -> Timeout
     ensures { result ≡ no_timeout }
 {
-    Timeout { height: 0, time: 0 }
+    Timeout::default()
 }
 
 #[tactic(auto, using(slots::proofs::FieldLaws::by_fields))]

@@ -1,21 +1,16 @@
 -- Laws of the bytes of a piece: a patch, a part, and a front. Assumes nothing.
-use mathlib.Core.Path.{◌≡◌, refl, sym, ap, ◌∙◌}
-use mathlib.Core.List.{List, [], ◌∷◌}
-use Prim.Native.Nat.{ℕ, suc, ◌+◌, ◌-◌, ◌≤◌, ◌<◌, min}
+use mathlib.Core.Path.{◌≡◌, sym, ap, ◌∙◌}
+use mathlib.Core.List.{List}
+use Prim.Native.Nat.{ℕ, ◌-◌, ◌≤◌, ◌<◌, min}
+use native.Mathlib.Nat.{zero-add}
 use native.Mathlib.Omega.{arith}
 use lib.Dec.{leb}
-use lib.ListN.{length, take, drop, set, get_or, length-take, length-drop, drop_of_length-le}
-use lib.Seq.{get_or-set_other, length-take-le, take_all, take-length, drop-length}
+use lib.ListN.{length, take, drop, length-take, length-drop, drop_of_length-le, take-append-drop}
+use lib.Seq.{paste, length-take-le, take_all, take-length, drop-length}
 use borrow.Author.Tests.{leb-true, leb-false}
 use Rattle.wire.specs.Bytes.{part, patch}
 use Rattle.wire.proofs.ChoiceLaws.{cases}
-
--- bytes behind a patch stay
-pub get_or-patch-behind : (i j : ℕ) (xs bs : List ℕ) → i + length xs ≤ j → get_or (patch i xs bs) j 0 ≡ get_or bs j 0
-unfolding patch
-get_or-patch-behind i j [] bs h = refl
-get_or-patch-behind i j (x ∷ xs) bs h =
-    get_or-patch-behind (suc i) j xs (set bs i x) (omega arith) ∙ get_or-set_other bs i j x 0 (λ e. omega arith)
+use Rattle.wire.proofs.PatchLaws.{patch-front}
 
 pub length-part-most : (i n : ℕ) (bs : List ℕ) → length (part i n bs) ≡ min n (length bs - i)
 unfolding part
@@ -40,3 +35,19 @@ drop-most n m bs h =
 -- the end of a front
 pub length_front : (n m : ℕ) (bs : List ℕ) → n ≤ length bs → take n bs ≡ take m bs → n ≡ min m (length bs)
 length_front n m bs h e = sym (length-take-le n bs h) ∙ ap length e ∙ length-take m bs
+
+-- a part, as far as there are bytes
+pub part-most : (from at n size : ℕ) (bs : List ℕ) → from ≡ min at (length bs) → n ≡ min size (length bs - from)
+    → take n (drop from bs) ≡ part at size bs
+unfolding part
+part-most from at n size bs h e =
+    let left : n ≡ min size (length (drop at bs)) = omega (arith, h, e, length-drop at bs) in
+    ap (take n) (drop-most from at bs h) ∙ take-most n size (drop at bs) left
+
+-- bytes copied to the front
+pub paste-front : (n : ℕ) (xs bs : List ℕ) → n ≤ length xs → n ≤ length bs → paste bs 0 xs n ≡ patch 0 (take n xs) bs
+paste-front n xs bs h l =
+    let same : length (take n xs) ≡ length (take n bs) = omega (arith, length-take-le n xs h, length-take-le n bs l) in
+    let front = patch-front (take n xs) (take n bs) (drop n bs) same in
+    let whole = take-append-drop n bs in
+    rw zero-add (sym (rw whole at front))

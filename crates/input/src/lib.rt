@@ -3,7 +3,6 @@
 
 ghost use Rattle.std.specs.Prelude.{◌≡◌, ◌++◌, ◌-◌, ◌≤◌, length, take, drop};
 ghost use Rattle.wire.specs.Bytes.{part, patch};
-ghost use Rattle.input.specs.Given.{given_of};
 
 // What a read gave: so many bytes, the end of the input, or a failure.
 #[derive(Clone, Copy)]
@@ -13,17 +12,19 @@ pub enum Given {
     Failed,
 }
 
-// By the number that the system's read answers.
-pub fn given_by(got: isize) -> Given
-    ensures { result ≡ given_of got }
-{
-    if got < 0 {
-        return Given::Failed;
+// By the number that a read answers, and none where it failed.
+impl From<Option<usize>> for Given {
+    ghost use Rattle.input.specs.Given.{given_of};
+
+    ghost from_gives = { λ got given. given ≡ given_of got };
+
+    fn from(got: Option<usize>) -> Given {
+        match got {
+            Some(0) => Given::Ended,
+            Some(read) => Given::Read(read),
+            None => Given::Failed,
+        }
     }
-    if got == 0 {
-        return Given::Ended;
-    }
-    Given::Read(got as usize)
 }
 
 // The end of so many bytes at the front: no more than there are. That they are so many is said again for those who lend
@@ -32,10 +33,7 @@ pub fn end_within(bytes: &[u8], size: usize) -> usize
     ensures { (result ≤ length bytes.now) × (take result bytes.now ≡ take size bytes.now) ×
         (result ≡ length (take result bytes.now)) }
 {
-    if bytes.len() < size {
-        return bytes.len();
-    }
-    size
+    size.min(bytes.len())
 }
 
 // The end of the bytes that were held and of so many that were read behind them.
@@ -43,40 +41,16 @@ pub fn end_behind(piece: &[u8], held: usize, read: usize) -> usize
     ensures { (result ≤ length piece.now) ×
         (take result piece.now ≡ take held piece.now ++ take read (drop held piece.now)) }
 {
-    let from = end_within(piece, held);
-    let left = piece.len() - from;
-    if left < read {
-        return piece.len();
-    }
-    from + read
+    held.saturating_add(read).min(piece.len())
 }
 
-// How many bytes stand from one place up to another.
-fn size_between(s: &[u8], from: usize, to: usize) -> usize
-    ensures { result ≡ length (part from (to - from) s.now) }
-{
-    if s.len() < from {
-        return 0;
-    }
-    if to < from {
-        return 0;
-    }
-    if s.len() < to {
-        return s.len() - from;
-    }
-    to - from
-}
-
-// Moves these bytes to the front, and answers how many they are.
+// Moves the bytes from one place up to another to the front, and answers how many they are.
 pub fn keep(piece: &mut [u8], from: usize, to: usize) -> usize
     ensures size { result ≡ length (part from (to - from) piece.old) }
     ensures piece { piece.new ≡ patch 0 (part from (to - from) piece.old) piece.old }
 {
-    let size = size_between(piece, from, to);
-    let mut i: usize = 0;
-    while i < size {
-        piece[i] = piece[from + i];
-        i += 1;
-    }
+    let start = from.min(piece.len());
+    let size = to.saturating_sub(from).min(piece.len() - start);
+    piece.copy_within(start..start + size, 0);
     size
 }

@@ -36,13 +36,10 @@ pub fn openings_fit(openings: &[u8]) -> bool
     if openings.len() % OPENING != 0 {
         return false;
     }
-    let count = openings.len() / OPENING;
-    let mut i: usize = 0;
-    while i < count {
+    for i in 0..openings.len() / OPENING {
         if !opening_fits(openings, OPENING * i) {
             return false;
         }
-        i += 1;
     }
     true
 }
@@ -51,13 +48,10 @@ pub fn openings_fit(openings: &[u8]) -> bool
 fn has_number(openings: &[u8], from: usize, channel: u32) -> bool
     ensures { result ≡ is_some (channel_at channel (ends_from openings.now from)) }
 {
-    let count = openings.len() / OPENING;
-    let mut i = from;
-    while i < count {
+    for i in from..openings.len() / OPENING {
         if u32_at(openings, OPENING * i + 8) == channel {
             return true;
         }
-        i += 1;
     }
     false
 }
@@ -65,13 +59,10 @@ fn has_number(openings: &[u8], from: usize, channel: u32) -> bool
 pub fn numbers_distinct(openings: &[u8]) -> bool
     ensures { result ≡ distinct same_number (ends_of openings.now) }
 {
-    let count = openings.len() / OPENING;
-    let mut i: usize = 0;
-    while i < count {
+    for i in 0..openings.len() / OPENING {
         if has_number(openings, i + 1, u32_at(openings, OPENING * i + 8)) {
             return false;
         }
-        i += 1;
     }
     true
 }
@@ -81,7 +72,6 @@ pub fn opening_at(openings: &[u8], at: usize) -> Channel
     requires { at + opening_size ≤ length openings.now }
     ensures { result ≡ opening_of (part at opening_size openings.now) }
 {
-    let version = [0u8; VERSION];
     Channel {
         state: Channel::OPEN,
         order: u8_at(openings, at + 18),
@@ -92,6 +82,6 @@ pub fn opening_at(openings: &[u8], at: usize) -> Channel
             receive: 1,
             acknowledge: 1,
         },
-        version,
+        version: [0; VERSION],
     }
 }

@@ -20,47 +20,53 @@ use slots::{Channel, Key, Record};
 use tables::halves::has_record;
 use tables::ordering::{allows_timeouts, is_unordered, may_have_receipt, may_have_timeout_receipt};
 
-const TOP: u64 = 18446744073709551615;
+const TOP: u64 = u64::MAX;
 
 // 15, for 2.
+#[tactic(auto, using(slots::proofs::FieldLaws::by_fields), unfolding(rules::specs::Ordering::receives_in_order))]
 pub fn receives_in_order(c: Channel, sequence: u64) -> bool
     ensures { result ≡ receives_in_order c sequence }
 {
-    is_unordered(c) | (sequence == c.next.receive)
+    is_unordered(c) || sequence == c.next.receive
 }
 
 // 15, for 4.
+#[tactic(auto, using(slots::proofs::FieldLaws::by_fields), unfolding(rules::specs::Ordering::acknowledges_in_order))]
 pub fn acknowledges_in_order(c: Channel, sequence: u64) -> bool
     ensures { result ≡ acknowledges_in_order c sequence }
 {
-    is_unordered(c) | (sequence == c.next.acknowledge)
+    is_unordered(c) || sequence == c.next.acknowledge
 }
 
 // Where timeouts are allowed, the time-outs of an OPEN end are counted with its acknowledgements.
+#[tactic(auto, using(slots::proofs::FieldLaws::by_fields), unfolding(rules::specs::Ordering::counts_timeouts))]
 pub fn counts_timeouts(c: Channel) -> bool
     ensures { result ≡ counts_timeouts c }
 {
-    allows_timeouts(c) & (c.state == Channel::OPEN)
+    allows_timeouts(c) && c.state == Channel::OPEN
 }
 
 // 15, for 5 and 12.
+#[tactic(auto, using(slots::proofs::FieldLaws::by_fields), unfolding(rules::specs::Ordering::times_out_in_order))]
 pub fn times_out_in_order(c: Channel, sequence: u64) -> bool
     ensures { result ≡ times_out_in_order c sequence }
 {
-    !counts_timeouts(c) | (sequence == c.next.acknowledge)
+    !counts_timeouts(c) || sequence == c.next.acknowledge
 }
 
 // 11, for 2: a packet that comes late is refused, but where timeouts are allowed: there it lapses.
+#[tactic(auto, using(slots::proofs::FieldLaws::by_fields), unfolding(rules::specs::Ordering::refuses_late))]
 pub fn refuses_late(c: Channel, late: bool) -> bool
     ensures { result ≡ refuses_late c late }
 {
-    !allows_timeouts(c) & late
+    !allows_timeouts(c) && late
 }
 
+#[tactic(auto, using(slots::proofs::FieldLaws::by_fields), unfolding(rules::specs::Ordering::lapses))]
 pub fn lapses(c: Channel, late: bool) -> bool
     ensures { result ≡ lapses c late }
 {
-    allows_timeouts(c) & late
+    allows_timeouts(c) && late
 }
 
 // A packet record of this kind, on the channel.
@@ -72,22 +78,20 @@ fn is_there(store: &[u8], count: usize, kind: u16, c: Channel, sequence: u64) ->
         (store_in store.now).records) }
 {
     let k = Key {
-        kind: kind,
+        kind,
         channel: c.own.channel,
-        sequence: sequence,
+        sequence,
     };
     has_record(store, count, k)
 }
 
 // 16, for 2: a receipt is there. Only an unordered channel has any.
+#[tactic(auto, using(slots::proofs::FieldLaws::by_fields), unfolding(rules::specs::Ordering::is_receipt_there))]
 pub fn is_receipt_there(store: &[u8], count: usize, c: Channel, sequence: u64) -> bool
     requires { RecordsInOrder store.now count }
     ensures { result ≡ is_receipt_there (store_in store.now).records c sequence }
 {
-    if !is_unordered(c) {
-        return false;
-    }
-    is_there(store, count, Record::RECEIPT, c, sequence)
+    is_unordered(c) && is_there(store, count, Record::RECEIPT, c, sequence)
 }
 
 // 17, for 3. Unordered: its receipt is there. Else: the sequence is below next receive, and where timeouts are allowed
@@ -97,29 +101,31 @@ pub fn is_received(store: &[u8], count: usize, c: Channel, sequence: u64) -> boo
     ensures { result ≡ is_received (store_in store.now).records c sequence }
 {
     if may_have_receipt(c) {
-        return is_there(store, count, Record::RECEIPT, c, sequence);
+        is_there(store, count, Record::RECEIPT, c, sequence)
+    } else if may_have_timeout_receipt(c, sequence) {
+        !is_there(store, count, Record::TIMEOUT_RECEIPT, c, sequence)
+    } else {
+        sequence < c.next.receive
     }
-    if may_have_timeout_receipt(c, sequence) {
-        return !is_there(store, count, Record::TIMEOUT_RECEIPT, c, sequence);
-    }
-    sequence < c.next.receive
 }
 
 // Line 14, for 5 and 12: what a verdict has to claim of a packet that was not received. On close, where timeouts are
 // allowed, the claim that it has says which of two is meant.
+#[tactic(auto, using(slots::proofs::FieldLaws::by_fields), unfolding(rules::specs::Ordering::absence_claim))]
 pub fn absence_claim(on_close: bool, c: Channel, claimed: u16) -> u16
     ensures { result ≡ claim_number (absence_claim on_close c claimed) }
 {
     if is_unordered(c) {
-        return Verdict::RECEIPT_ABSENT;
+        Verdict::RECEIPT_ABSENT
+    } else if allows_timeouts(c) & (!on_close | (claimed == Verdict::TIMEOUT_RECEIPT_PRESENT)) {
+        Verdict::TIMEOUT_RECEIPT_PRESENT
+    } else {
+        Verdict::NEXT_RECEIVE_IS
     }
-    if allows_timeouts(c) & (!on_close | (claimed == Verdict::TIMEOUT_RECEIPT_PRESENT)) {
-        return Verdict::TIMEOUT_RECEIPT_PRESENT;
-    }
-    Verdict::NEXT_RECEIVE_IS
 }
 
 // A receive and an acknowledge raise their counter, except on an unordered channel.
+#[tactic(auto, unfolding(rules::specs::Ordering::raises_receive, rules::specs::Ordering::raises_acknowledge))]
 pub fn raises_counter(c: Channel) -> bool
     ensures { (result ≡ raises_receive c) × (result ≡ raises_acknowledge c) }
 {
@@ -128,33 +134,38 @@ pub fn raises_counter(c: Channel) -> bool
 
 // 19: a counter at its top can't be raised. A send (1) raises one on every channel, a receive (2) and an acknowledge
 // (4) except on unordered ones, a time-out (5, 12) where it is counted.
+#[tactic(auto, using(slots::proofs::FieldLaws::by_fields), unfolding(rules::specs::Ordering::is_send_at_top))]
 pub fn is_send_at_top(c: Channel) -> bool
     ensures { result ≡ is_send_at_top c }
 {
     c.next.send == TOP
 }
 
+#[tactic(auto, using(slots::proofs::FieldLaws::by_fields), unfolding(rules::specs::Ordering::is_receive_at_top))]
 pub fn is_receive_at_top(c: Channel) -> bool
     ensures { result ≡ is_receive_at_top c }
 {
-    raises_counter(c) & (c.next.receive == TOP)
+    raises_counter(c) && c.next.receive == TOP
 }
 
+#[tactic(auto, using(slots::proofs::FieldLaws::by_fields), unfolding(rules::specs::Ordering::is_acknowledge_at_top))]
 pub fn is_acknowledge_at_top(c: Channel) -> bool
     ensures { result ≡ is_acknowledge_at_top c }
 {
-    raises_counter(c) & (c.next.acknowledge == TOP)
+    raises_counter(c) && c.next.acknowledge == TOP
 }
 
+#[tactic(auto, using(slots::proofs::FieldLaws::by_fields), unfolding(rules::specs::Ordering::is_timeout_at_top))]
 pub fn is_timeout_at_top(c: Channel) -> bool
     ensures { result ≡ is_timeout_at_top c }
 {
-    counts_timeouts(c) & (c.next.acknowledge == TOP)
+    counts_timeouts(c) && c.next.acknowledge == TOP
 }
 
 // 20, for 2: a receive writes a record where it raises no counter, or the packet lapses.
+#[tactic(auto, using(slots::proofs::FieldLaws::by_fields), unfolding(rules::specs::Ordering::needs_record))]
 pub fn needs_record(c: Channel, late: bool) -> bool
     ensures { result ≡ needs_record c late }
 {
-    !raises_counter(c) | lapses(c, late)
+    !raises_counter(c) || lapses(c, late)
 }

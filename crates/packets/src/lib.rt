@@ -4,25 +4,17 @@
 
 ghost use Rattle.std.specs.Prelude.{◌≡◌, not};
 ghost use Rattle.std.proofs.Math.Option.{some};
-ghost use Rattle.slots.specs.Table.{same_port_channel, has_free};
+ghost use Rattle.slots.specs.Table.{has_free};
 ghost use Rattle.slots.specs.Layout.{store_in};
 ghost use Rattle.slots.specs.Scan.{RecordsInOrder};
 ghost use Rattle.rules.specs.Verdict.{has_values};
 ghost use Rattle.rules.specs.Refusals.{fits_destination, fits_source, is_committed};
 
 use datagram::{Context, Packet};
-use heights::same_timeout;
 use slots::slot::record_at;
-use slots::{Channel, Key, Layout, PortChannel, Record, Timeout};
+use slots::{Channel, Key, Layout, Record, Timeout};
 use tables::halves::find_record;
 use wire::are_zero;
-
-#[tactic(auto, using(slots::proofs::FieldLaws::by_fields))]
-fn same_port_channel(a: PortChannel, b: PortChannel) -> bool
-    ensures { result ≡ same_port_channel a b }
-{
-    a == b
-}
 
 // 8: the connection is not open.
 pub fn lacks_connection(x: Context) -> bool
@@ -32,27 +24,19 @@ pub fn lacks_connection(x: Context) -> bool
 }
 
 // 9, for 2: the end is the packet's destination.
+#[tactic(auto, using(slots::proofs::FieldLaws::by_fields), unfolding(rules::specs::Refusals::fits_destination))]
 pub fn fits_destination(c: Channel, p: Packet) -> bool
     ensures { result ≡ fits_destination c p }
 {
-    if p.destination.port != c.own.port {
-        return false;
-    }
-    let source = p.source;
-    let counterparty = c.counterparty;
-    same_port_channel(source, counterparty)
+    p.destination.port == c.own.port && p.source == c.counterparty
 }
 
 // 9, for 4, 5 and 12: the end is the packet's source.
+#[tactic(auto, using(slots::proofs::FieldLaws::by_fields), unfolding(rules::specs::Refusals::fits_source))]
 pub fn fits_source(c: Channel, p: Packet) -> bool
     ensures { result ≡ fits_source c p }
 {
-    if p.source.port != c.own.port {
-        return false;
-    }
-    let destination = p.destination;
-    let counterparty = c.counterparty;
-    same_port_channel(destination, counterparty)
+    p.source.port == c.own.port && p.destination == c.counterparty
 }
 
 // 20: a packet record is free. The free ones stand behind, so that the last one tells.
@@ -87,11 +71,9 @@ pub fn is_committed(store: &[u8], count: usize, p: Packet) -> bool
     let Some(i) = find_record(store, count, k) else {
         return false;
     };
-    let timeout = p.timeout;
-    let digest = p.digest;
     has_values(
-        timeout,
-        digest,
+        p.timeout,
+        p.digest,
         record_at(store, Layout::RECORDS_FROM + Layout::SLOT * i),
     )
 }

@@ -1,6 +1,5 @@
 // One record at a time. A reader holds the input and a place in it; it tells what stands there and hands out the
-// record, and `moved` is a reader at another place. The functions over it are thin: the work is `front_at` and
-// `part_at`. Other crates use `next_at` and `bytes_at`, whose parameters are plain.
+// record.
 #![tactic(auto)]
 
 ghost use Rattle.std.specs.Prelude.{◌≡◌, drop};
@@ -29,79 +28,45 @@ pub struct Reader<'a> {
     pub at: usize,
 }
 
-// The work: what stands in the bytes from a place on. A place behind the end has nothing left.
-fn front_at(src: &[u8], at: usize) -> Front
-    ensures { result ≡ front_of (drop at src.now) }
-{
-    if src.len() < at {
-        return Front::Short;
+impl<'a> Reader<'a> {
+    // At the start of an input.
+    pub fn new(src: &'a [u8]) -> Reader<'a>
+        ensures { (result.src ≡ src.entry) × (result.at ≡ 0) }
+    {
+        Reader { src, at: 0 }
     }
-    let left = src.len() - at;
-    if left < 4 {
-        return Front::Short;
+
+    // Moves on to a place.
+    pub fn moved(self, at: usize) -> Reader<'a>
+        ensures { (result.src ≡ self.entry.src) × (result.at ≡ at) }
+    {
+        Reader { src: self.src, at }
     }
-    let size = u32_at(src, at) as usize;
-    if size < LEAST {
-        return Front::Torn;
+
+    // What stands at the reader's place. A place behind the end has nothing left.
+    pub fn next(self) -> Front
+        ensures { result ≡ front_of (drop self.entry.at self.entry.src.now) }
+    {
+        let left = self.src.len().saturating_sub(self.at);
+        if left < 4 {
+            return Front::Short;
+        }
+        let size = u32_at(self.src, self.at) as usize;
+        if !(LEAST..=GREATEST).contains(&size) {
+            return Front::Torn;
+        }
+        if left < size {
+            return Front::Short;
+        }
+        Front::Whole(size)
     }
-    if GREATEST < size {
-        return Front::Torn;
+
+    // Hands out the record at the reader's place, which has so many bytes: a part of the input, or as much as is left.
+    pub fn bytes(self, size: usize) -> &'a [u8]
+        ensures { result.now ≡ part self.entry.at size self.entry.src.now }
+    {
+        let from = end_within(self.src, self.at);
+        let end = end_within(self.src, from.saturating_add(size));
+        &self.src[from..end]
     }
-    if left < size {
-        return Front::Short;
-    }
-    Front::Whole(size)
-}
-
-// The work: so many bytes from a place on, or as many as are left.
-fn part_at(src: &[u8], at: usize, size: usize) -> &[u8]
-    ensures { result.now ≡ part at size src.now }
-{
-    let from = end_within(src, at);
-    let rest = src.len() - from;
-    if rest < size {
-        return &src[from..];
-    }
-    &src[from..from + size]
-}
-
-// At the start of an input.
-pub fn new<'a>(src: &'a [u8]) -> Reader<'a>
-    ensures { (result.src ≡ src.entry) × (result.at ≡ 0) }
-{
-    Reader { src, at: 0 }
-}
-
-// Moves on to a place.
-pub fn moved<'a>(r: Reader<'a>, at: usize) -> Reader<'a>
-    ensures { (result.src ≡ r.entry.src) × (result.at ≡ at) }
-{
-    Reader { src: r.src, at }
-}
-
-// What stands at the reader's place.
-pub fn next<'a>(r: Reader<'a>) -> Front
-    ensures { result ≡ front_of (drop r.entry.at r.entry.src.now) }
-{
-    front_at(r.src, r.at)
-}
-
-// Hands out the record at the reader's place, which has so many bytes: a part of the input.
-pub fn bytes<'a>(r: Reader<'a>, size: usize) -> &'a [u8]
-    ensures { result.now ≡ part r.entry.at size r.entry.src.now }
-{
-    part_at(r.src, r.at, size)
-}
-
-// For every other caller: plain parameters, and the reader is a local.
-pub fn next_at(src: &[u8], at: usize) -> Front
-    ensures { result ≡ front_of (drop at src.now) }
-{
-    next(moved(new(src), at))
-}
-
-pub fn bytes_at(src: &[u8], at: usize, size: usize) -> &[u8]
-    ensures { result.now ≡ part at size src.now }
-{
-    bytes(moved(new(src), at), size)
 }

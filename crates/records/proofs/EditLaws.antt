@@ -1,17 +1,19 @@
 -- The slot that a search found is the one that an edit is on; where none is found, none changes. Assumes nothing.
-use Rattle.wire.proofs.Prelude.{◌≡◌, refl, sym, ap, subst, ◌∙◌, List, Option, ℕ, suc, ◌+◌, ◌≤◌, ◌<◌, arith, ltb, length}
-use Rattle.wire.proofs.Prelude.{ltb-true, ltb-false}
+use Rattle.wire.proofs.Prelude.{◌≡◌, refl, sym, ap, subst, ◌∙◌, List, Option, ℕ, suc, ◌+◌, ◌-◌, ◌/◌, ◌≤◌, ◌<◌, arith}
+use Rattle.std.proofs.Common.{ap₂}
+use Rattle.wire.proofs.Prelude.{ltb, length, ltb-true, ltb-false}
 use Rattle.wire.proofs.Laws.{cases}
 use Rattle.slots.specs.declared.Key.{Key}
 use Rattle.slots.specs.declared.Record.{Record}
 use Rattle.std.specs.Prelude.{Some, None}
 use Rattle.slots.specs.Table.{has_key, key_of}
-use Rattle.slots.specs.Layout.{Store, bytes_of}
-use Rattle.slots.specs.Effect.{with_records, inserted_at, removed_at}
+use Rattle.slots.specs.Layout.{Store, slot_size, records_from, bytes_of, store_in}
+use Rattle.slots.specs.Effect.{Exact, with_records, inserted_at, removed_at}
 use Rattle.slots.specs.Scan.{holds, first_that, place_of, used_slots}
 use Rattle.slots.proofs.Laws.{Ordered}
 use Rattle.slots.proofs.ScanLaws.{found_below, take-out-found, take-out-nothing}
-use Rattle.slots.proofs.SearchLaws.{Spare, insert-place, insert-full, place-used, free-behind}
+use Rattle.slots.proofs.EffectLaws.{exact-room}
+use Rattle.slots.proofs.SearchLaws.{Spare, insert-place, insert-full, place-used, free-behind, used-length, found-used}
 use Rattle.rules.specs.Ordering.{Edit, keeps, writes, frees}
 use Rattle.rules.specs.Acceptance.{edited}
 use Rattle.records.specs.Edited.{slot_for, slot_of, spare_slot, with_edit}
@@ -43,14 +45,30 @@ spare rs low =
     (λ e. rw e (ltb-true (used_slots rs) (length rs) e, λ h. omega arith))
     (λ e. rw e (omega arith, λ h. absurd (omega arith)))
 
-pub spare-room : (k : Key) (rs : List (Option Record)) (i : ℕ) → slot_for k rs ≡ Some i →
-    let n = spare_slot (length rs) (used_slots rs) in (i ≤ n) × (n < length rs)
-spare-room k rs i h =
-    let at = slot-for k rs i h in
-    let low = place-used rs k in (
-      cases (ltb (used_slots rs) (length rs)) (λ e. rw e (omega arith)) (λ e. rw e (omega (arith, at.1))),
-      (spare rs (omega (arith, at.1))).0,
+-- n is where they end, in a store whose room gives the number of its slots
+pub spare-room : (bs : List ℕ) (r : Record) (i n u : ℕ) → Exact bs → slot_for (key_of r) (store_in bs).records ≡ Some i →
+    u ≡ used_slots (store_in bs).records → n ≡ spare_slot ((length bs - records_from) / slot_size) u →
+    (n ≡ spare_slot (length (store_in bs).records) (used_slots (store_in bs).records)) × ((i ≤ n) ×
+    (n < length (store_in bs).records))
+spare-room bs r i n u exact h used e =
+    let rs : List (Option Record) = (store_in bs).records in
+    let count : (length bs - records_from) / slot_size ≡ length rs = omega (arith, exact-room bs exact) in
+    let same : n ≡ spare_slot (length rs) (used_slots rs) = e ∙ ap₂ spare_slot count used in
+    let at = slot-for (key_of r) rs i h in
+    let low = place-used rs (key_of r) in (
+      same,
+      (
+        rw same (cases (ltb (used_slots rs) (length rs)) (λ e. rw e (omega arith)) (λ e. rw e (omega (arith, at.1)))),
+        rw same (spare rs (omega (arith, at.1))).0,
+      ),
     )
+
+-- the slot of a record that becomes free is in use
+pub used-above : (rs : List (Option Record)) (k : Key) (i u : ℕ) → Ordered rs → first_that (has_key k) rs ≡ Some i →
+    u ≡ used_slots rs → (i < u) × (u ≤ length rs)
+used-above rs k i u order h used =
+    let below = found-used rs order (has_key k) i h in
+    (omega (arith, below, used), omega (arith, used-length rs, used))
 
 pub written : (s : Store) (i m : ℕ) (r : Record) → Ordered s.records → slot_for (key_of r) s.records ≡ Some i →
     i + m ≡ spare_slot (length s.records) (used_slots s.records) →

@@ -1,4 +1,4 @@
--- The edit that a struct by value tells, the slot that an edit is on, and the store that it leaves.
+-- The edit that a value tells, the slot that an edit is on, and the store that it leaves.
 use Rattle.std.specs.Prelude.{List, ℕ, ◌-◌, ltb, length}
 use Rattle.std.proofs.Math.Option.{Option}
 use Rattle.wire.specs.Choice.{pick}
@@ -11,18 +11,14 @@ use Rattle.slots.specs.Scan.{first_that, place_of}
 use Rattle.slots.specs.Effect.{with_records}
 use Rattle.rules.specs.Ordering.{Edit, keeps, writes, frees}
 use Rattle.rules.specs.Acceptance.{edited}
-use Rattle.records.specs.declared.Action.{Action}
-use Rattle.records.specs.declared.Action.TheVariants.{Keeps, Writes, Frees}
 use Rattle.records.specs.declared.RecordEdit.{RecordEdit}
+use Rattle.records.specs.declared.RecordEdit.TheVariants.{Keeps, Writes, Frees}
 
--- a record that is written, or one of its key that becomes free
-abbrev pub edit_of : Action → Record → Edit
-edit_of Keeps r = keeps
-edit_of Writes r = writes r
-edit_of Frees r = frees (key_of r)
-
+-- a record that is written, or one of a key that becomes free
 abbrev pub edit_by : RecordEdit → Edit
-edit_by e = edit_of e.action e.about
+edit_by Keeps = keeps
+edit_by (Writes r) = writes r
+edit_by (Frees k) = frees k
 
 -- the place of a key in a table, if that is one of its slots
 unfoldable pub slot_for : Key → List (Option Record) → Found ℕ

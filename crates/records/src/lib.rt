@@ -8,48 +8,34 @@ ghost use Rattle.slots.specs.Layout.{bytes_of, store_in};
 ghost use Rattle.slots.specs.Scan.{used_slots, RecordsInOrder};
 ghost use Rattle.slots.specs.Effect.{Exact};
 ghost use Rattle.slots.specs.Fit.{is_fit};
-ghost use Rattle.rules.specs.Ordering.{keeps, writes, frees, plain_record, received_edit};
+ghost use Rattle.rules.specs.Ordering.{writes, frees, plain_record, received_edit};
 ghost use Rattle.records.specs.Edited.{with_edit, edit_by, slot_for, slot_of, spare_slot};
 
 use changes::{insert_record, remove_record};
 use ordering::{lapses, raises_counter};
 use slots::{Channel, Key, Layout, Record, Timeout};
 use tables::halves::{find_record, place_of};
+use wire::DIGEST;
 
+// All packet records stay, this one is written, or the one of this key becomes free.
 #[derive(Clone, Copy)]
-pub enum Action {
+pub enum RecordEdit {
     Keeps,
-    Writes,
-    Frees,
-}
-
-// Nothing, a record that is written, or the record of its kind, channel and sequence that becomes free.
-#[derive(Clone, Copy)]
-pub struct RecordEdit {
-    pub action: Action,
-    pub about: Record,
+    Writes(Record),
+    Frees(Key),
 }
 
 // A record with no timeouts.
-pub fn plain_record(kind: u16, channel: u32, sequence: u64, digest: [u8; 32]) -> Record
+#[tactic(auto, unfolding(rules::specs::Ordering::plain_record))]
+pub fn plain_record(kind: u16, channel: u32, sequence: u64, digest: [u8; DIGEST]) -> Record
     ensures { result ≡ plain_record kind channel sequence digest }
 {
     Record {
-        kind: kind,
-        channel: channel,
-        sequence: sequence,
+        kind,
+        channel,
+        sequence,
         timeout: Timeout { height: 0, time: 0 },
-        digest: digest,
-    }
-}
-
-// No record changes.
-pub fn no_edit() -> RecordEdit
-    ensures { edit_by result ≡ keeps }
-{
-    RecordEdit {
-        action: Action::Keeps,
-        about: plain_record(Record::RECEIPT, 0, 0, [0; 32]),
+        digest,
     }
 }
 
@@ -57,13 +43,11 @@ pub fn no_edit() -> RecordEdit
 fn written(kind: u16, c: Channel, sequence: u64) -> RecordEdit
     ensures { edit_by result ≡ writes (plain_record kind c.own.channel sequence no_digest) }
 {
-    RecordEdit {
-        action: Action::Writes,
-        about: plain_record(kind, c.own.channel, sequence, [0; 32]),
-    }
+    RecordEdit::Writes(plain_record(kind, c.own.channel, sequence, [0; DIGEST]))
 }
 
 // A timeout receipt tells that a packet lapsed. A receipt is needed only where no counter tells what was received.
+#[tactic(auto, unfolding(rules::specs::Ordering::received_edit))]
 pub fn received_edit(c: Channel, late: bool, sequence: u64) -> RecordEdit
     ensures { edit_by result ≡ received_edit c late sequence }
 {
@@ -71,7 +55,7 @@ pub fn received_edit(c: Channel, late: bool, sequence: u64) -> RecordEdit
         return written(Record::TIMEOUT_RECEIPT, c, sequence);
     }
     if raises_counter(c) {
-        return no_edit();
+        return RecordEdit::Keeps;
     }
     written(Record::RECEIPT, c, sequence)
 }
@@ -80,14 +64,14 @@ pub fn received_edit(c: Channel, late: bool, sequence: u64) -> RecordEdit
 pub fn freed_commitment(c: Channel, sequence: u64) -> RecordEdit
     ensures { edit_by result ≡ frees (commitment_key c.own.channel sequence) }
 {
-    let commitment = plain_record(Record::COMMITMENT, c.own.channel, sequence, [0; 32]);
-    RecordEdit {
-        action: Action::Frees,
-        about: commitment,
-    }
+    RecordEdit::Frees(Key {
+        kind: Record::COMMITMENT,
+        channel: c.own.channel,
+        sequence,
+    })
 }
 
-// What the record of an edit is found by.
+// What a record is found by.
 fn key_of(r: Record) -> Key
     ensures { result ≡ key_of r }
 {
@@ -104,10 +88,7 @@ fn slot_for(store: &[u8], count: usize, k: Key) -> Option<usize>
     ensures { result ≡ slot_for k (store_in store.now).records }
 {
     let i = place_of(store, count, k);
-    if i < count {
-        return Some(i);
-    }
-    None
+    if i < count { Some(i) } else { None }
 }
 
 // The slot that an edit is on: the place of the record in order, or that of the record that is there.
@@ -116,12 +97,10 @@ pub fn slot_of(store: &[u8], e: RecordEdit) -> Option<usize>
     ensures { result ≡ slot_of (edit_by e) (store_in store.now).records }
 {
     let count = (store.len() - Layout::RECORDS_FROM) / Layout::SLOT;
-    let action = e.action;
-    let about = e.about;
-    match action {
-        Action::Keeps => None,
-        Action::Writes => slot_for(store, count, key_of(about)),
-        Action::Frees => find_record(store, count, key_of(about)),
+    match e {
+        RecordEdit::Keeps => None,
+        RecordEdit::Writes(record) => slot_for(store, count, key_of(record)),
+        RecordEdit::Frees(key) => find_record(store, count, key),
     }
 }
 
@@ -145,12 +124,12 @@ pub fn edit_records(store: &mut [u8], at: Option<usize>, used: usize, e: RecordE
     let Some(i) = at else {
         return;
     };
-    let spare = spare_slot((store.len() - Layout::RECORDS_FROM) / Layout::SLOT, used);
-    let action = e.action;
-    let about = e.about;
-    match action {
-        Action::Keeps => {}
-        Action::Writes => insert_record(store, i, spare - i, about),
-        Action::Frees => remove_record(store, i, used - 1 - i),
+    match e {
+        RecordEdit::Keeps => {}
+        RecordEdit::Writes(record) => {
+            let spare = spare_slot((store.len() - Layout::RECORDS_FROM) / Layout::SLOT, used);
+            insert_record(store, i, spare - i, record)
+        }
+        RecordEdit::Frees(_) => remove_record(store, i, used - 1 - i),
     }
 }

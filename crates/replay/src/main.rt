@@ -4,22 +4,19 @@
 
 use input::end_within;
 use std::io::{Print, Read, Stdin, Stdout};
-use stream::{PIECE, ROOM, Reading, TEXT, after_read, begin};
+use stream::{PIECE, ROOM, Reading, TEXT, after_read};
 
-// Reads once, behind the bytes that are held. A read that failed counts as one that answered -1.
+// Reads once, behind the bytes that are held.
 fn read_once(
     mut stdin: Stdin,
     room: &mut [u8],
     piece: &mut [u8],
     text: &mut [u8],
-    t: Reading,
+    before: Reading,
 ) -> Reading {
-    let held = end_within(piece, t.held);
-    let got = match stdin.read(&mut piece[held..]) {
-        Ok(read) => read as isize,
-        Err(_) => -1,
-    };
-    after_read(room, piece, text, held, got, t.replay)
+    let held = end_within(piece, before.held);
+    let got = stdin.read(&mut piece[held..]).ok();
+    after_read(room, piece, text, held, got, before.replay)
 }
 
 fn write_text(stdout: Stdout, text: &[u8], size: usize) -> bool {
@@ -30,13 +27,13 @@ fn write_text(stdout: Stdout, text: &[u8], size: usize) -> bool {
 // A proved loop has to end, and nothing says that the input does. So the loop has a number of turns that no run uses
 // up.
 fn replay(rt: HostRuntime, room: &mut [u8], piece: &mut [u8], text: &mut [u8]) {
-    let mut t = begin();
+    let mut reading = Reading::begin();
     for _ in 0..u64::MAX {
-        if !t.more {
+        if !reading.more {
             return;
         }
-        t = read_once(rt.stdin(), room, piece, text, t);
-        if !write_text(rt.stdout(), text, t.size) {
+        reading = read_once(rt.stdin(), room, piece, text, reading);
+        if !write_text(rt.stdout(), text, reading.size) {
             return;
         }
     }

@@ -1,11 +1,11 @@
 -- What a derived comparison computes, field by field, is what the definitions say. Assumes nothing.
-use mathlib.Core.Bool.{◌&&◌}
+use mathlib.Core.Bool.{◌&&◌, ◌||◌}
 use Rattle.std.specs.Ordering.{nat_cmp, partial_lt, is_lt, is_le, is_some_and, partial_ordering_then}
 use Rattle.std.proofs.Common.{Option, Some, Ordering}
 use Rattle.wire.proofs.Prelude.{◌≡◌, refl, sym, ap, ◌∙◌, Bool, true, false, ℕ, eqb, ltb, leb, not, arith}
 use Rattle.wire.proofs.Prelude.{ltb-true, ltb-false, eqb-true, eqb-false, ne_eqb, le-leb, le-ltb, lt-ltb}
 use borrow.Author.Tests.{lt-leb}
-use Rattle.wire.specs.Names.{◌and◌, pick}
+use Rattle.wire.specs.Names.{◌and◌, ◌or◌, pick}
 use Rattle.wire.proofs.Laws.{cases}
 use Rattle.wire.proofs.ZeroLaws.{pointwise-same}
 use Rattle.slots.specs.declared.Timeout.{Timeout}
@@ -19,6 +19,11 @@ pub and-both : (a b : Bool) → a and b ≡ (a && b)
 unfolding ◌and◌
 and-both true b = refl
 and-both false b = refl
+
+pub or-either : (a b : Bool) → a or b ≡ (a || b)
+unfolding ◌or◌
+or-either true b = refl
+or-either false b = refl
 
 pub same-timeout : (t u : Timeout) → same_timeout t u ≡ (eqb t.height u.height && eqb t.time u.time)
 unfolding same_timeout
@@ -82,4 +87,4 @@ before-fields a b =
     (below-first a.kind b.kind _ ∙
     ap (λ (z : Bool). pick (eqb a.kind b.kind) z (ltb a.kind b.kind)) (below-last a.sequence b.sequence))
 
-pub ruleset by_fields = (pointwise-same, and-both, same-timeout, same-port-channel, below-last, before-fields)
+pub ruleset by_fields = (pointwise-same, and-both, or-either, same-timeout, same-port-channel, below-last, before-fields)

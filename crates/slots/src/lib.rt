@@ -43,21 +43,21 @@ pub struct OtherHeight(pub u64);
 pub struct OtherTime(pub u64);
 
 // A port and a channel of it.
-#[derive(Clone, Copy, PartialEq, Eq)]
+#[derive(Clone, Copy, Default, PartialEq, Eq)]
 pub struct PortChannel {
     pub port: u16,
     pub channel: u32,
 }
 
 // A packet's timeouts, 0 for none. Whose height and time they are depends on who asks: specs/Height.antt.
-#[derive(Clone, Copy, PartialEq, Eq)]
+#[derive(Clone, Copy, Default, PartialEq, Eq)]
 pub struct Timeout {
     pub height: u64,
     pub time: u64,
 }
 
 // The next sequence to send, to receive and to acknowledge.
-#[derive(Clone, Copy, PartialEq, Eq)]
+#[derive(Clone, Copy, Default, PartialEq, Eq)]
 pub struct Counters {
     pub send: u64,
     pub receive: u64,
@@ -68,7 +68,7 @@ pub struct Counters {
 pub const VERSION: usize = 24;
 
 // A channel end. Its version has zeros behind it. An INIT end does not know its counterparty's channel: it is 0.
-#[derive(Clone, Copy, PartialEq, Eq)]
+#[derive(Clone, Copy, Default, PartialEq, Eq)]
 pub struct Channel {
     pub state: u8,
     pub order: u8,

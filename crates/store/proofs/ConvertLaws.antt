@@ -3,7 +3,7 @@
 use Rattle.wire.proofs.Prelude.{◌≡◌, refl, sym, ap, subst, ◌∙◌, Bool, true, false, List, ◌++◌, append_assoc, Option}
 use Rattle.wire.proofs.Prelude.{none, some, ℕ, arith, length, take, drop, length-append, take_at, drop_at}
 use lib.ListN.{take-append-drop}
-use Rattle.wire.specs.Names.{◌and◌, pick, Bytes}
+use Rattle.wire.specs.Names.{pick, Bytes}
 use Rattle.wire.proofs.Laws.{and_both, both-and}
 use Rattle.slots.specs.declared.Channel.{Channel}
 use Rattle.slots.specs.declared.Record.{Record}

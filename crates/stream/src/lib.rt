@@ -2,16 +2,17 @@
 // bytes that are kept for the next read, and whether there is to be one.
 #![tactic(auto)]
 
-ghost use Rattle.std.specs.Prelude.{◌≡◌, false, ◌/◌, ◌≤◌, length, take, drop};
+ghost use Rattle.std.specs.Prelude.{◌≡◌, false, ◌+◌, ◌/◌, ◌≤◌, length, take, drop};
 ghost use Rattle.wire.specs.Bytes.{patch};
 ghost use Rattle.input.specs.Given.{given_of};
-ghost use Rattle.transcript.specs.Transcript.{fed, line_room, last_within};
+ghost use Rattle.text.specs.Lines.{Stores};
+ghost use Rattle.transcript.specs.Transcript.{fed, line_room, last_line, last_within};
 ghost use Rattle.stream.specs.Stream.{fed_on, taken_of, fresh_reading, Takes};
 
-use input::{Given, end_behind, end_within, given_by, keep};
+use input::{Given, end_behind, end_within, keep};
 use slots::Layout;
-use text::put_word_line;
-use trace::{Phase, Replay, is_over, start};
+use text::Lines;
+use trace::{Phase, Replay};
 use transcript::{LINE, feed};
 
 // Room for the longest store, for a piece of the input, and for the lines of as many records as a piece can have: a
@@ -32,19 +33,34 @@ pub struct Reading {
     pub more: bool,
 }
 
-// Before the first read.
-pub fn begin() -> Reading
-    ensures { result ≡ fresh_reading }
-{
-    Reading {
-        replay: start(),
-        held: 0,
-        size: 0,
-        more: true,
+impl Reading {
+    // Before the first read.
+    pub fn begin() -> Reading
+        ensures { result ≡ fresh_reading }
+    {
+        Reading {
+            replay: Replay::start(),
+            held: 0,
+            size: 0,
+            more: true,
+        }
     }
 }
 
-// The last line, where so many bytes are left at the end of the input. Answers the bytes of text that were stored.
+// The last line, where so many bytes are left at the end of the input.
+fn put_last_line(lines: &mut Lines, left: usize, replay: Replay)
+    requires { lines.old.at + line_room ≤ length lines.old.text.now }
+    ensures { Stores (last_line replay left) lines.old lines.new }
+{
+    match replay.phase {
+        Phase::Before => lines.put_word_line(b"torn", 0),
+        Phase::Running if left == 0 => lines.put_word_line(b"end", replay.count),
+        Phase::Running => lines.put_word_line(b"torn", replay.count),
+        Phase::Over => {}
+    }
+}
+
+// The text that is nothing but the last line. Answers the bytes of text that were stored.
 fn finish(text: &mut [u8], left: usize, replay: Replay) -> usize
     ensures size { result ≡ length (last_within (length text.old) replay left) }
     ensures text { text.new ≡ patch 0 (last_within (length text.old) replay left) text.old }
@@ -52,17 +68,9 @@ fn finish(text: &mut [u8], left: usize, replay: Replay) -> usize
     if text.len() < LINE {
         return 0;
     }
-    let phase = replay.phase;
-    match phase {
-        Phase::Before => put_word_line(text, 0, b"torn", 0),
-        Phase::Running => {
-            if left == 0 {
-                return put_word_line(text, 0, b"end", replay.count);
-            }
-            put_word_line(text, 0, b"torn", replay.count)
-        }
-        Phase::Over => 0,
-    }
+    let mut lines = Lines { text, at: 0 };
+    put_last_line(&mut lines, left, replay);
+    lines.at
 }
 
 // Nothing more is read.
@@ -77,9 +85,9 @@ fn last(text: &mut [u8], left: usize, replay: Replay) -> Reading
 {
     let size = finish(text, left, replay);
     Reading {
-        replay: replay,
+        replay,
         held: 0,
-        size: size,
+        size,
         more: false,
     }
 }
@@ -99,25 +107,22 @@ fn feed_front(
 {
     let fed = feed(room, &piece[..end], text, replay);
     let held = keep(piece, fed.read, end);
-    let after = fed.replay;
-    let phase = after.phase;
-    let is_ended = is_over(phase);
     Reading {
-        replay: after,
-        held: held,
+        replay: fed.replay,
+        held,
         size: fed.size,
-        more: !is_ended,
+        more: !fed.replay.phase.is_over(),
     }
 }
 
-// What a read does that answered this number, where so many bytes of the piece were held and what it read stands behind
-// them. A read that failed is not the end of the input: it counts as torn.
+// What a read does that gave so many bytes, or failed, where so many bytes of the piece were held and what it read stands
+// behind them. A read that failed is not the end of the input: it counts as torn.
 pub fn after_read(
     room: &mut [u8],
     piece: &mut [u8],
     text: &mut [u8],
     held: usize,
-    got: isize,
+    got: Option<usize>,
     replay: Replay,
 ) -> Reading
     ensures { Takes
@@ -125,7 +130,7 @@ pub fn after_read(
         (drop held piece.old))
         piece.old text.old result room.new piece.new text.new }
 {
-    match given_by(got) {
+    match Given::from(got) {
         Given::Read(read) => {
             let end = end_behind(piece, held, read);
             feed_front(room, piece, text, end, replay)

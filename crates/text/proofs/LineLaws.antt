@@ -9,9 +9,7 @@ use lib.Dec.{ltb, leb, lit≤}
 use lib.ListN.{length, length-append}
 use borrow.Author.Tests.{lt-ltb, le-ltb, leb-true, leb-false}
 use Rattle.io.specs.Digits.{last_digits, IsDigitCount}
-use Rattle.wire.specs.Bytes.{patch}
 use Rattle.wire.proofs.ChoiceLaws.{of-pick}
-use Rattle.wire.proofs.PatchLaws.{patch-then}
 use Rattle.text.specs.Line.{decimal, decimal_of, tail_of, line_of}
 
 -- NUMBERS
@@ -86,18 +84,3 @@ length-line w n =
     let l = length-append w (tail_of n) in
     let h = length-tail n in
     omega arith
-
--- one line right behind another
-pub line-behind : (at : ℕ) (first second text : List ℕ) {end r : ℕ} {mid all : List ℕ}
-    → (end ≡ at + length first) × (mid ≡ patch at first text)
-    → (r ≡ end + length second) × (all ≡ patch end second mid)
-    → (r ≡ at + length (first ++ second)) × (all ≡ patch at (first ++ second) text)
-line-behind at first second text {end} {r} {mid} {all} p q =
-    let l = length-append first second in
-    (omega (arith, p.0, q.0), rw (q.1, p.1, p.0) (patch-then at (length first) first second text refl))
-
--- the tail is stored right behind the word
-pub tail-behind : (at n : ℕ) (w text : List ℕ) {r : ℕ} {mid all : List ℕ} → mid ≡ patch at w text
-    → (r ≡ (at + length w) + length (tail_of n)) × (all ≡ patch (at + length w) (tail_of n) mid)
-    → (r ≡ at + length (line_of w n)) × (all ≡ patch at (line_of w n) text)
-tail-behind at n w text p q = line-behind at w (tail_of n) text (refl, p) q

@@ -1,20 +1,17 @@
 // What a record does, by how the replay stands. The store stands at the front of its room.
 ghost use Rattle.std.specs.Prelude.{◌≡◌, ◌+◌, ◌≤◌, length, take};
-ghost use Rattle.wire.specs.Bytes.{patch};
 ghost use Rattle.openings.specs.Maker.{make_told, make_store};
 ghost use Rattle.emit.specs.Output.{at_front};
 ghost use Rattle.rules.specs.Call.{call_told, call_store};
-ghost use Rattle.trace.specs.Trace.{fresh_replay, is_over, is_opening, fresh_output, opened_text, opened_replay};
-ghost use Rattle.trace.specs.Trace.{opens, answers, stepped};
-ghost use Rattle.trace.specs.Trace.{over as Replay·over};
-ghost use Rattle.trace.specs.Stepped.{stepped_to, Leaves};
+ghost use Rattle.text.specs.Lines.{Stores};
+ghost use Rattle.trace.specs.Trace.{is_opening, fresh_output, opened_text, opened_replay, opens, answers, stepped};
+ghost use Rattle.trace.specs.Stepped.{Leaves};
 
-use super::{Phase, Replay, Stepped};
+use super::{Phase, Replay};
 use handler::handle;
 use input::end_within;
-use std::num::wrapping_add_u64;
 use store::Store;
-use text::{put_number_line, put_word_line};
+use text::Lines;
 use wire::u16_at;
 
 // The kind of a trace's first record.
@@ -36,132 +33,71 @@ fn answer_datagram(room: &mut [u8], size: usize, datagram: &[u8]) -> u8
 {
     let end = end_within(room, size);
     let mut output = [0u8; Store::OUTPUT];
-    let told = handle(&mut room[..end], &mut output, datagram);
-    told.number
+    handle(&mut room[..end], &mut output, datagram).number
 }
 
 // Length, kind and P are there, and the kind is that of an opening.
 fn is_opening(bytes: &[u8]) -> bool
     ensures { result ≡ is_opening bytes.now }
 {
-    if bytes.len() < 8 {
-        return false;
-    }
-    u16_at(bytes, 4) == FIRST
-}
-
-// A replay before its first record.
-pub fn start() -> Replay
-    ensures { result ≡ fresh_replay }
-{
-    Replay {
-        phase: Phase::Before,
-        count: 0,
-        size: 0,
-    }
-}
-
-pub fn is_over(phase: Phase) -> bool
-    ensures { result ≡ is_over phase }
-{
-    match phase {
-        Phase::Before => false,
-        Phase::Running => false,
-        Phase::Over => true,
-    }
-}
-
-pub fn over(count: u64, size: usize) -> Replay
-    ensures { result ≡ Replay·over count size }
-{
-    Replay {
-        phase: Phase::Over,
-        count: count,
-        size: size,
-    }
+    8 <= bytes.len() && u16_at(bytes, 4) == FIRST
 }
 
 // The lines of an opening, by what the maker told. An opening refused ends the replay.
-fn told_opening(text: &mut [u8], at: usize, told: u8, size: usize) -> Stepped
-    requires { at + 64 ≤ length text.old }
-    ensures left { result ≡ stepped_to (opened_replay told size) at (opened_text told) }
-    ensures text { text.new ≡ patch at (opened_text told) text.old }
+fn told_opening(lines: &mut Lines, told: u8, size: usize) -> Replay
+    requires { lines.old.at + 64 ≤ length lines.old.text.now }
+    ensures replay { result ≡ opened_replay told size }
+    ensures lines { Stores (opened_text told) lines.old lines.new }
 {
-    let end = put_word_line(text, at, b"open", told as u64);
+    lines.put_word_line(b"open", u64::from(told));
     if told == 0 {
-        return Stepped {
-            replay: Replay {
-                phase: Phase::Running,
-                count: 0,
-                size: size,
-            },
-            at: end,
+        return Replay {
+            phase: Phase::Running,
+            count: 0,
+            size,
         };
     }
-    let last = put_word_line(text, end, b"end", 0);
-    Stepped {
-        replay: over(0, size),
-        at: last,
-    }
+    lines.put_word_line(b"end", 0);
+    Replay::over(0, size)
 }
 
 // The first record makes the store. One that is no opening counts as torn.
-fn open_store(room: &mut [u8], first: &[u8], text: &mut [u8], at: usize) -> Stepped
-    requires { at + 64 ≤ length text.old }
-    ensures { Leaves (opens room.old first.now) at text.old result room.new
-        text.new }
+fn open_store(room: &mut [u8], first: &[u8], lines: &mut Lines) -> Replay
+    requires { lines.old.at + 64 ≤ length lines.old.text.now }
+    ensures { Leaves (opens room.old first.now) lines.old lines.new result room.new }
 {
     if !is_opening(first) {
-        let end = put_word_line(text, at, b"torn", 0);
-        return Stepped {
-            replay: over(0, 0),
-            at: end,
-        };
+        lines.put_word_line(b"torn", 0);
+        return Replay::over(0, 0);
     }
-    let size = Store::length(u16_at(first, 6) as usize);
+    let size = Store::length(usize::from(u16_at(first, 6)));
     let told = make_store(room, size, &first[8..]);
-    told_opening(text, at, told, size)
+    told_opening(lines, told, size)
 }
 
 // Each datagram gets a line, refused or not.
-fn answer_line(
-    room: &mut [u8],
-    datagram: &[u8],
-    text: &mut [u8],
-    at: usize,
-    replay: Replay,
-) -> Stepped
-    requires { at + 64 ≤ length text.old }
-    ensures { Leaves (answers replay room.old datagram.now) at text.old result room.new
-        text.new }
+fn answer_line(room: &mut [u8], datagram: &[u8], lines: &mut Lines, replay: Replay) -> Replay
+    requires { lines.old.at + 64 ≤ length lines.old.text.now }
+    ensures { Leaves (answers replay room.old datagram.now) lines.old lines.new result room.new }
 {
-    let size = replay.size;
-    let count = wrapping_add_u64(replay.count, 1);
-    let number = answer_datagram(room, size, datagram);
-    let end = put_number_line(text, at, count, number as u64);
-    Stepped {
-        replay: Replay {
-            phase: Phase::Running,
-            count: count,
-            size: size,
-        },
-        at: end,
+    let count = replay.count.wrapping_add(1);
+    let number = answer_datagram(room, replay.size, datagram);
+    lines.put_number_line(count, u64::from(number));
+    Replay {
+        phase: Phase::Running,
+        count,
+        size: replay.size,
     }
 }
 
 // One record.
-pub fn step(room: &mut [u8], bytes: &[u8], text: &mut [u8], at: usize, replay: Replay) -> Stepped
-    requires { at + 64 ≤ length text.old }
-    ensures { Leaves (stepped replay room.old bytes.now) at text.old result room.new
-        text.new }
+pub fn step(room: &mut [u8], bytes: &[u8], lines: &mut Lines, replay: Replay) -> Replay
+    requires { lines.old.at + 64 ≤ length lines.old.text.now }
+    ensures { Leaves (stepped replay room.old bytes.now) lines.old lines.new result room.new }
 {
-    let phase = replay.phase;
-    match phase {
-        Phase::Before => open_store(room, bytes, text, at),
-        Phase::Running => answer_line(room, bytes, text, at, replay),
-        Phase::Over => Stepped {
-            replay: replay,
-            at: at,
-        },
+    match replay.phase {
+        Phase::Before => open_store(room, bytes, lines),
+        Phase::Running => answer_line(room, bytes, lines, replay),
+        Phase::Over => replay,
     }
 }

@@ -14,7 +14,8 @@ use Rattle.trace.specs.declared.Phase.{Phase}
 use Rattle.trace.specs.declared.Phase.TheVariants.{Before, Running, Over}
 use Rattle.trace.specs.declared.Replay.{Replay}
 use Rattle.transcript.specs.declared.Progress.{Progress}
-use Rattle.trace.specs.declared.Stepped.{Stepped}
+use Rattle.text.specs.declared.Lines.{Lines}
+use Rattle.text.specs.Lines.{Stores}
 use Rattle.text.specs.Line.{decimal_of, line_of, open_word, end_word, torn_word}
 use Rattle.trace.specs.Trace.{over, is_opening, openings_of, length_of, opened_text, opens, next}
 use Rattle.trace.specs.Trace.{fresh_output, answers, stepped_in, stepped}
@@ -28,30 +29,34 @@ use Rattle.transcript.proofs.FedLaws.{Turn, idle, tears, reads, torn_at, read_at
 pub drop-left : (k : ℕ) (bs : List ℕ) → k ≤ length bs → length bs - length (drop k bs) ≡ k
 drop-left k bs h = omega (arith, length-drop k bs)
 
-module _ (p : Progress) (room input text : List ℕ) (inside : p.read ≤ length input) where
-  pub feeds-stays : {f : Fed} → f ≡ stays p.replay room (drop p.read input)
-      → Feeds f p.size input text p room text
+module _ (p : Progress) (room input : List ℕ) (inside : p.read ≤ length input) {lines : Lines} where
+  pub feeds-stays : {f : Fed} {left : Lines} {text' : List ℕ} → f ≡ stays p.replay room (drop p.read input)
+      → left ≡ lines → text' ≡ left.text.now → lines.at ≡ p.size
+      → Feeds f p.size input lines.text.now (record { replay = p.replay; read = p.read; size = left.at }) room text'
   unfolding patch
-  feeds-stays {f} e =
+  feeds-stays {f} {left} {text'} e same back start =
       let z : p.size + 0 ≡ p.size = omega arith in
-      rw (e, drop-left p.read input inside, z) (refl, (refl, refl))
+      rw (e, drop-left p.read input inside, z, back, same, start) (refl, (refl, refl))
 
-  pub feeds-torn : {f : Fed} {end : ℕ} {text' : List ℕ} → f ≡ torn_at p.replay room (drop p.read input)
-      → (end ≡ p.size + length (line_of torn_word p.replay.count))
-      × (text' ≡ patch p.size (line_of torn_word p.replay.count) text)
-      → Feeds f p.size input text
-      (record { replay = over p.replay.count p.replay.size; read = p.read; size = end }) room text'
-  feeds-torn {f} e q = rw (e, drop-left p.read input inside) (rw q.0, (refl, q.1))
+  pub feeds-torn : {f : Fed} {r : Replay} {left : Lines} {text' : List ℕ}
+      → f ≡ torn_at p.replay room (drop p.read input)
+      → r ≡ over p.replay.count p.replay.size → Stores (line_of torn_word p.replay.count) lines left
+      → text' ≡ left.text.now → lines.at ≡ p.size
+      → Feeds f p.size input lines.text.now (record { replay = r; read = p.read; size = left.at }) room text'
+  feeds-torn {f} {r} {left} {text'} e o q back start =
+      rw (e, o, back, q.place, q.text, start, drop-left p.read input inside) (refl, (refl, refl))
 
-  pub feeds-read : (k : ℕ) {f : Fed} {r : Stepped} {room' text' : List ℕ} → p.read + k ≤ length input
-      → f ≡ read_at 0 k p.replay room (drop p.read input)
-      → Leaves (stepped p.replay room (take k (drop p.read input))) p.size text r room' text'
-      → Feeds f p.size input text (record { replay = r.replay; read = p.read + k; size = r.at }) room' text'
+  pub feeds-read : (k : ℕ) {f : Fed} {r : Replay} {room' : List ℕ} {left : Lines} {text' : List ℕ}
+      → p.read + k ≤ length input → f ≡ read_at 0 k p.replay room (drop p.read input)
+      → Leaves (stepped p.replay room (take k (drop p.read input))) lines left r room' → text' ≡ left.text.now
+      → lines.at ≡ p.size
+      → Feeds f p.size input lines.text.now (record { replay = r; read = p.read + k; size = left.at }) room' text'
   unfolding fed
-  feeds-read k {f} {r} {room'} {text'} h e q =
+  feeds-read k {f} {r} {room'} {left} {text'} h e q back start =
       let s = stepped p.replay room (take k (drop p.read input)) in
       let rest : drop k (drop p.read input) ≡ drop (p.read + k) input = drop-drop k p.read input in
-      rw (e, append-nil, rest, drop-left (p.read + k) input h) (rw q.0, (q.1.0, q.1.1))
+      rw (e, append-nil, rest, drop-left (p.read + k) input h, back, q.0, q.1.1.place, q.1.1.text, start)
+      (refl, (q.1.0, refl))
 
 -- LENGTHS: the lines of a record have room
 length-opened : (t : ℕ) → length (opened_text t) ≤ line_room

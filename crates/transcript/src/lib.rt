@@ -6,9 +6,9 @@ ghost use Rattle.std.specs.Prelude.{◌+◌, ◌/◌, ◌≤◌, length, drop};
 ghost use Rattle.transcript.specs.Transcript.{fed, line_room};
 ghost use Rattle.transcript.specs.Feeds.{Feeds};
 
-use reader::{Front, bytes_at, next_at};
-use text::put_word_line;
-use trace::{Replay, is_over, over, step};
+use reader::{Front, Reader};
+use text::Lines;
+use trace::{Replay, step};
 
 // Room for the lines of one record.
 pub const LINE: usize = 64;
@@ -27,34 +27,27 @@ fn turn(room: &mut [u8], input: &[u8], text: &mut [u8], p: Progress) -> Progress
     ensures { Feeds (fed 1 p.replay room.old (drop p.read input.now)) p.size
         input.now text.old result room.new text.new }
 {
-    let replay = p.replay;
-    let phase = replay.phase;
-    if is_over(phase) {
+    let Progress { replay, read, size } = p;
+    if replay.phase.is_over() {
         return p;
     }
-    let read = p.read;
-    let at = p.size;
-    match next_at(input, read) {
-        Front::Whole(size) => {
-            let end = read + size;
-            let record = bytes_at(input, read, size);
-            let left = step(room, record, text, at, replay);
-            let next = left.replay;
-            Progress {
-                replay: next,
-                read: end,
-                size: left.at,
-            }
+    let reader = Reader::new(input).moved(read);
+    let mut lines = Lines { text, at: size };
+    let (replay, read) = match reader.next() {
+        Front::Whole(length) => {
+            let left = step(room, reader.bytes(length), &mut lines, replay);
+            (left, read + length)
         }
         Front::Torn => {
-            let end = put_word_line(text, at, b"torn", replay.count);
-            Progress {
-                replay: over(replay.count, replay.size),
-                read: read,
-                size: end,
-            }
+            lines.put_word_line(b"torn", replay.count);
+            (Replay::over(replay.count, replay.size), read)
         }
-        Front::Short => p,
+        Front::Short => (replay, read),
+    };
+    Progress {
+        replay,
+        read,
+        size: lines.at,
     }
 }
 
@@ -65,18 +58,16 @@ pub fn feed(room: &mut [u8], input: &[u8], text: &mut [u8], replay: Replay) -> P
 {
     let lines = text.len() / LINE;
     let mut p = Progress {
-        replay: replay,
+        replay,
         read: 0,
         size: 0,
     };
-    let mut i: usize = 0;
-    while i < lines {
+    for _ in 0..lines {
         let q = turn(room, input, text, p);
         if q.read == p.read {
             return q;
         }
         p = q;
-        i += 1;
     }
     p
 }

@@ -2,7 +2,6 @@
 use mathlib.Core.Path.{◌≡◌, sym, ◌∙◌}
 use mathlib.Core.Bool.{true, false}
 use borrow.Author.Rules.{rules}
-use borrow.Author.Tests.{not-true, not-false}
 use Rattle.slots.specs.Fit.{is_fit_any_order}
 use Rattle.store.specs.Convert.{convert_told, convert_store}
 use Rattle.store.proofs.ConvertLaws.{convert-refused}
