@@ -21,6 +21,7 @@ use slots::{OtherHeight, OtherTime, OwnHeight, OwnTime, Timeout};
 use wire::{FRAME, array_at, u16_at, u32_at, u64_at};
 
 // The client's time stands apart from its height, at the end.
+#[tactic(auto, unfolding(crate::specs::Datagram::context_in))]
 pub fn context_in(d: &[u8]) -> Context
     requires { body_from ≤ length d.now }
     ensures { result ≡ context_in d.now }
@@ -37,6 +38,7 @@ pub fn context_in(d: &[u8]) -> Context
     }
 }
 
+#[tactic(auto, unfolding(crate::specs::Datagram::block_in))]
 fn block_at(d: &[u8], at: usize) -> Block
     requires { at + 16 ≤ length d.now }
     ensures { result ≡ block_in at d.now }
@@ -47,6 +49,7 @@ fn block_at(d: &[u8], at: usize) -> Block
     }
 }
 
+#[tactic(auto, unfolding(crate::specs::Datagram::verdict_in))]
 fn verdict_at(d: &[u8], at: usize) -> Verdict
     requires { at + verdict_size ≤ length d.now }
     ensures { result ≡ verdict_in at d.now }
@@ -62,6 +65,7 @@ fn verdict_at(d: &[u8], at: usize) -> Verdict
 }
 
 // The end's record is read as a store's is.
+#[tactic(auto, unfolding(crate::specs::Datagram::end_verdict_in))]
 fn end_verdict_at(d: &[u8], at: usize) -> EndVerdict
     requires { at + end_verdict_size ≤ length d.now }
     ensures { result ≡ end_verdict_in at d.now }
@@ -74,6 +78,7 @@ fn end_verdict_at(d: &[u8], at: usize) -> EndVerdict
     }
 }
 
+#[tactic(auto, unfolding(crate::specs::Datagram::kind_in))]
 pub fn kind_in(d: &[u8]) -> u16
     requires { frame_size ≤ length d.now }
     ensures { result ≡ kind_in d.now }
@@ -95,6 +100,7 @@ pub fn sequence_in(d: &[u8]) -> u64
     u64_at(d, BODY + 4)
 }
 
+#[tactic(auto, unfolding(crate::specs::Datagram::packet_in))]
 pub fn packet_in(d: &[u8]) -> Packet
     requires { body_from + packet_size ≤ length d.now }
     ensures { result ≡ packet_in body_from d.now }

@@ -13,7 +13,7 @@ ghost use Rattle.slots.specs.Fit.{channel_fits, has_zero_timeouts_and_digest, fi
 
 use slots::slot::channel_at;
 use slots::{Channel, Key, Layout, Record, Timeout};
-use tables::ordering::{may_have_receipt, may_have_timeout_receipt};
+use tables::ordering::{is_received, may_have_receipt, may_have_timeout_receipt};
 use tables::scan::{find_channel, first_record};
 use versions::is_padded;
 use wire::{DIGEST, u32_at, u64_at};
@@ -36,56 +36,28 @@ pub fn channel_fits(s: &[u8], at: usize) -> bool
     false
 }
 
-fn is_no_timeout(t: Timeout) -> bool
-    ensures { result ≡ same_timeout t no_timeout }
-{
-    (t.height == 0) & (t.time == 0)
-}
-
 // A receipt and a timeout receipt have zero timeouts and digest.
+#[tactic(auto, using(slots::proofs::FieldLaws::by_fields), unfolding(slots::specs::Fit::has_zero_timeouts_and_digest))]
 fn has_zero_timeouts_and_digest(r: Record) -> bool
     ensures { result ≡ has_zero_timeouts_and_digest r }
 {
-    is_no_timeout(r.timeout) & (r.digest == [0; DIGEST])
+    r.timeout == Timeout::NONE && r.digest == [0; DIGEST]
 }
 
-// A packet record of this kind, wherever it stands.
-fn is_there(s: &[u8], count: usize, kind: u16, c: Channel, sequence: u64) -> bool
+// A packet record of this key, wherever it stands.
+fn is_there(s: &[u8], count: usize, k: Key) -> bool
     requires { length s.now ≡ size_for count }
-    ensures { result ≡
-        is_some
-        (lookup (record { kind = kind; channel = c.own.channel; sequence = sequence })
-        (store_in s.now).records) }
+    ensures { result ≡ is_some (lookup k (store_in s.now).records) }
 {
-    let k = Key {
-        kind: kind,
-        channel: c.own.channel,
-        sequence: sequence,
-    };
     first_record(s, count, 0, k).is_some()
-}
-
-// Unordered: its receipt is there. Else: the sequence is below next receive, and where timeouts are allowed no timeout
-// receipt of it is there.
-fn is_received(s: &[u8], count: usize, c: Channel, sequence: u64) -> bool
-    requires { length s.now ≡ size_for count }
-    ensures { result ≡ is_received (store_in s.now).records c sequence }
-{
-    if may_have_receipt(c) {
-        return is_there(s, count, Record::RECEIPT, c, sequence);
-    }
-    if may_have_timeout_receipt(c, sequence) {
-        return !is_there(s, count, Record::TIMEOUT_RECEIPT, c, sequence);
-    }
-    sequence < c.next.receive
 }
 
 fn acknowledgement_fits(s: &[u8], count: usize, r: Record, c: Channel) -> bool
     requires { length s.now ≡ size_for count }
     ensures { result ≡ (same_timeout r.timeout no_timeout and is_received (store_in s.now).records c r.sequence) }
 {
-    let t = r.timeout;
-    is_no_timeout(t) & is_received(s, count, c, r.sequence)
+    let received = is_received(c, r.sequence, |k| is_there(s, count, k));
+    r.timeout == Timeout::NONE && received
 }
 
 // By kind, on the record's own channel end. A timeout receipt is no arm of its own: the match on four kinds that stand

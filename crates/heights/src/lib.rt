@@ -7,7 +7,6 @@ ghost use Rattle.std.specs.Ordering.{partial_le};
 ghost use Rattle.slots.specs.declared.Timeout.{Timeout};
 ghost use Rattle.slots.specs.Layout.{Store};
 ghost use Rattle.slots.specs.Height.{height_at_sender, time_at_sender, height_at_receiver, time_at_receiver};
-ghost use Rattle.slots.specs.Height.{is_past, is_past_own, is_past_own_time, is_past_other, is_past_other_time};
 ghost use Rattle.slots.specs.Height.{no_timeout, same_timeout};
 ghost use Rattle.rules.specs.Refusals.{goes_back, has_passed_at, is_late_at_sender, is_late_at_receiver, is_proved_late};
 
@@ -68,7 +67,6 @@ fn is_past<T: PartialOrd + Default + Copy>(limit: T, reached: T) -> bool
 }
 
 // A timeout has passed at a block of the other ledger.
-#[tactic(auto, using(slots::proofs::FieldLaws::by_fields), unfolding(rules::specs::Refusals::has_passed_at))]
 fn has_passed_at(block: Block, t: Timeout) -> bool
     ensures { result ≡ has_passed_at block t }
 {
@@ -84,7 +82,7 @@ pub fn goes_back(last: OwnHeight, last_time: OwnTime, x: Context) -> bool
 }
 
 // 11, at the sender: by the client's latest block of the other ledger.
-#[tactic(auto, using(slots::proofs::FieldLaws::by_fields), unfolding(rules::specs::Refusals::is_late_at_sender))]
+#[tactic(auto, unfolding(rules::specs::Refusals::is_late_at_sender))]
 pub fn is_late_at_sender(x: Context, t: Timeout) -> bool
     ensures { result ≡ is_late_at_sender x t }
 {
@@ -92,7 +90,6 @@ pub fn is_late_at_sender(x: Context, t: Timeout) -> bool
 }
 
 // 11, at the receiver: by its own height or time.
-#[tactic(auto, using(slots::proofs::FieldLaws::by_fields), unfolding(rules::specs::Refusals::is_late_at_receiver))]
 pub fn is_late_at_receiver(x: Context, u: Timeout) -> bool
     ensures { result ≡ is_late_at_receiver x u }
 {
@@ -100,7 +97,7 @@ pub fn is_late_at_receiver(x: Context, u: Timeout) -> bool
 }
 
 // 12: by the verdict's block of the other ledger.
-#[tactic(auto, using(slots::proofs::FieldLaws::by_fields), unfolding(rules::specs::Refusals::is_proved_late))]
+#[tactic(auto, unfolding(rules::specs::Refusals::is_proved_late))]
 pub fn is_proved_late(t: Timeout, v: Verdict) -> bool
     ensures { result ≡ is_proved_late t v }
 {

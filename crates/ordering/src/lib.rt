@@ -4,8 +4,6 @@
 #![tactic(auto)]
 
 ghost use Rattle.std.specs.Prelude.{◌≡◌};
-ghost use Rattle.wire.specs.Choice.{is_some};
-ghost use Rattle.slots.specs.Table.{lookup};
 ghost use Rattle.slots.specs.Layout.{store_in};
 ghost use Rattle.slots.specs.Ordering.{is_received};
 ghost use Rattle.slots.specs.Scan.{RecordsInOrder};
@@ -18,7 +16,7 @@ ghost use Rattle.rules.specs.Ordering.{is_timeout_at_top, needs_record};
 use datagram::Verdict;
 use slots::{Channel, Key, Record};
 use tables::halves::has_record;
-use tables::ordering::{allows_timeouts, is_unordered, may_have_receipt, may_have_timeout_receipt};
+use tables::ordering::{allows_timeouts, is_unordered};
 
 const TOP: u64 = u64::MAX;
 
@@ -69,44 +67,26 @@ pub fn lapses(c: Channel, late: bool) -> bool
     allows_timeouts(c) && late
 }
 
-// A packet record of this kind, on the channel.
-fn is_there(store: &[u8], count: usize, kind: u16, c: Channel, sequence: u64) -> bool
-    requires { RecordsInOrder store.now count }
-    ensures { result ≡
-        is_some
-        (lookup (record { kind = kind; channel = c.own.channel; sequence = sequence })
-        (store_in store.now).records) }
-{
-    let k = Key {
-        kind,
-        channel: c.own.channel,
-        sequence,
-    };
-    has_record(store, count, k)
-}
-
 // 16, for 2: a receipt is there. Only an unordered channel has any.
 #[tactic(auto, using(slots::proofs::FieldLaws::by_fields), unfolding(rules::specs::Ordering::is_receipt_there))]
 pub fn is_receipt_there(store: &[u8], count: usize, c: Channel, sequence: u64) -> bool
     requires { RecordsInOrder store.now count }
     ensures { result ≡ is_receipt_there (store_in store.now).records c sequence }
 {
-    is_unordered(c) && is_there(store, count, Record::RECEIPT, c, sequence)
+    let k = Key {
+        channel: c.own.channel,
+        kind: Record::RECEIPT,
+        sequence,
+    };
+    is_unordered(c) && has_record(store, count, k)
 }
 
-// 17, for 3. Unordered: its receipt is there. Else: the sequence is below next receive, and where timeouts are allowed
-// no timeout receipt of it is there.
+// 17, for 3.
 pub fn is_received(store: &[u8], count: usize, c: Channel, sequence: u64) -> bool
     requires { RecordsInOrder store.now count }
     ensures { result ≡ is_received (store_in store.now).records c sequence }
 {
-    if may_have_receipt(c) {
-        is_there(store, count, Record::RECEIPT, c, sequence)
-    } else if may_have_timeout_receipt(c, sequence) {
-        !is_there(store, count, Record::TIMEOUT_RECEIPT, c, sequence)
-    } else {
-        sequence < c.next.receive
-    }
+    tables::ordering::is_received(c, sequence, |k| has_record(store, count, k))
 }
 
 // Line 14, for 5 and 12: what a verdict has to claim of a packet that was not received. On close, where timeouts are

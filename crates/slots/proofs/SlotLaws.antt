@@ -106,3 +106,5 @@ module _ (at : ℕ) (bs : List ℕ) where
       (patch at (little 2 r.kind ++ (0 ∷ 0 ∷ []) ++ little 4 r.channel) bs)))
   unfolding record_bytes
   record-stored r = simp (patch-append, length-append, length-little, add_assoc)
+
+pub ruleset slot_fields = (channel-read, record-read, head-stored, channel-stored, record-stored)

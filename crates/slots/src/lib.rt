@@ -56,6 +56,10 @@ pub struct Timeout {
     pub time: u64,
 }
 
+impl Timeout {
+    pub const NONE: Timeout = Timeout { height: 0, time: 0 };
+}
+
 // The next sequence to send, to receive and to acknowledge.
 #[derive(Clone, Copy, Default, PartialEq, Eq)]
 pub struct Counters {

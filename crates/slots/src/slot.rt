@@ -8,6 +8,7 @@ use super::{Channel, Counters, PortChannel, Record};
 use wire::{array_at, put_array, put_u16, put_u32, put_u64, u16_at, u32_at, u64_at};
 
 // A channel end's own side leads with the channel, its counterparty's with the port.
+#[tactic(auto, using(crate::proofs::SlotLaws::slot_fields))]
 pub fn channel_at(s: &[u8], at: usize) -> Channel
     requires { at + slot_size ≤ length s.now }
     ensures { result ≡ channel_in (part at slot_size s.now) }
@@ -29,6 +30,7 @@ pub fn channel_at(s: &[u8], at: usize) -> Channel
     }
 }
 
+#[tactic(auto, using(crate::proofs::SlotLaws::slot_fields))]
 pub fn record_at(s: &[u8], at: usize) -> Record
     requires { at + slot_size ≤ length s.now }
     ensures { result ≡ record_in (part at slot_size s.now) }
@@ -43,6 +45,7 @@ pub fn record_at(s: &[u8], at: usize) -> Record
 }
 
 // What a slot leads with: its kind, two bytes, and the number of a channel.
+#[tactic(auto, using(crate::proofs::SlotLaws::slot_fields))]
 fn put_head(s: &mut [u8], at: usize, kind: u16, first: u8, second: u8, channel: u32)
     requires { at + 8 ≤ length s.old }
     ensures { s.new ≡ patch at (little 2 kind ++ (first ∷ second ∷ []) ++ little 4 channel) s.old }
@@ -63,6 +66,7 @@ fn put_counters(s: &mut [u8], at: usize, c: Counters)
     put_u64(s, at + 16, c.acknowledge);
 }
 
+#[tactic(auto, using(crate::proofs::SlotLaws::slot_fields))]
 pub fn put_channel(s: &mut [u8], at: usize, c: Channel)
     requires { at + slot_size ≤ length s.old }
     ensures { s.new ≡ patch at (channel_bytes c) s.old }
@@ -74,6 +78,7 @@ pub fn put_channel(s: &mut [u8], at: usize, c: Channel)
     put_array(s, at + 40, c.version);
 }
 
+#[tactic(auto, using(crate::proofs::SlotLaws::slot_fields))]
 pub fn put_record(s: &mut [u8], at: usize, r: Record)
     requires { at + slot_size ≤ length s.old }
     ensures { s.new ≡ patch at (record_bytes r) s.old }

@@ -1,7 +1,6 @@
 -- A record is there where the scan finds one. Assumes nothing.
 use mathlib.Core.Path.{ap, ◌∙◌}
 use Rattle.std.specs.Prelude.{is_some}
-use Rattle.slots.specs.declared.Key.{Key}
 use Rattle.slots.specs.Table.{has_key}
 use Rattle.slots.specs.Layout.{store_in}
 use Rattle.slots.proofs.TurnLaws.{records-from}
@@ -15,8 +14,7 @@ returns c =
     let o = c in
     let a = o.args in
     let s = a.s.now in
-    let k : Key = record { kind = a.kind; channel = a.c.own.channel; sequence = a.sequence } in
-    rw (find_at (has_key k) 0 (store_in s).records, records-from a.count s o.requires)
+    rw (find_at (has_key a.k) 0 (store_in s).records, records-from a.count s o.requires)
     (c.is_some.ensures ∙ ap is_some c.first_record.ensures)
 
 pub is_there_spec : {M : Type 1} → statement M
