@@ -1,3 +1,4 @@
 pub mod OpeningLaws
+mod TestLaws
 pub mod LeastLaws
 pub mod MakerLaws

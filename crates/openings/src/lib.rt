@@ -6,8 +6,8 @@ ghost use Rattle.std.specs.Prelude.{◌≡◌, ◌+◌, ◌%◌, ◌≤◌, eqb,
 ghost use Rattle.wire.specs.Choice.{◌and◌, is_some};
 ghost use Rattle.wire.specs.Bytes.{part};
 ghost use Rattle.slots.specs.Table.{distinct, same_number, channel_at};
-ghost use Rattle.openings.specs.Opening.{opening_size, openings_in, opening_fits, all_openings_fit, opening_of, ends_of};
-ghost use Rattle.openings.specs.Opening.{ends_from};
+ghost use Rattle.openings.specs.Opening.{opening_size, openings_in, opening_fits, all_openings_fit, opening_of};
+ghost use Rattle.openings.specs.Opening.{ends_of, ends_from};
 
 use slots::part::port_channel_at;
 use slots::{Channel, Counters, VERSION};
@@ -33,38 +33,25 @@ fn opening_fits(openings: &[u8], at: usize) -> bool
 pub fn openings_fit(openings: &[u8]) -> bool
     ensures { result ≡ eqb (length openings.now % opening_size) 0 and all_openings_fit (openings_in openings.now) }
 {
-    if openings.len() % OPENING != 0 {
-        return false;
-    }
-    for i in 0..openings.len() / OPENING {
-        if !opening_fits(openings, OPENING * i) {
-            return false;
-        }
-    }
-    true
+    openings.len() % OPENING == 0
+        && (0..openings.len() / OPENING).all(|i| opening_fits(openings, OPENING * i))
 }
 
 // Whether an opening has this channel number, from the opening of index `from` on.
 fn has_number(openings: &[u8], from: usize, channel: u32) -> bool
     ensures { result ≡ is_some (channel_at channel (ends_from openings.now from)) }
 {
-    for i in from..openings.len() / OPENING {
-        if u32_at(openings, OPENING * i + 8) == channel {
-            return true;
-        }
-    }
-    false
+    (from..openings.len() / OPENING).any(|i| u32_at(openings, OPENING * i + 8) == channel)
 }
 
 pub fn numbers_distinct(openings: &[u8]) -> bool
     ensures { result ≡ distinct same_number (ends_of openings.now) }
 {
-    for i in 0..openings.len() / OPENING {
-        if has_number(openings, i + 1, u32_at(openings, OPENING * i + 8)) {
-            return false;
-        }
-    }
-    true
+    (0..openings.len() / OPENING).all(|i| !has_number(
+        openings,
+        i + 1,
+        u32_at(openings, OPENING * i + 8),
+    ))
 }
 
 // An OPEN end with counters 1 and no version, as the opening from `at` on says.

@@ -1,27 +1,13 @@
--- Each turn takes the next opening.
+-- Each index is asked.
+use Rattle.std.proofs.Common.{◌∙◌, refl, rules, tests}
 use native.Mathlib.Nat.{sub-zero}
-use Rattle.wire.specs.Choice.{◌and◌}
-use Rattle.slots.specs.Table.{distinct}
-use Rattle.openings.specs.Opening.{ends_of}
-use Rattle.openings.proofs.OpeningLaws.{distinct-turn, openings-over}
+use Rattle.std.proofs.lemmas.Iterator.{YieldsList-from_range}
+use Rattle.std.proofs.lemmas.Iterator.Search.{all_from_yields_List}
+use Rattle.openings.proofs.TestLaws.{is_lone, distinct-all}
 use Rattle.openings.proofs.numbers_distinct.Goals as goal
 
-pub loop-i-init : goal.loop-i-init
-unfolding ends_of
-loop-i-init c = rw (ends_of, sub-zero)
-
-pub returns-then-has_number : goal.returns-then-has_number
-unfolding ◌and◌
-returns-then-has_number c =
-    let turn = distinct-turn c.args.openings.now c.loop-i.i c.loop-i-test.true in
-    rw (c.loop-i.invariant, turn, ← c.u32_at.ensures, ← c.has_number.ensures, c.if-has_number.true)
-
-pub loop-i-preserved : goal.loop-i-preserved
-unfolding ◌and◌
-loop-i-preserved c =
-    let turn = distinct-turn c.args.openings.now c.loop-i.i c.loop-i-test.true in
-    rw (c.loop-i.invariant, turn, ← c.u32_at.ensures, ← c.has_number.ensures, c.if-has_number.false)
-
 pub returns : goal.returns
-unfolding distinct
-returns c = rw (c.loop-i.invariant, openings-over c.args.openings.now c.loop-i.i c.loop-i-test.false)
+returns c =
+    let bs = c.args.openings.now in
+    all_from_yields_List (is_lone bs) _ _ c.all.result c.all.ensures.ran
+    (YieldsList-from_range _ _ _ refl (sub-zero _)) (λ x b q k. search (rules, tests)) ∙ distinct-all bs
