@@ -117,19 +117,6 @@ pub fn put_part(s: &mut [u8], at: usize, from: &[u8], start: usize, size: usize)
     s[at..at + size].copy_from_slice(&from[start..start + size]);
 }
 
-#[tactic(auto, using(crate::proofs::ZeroLaws::equal_arrays))]
-pub fn same_digest(a: [u8; DIGEST], b: [u8; DIGEST]) -> bool
-    ensures { result ≡ same a b }
-{
-    a == b
-}
-
-pub fn is_zero_digest(d: [u8; DIGEST]) -> bool
-    ensures { result ≡ are_zero d }
-{
-    d == [0; DIGEST]
-}
-
 // What a slice is as a framed record: whole, or malformed, as where its length field is another.
 #[derive(Clone, Copy)]
 pub enum Frame {

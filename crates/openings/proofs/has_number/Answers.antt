@@ -9,4 +9,5 @@ pub returns : goal.returns
 returns c =
     let bs = c.args.openings.now in
     any_from_yields_List (λ (k : ℕ). eqb (number_in bs k) c.args.channel) _ _ c.any.result c.any.ensures.ran
-    (YieldsList-from_range _ _ _ refl refl) (λ x b q k. search (rules, tests)) ∙ number-any bs c.args.channel c.args.from
+    (YieldsList-from_range _ _ _ refl refl) (λ x b q k. search (rules, tests))
+    ∙ number-any bs c.args.channel c.args.from

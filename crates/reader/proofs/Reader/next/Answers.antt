@@ -1,5 +1,6 @@
 -- By the tests that led to each answer.
-use Rattle.std.proofs.Common.{◌≡◌, ◌-◌, ◌≤◌, ℕ, List, not, length, drop, rules, tests, arith, lt-ltb, le-ltb, length-drop}
+use Rattle.std.proofs.Common.{◌≡◌, ◌-◌, ◌≤◌, ℕ, List, not, length, drop, rules, tests, arith, lt-ltb, le-ltb}
+use Rattle.std.proofs.Common.{length-drop}
 use lib.Dec.{ltb}
 use Rattle.wire.specs.Choice.{◌and◌, pick, is_in}
 use Rattle.wire.specs.Bytes.{field, part}
@@ -25,8 +26,10 @@ unfolding ◌and◌
 returns-then-not-contains c =
     let s = c.args.self in
     let inside : c.contains.result ≡ is_in least_record greatest_record c.u32_at.result =
-    rw (c.contains.ensures.value, c.new.ensures.start, c.new.ensures.end, c.new.ensures.exhausted) (search (rules, tests)) in
-    let read = front-read c.saturating_sub-left.result s.at c.u32_at.result s.src.now (omega arith) (omega arith) c.u32_at.ensures inside in
+    rw (c.contains.ensures.value, c.new.ensures.start, c.new.ensures.end, c.new.ensures.exhausted)
+    (search (rules, tests)) in
+    let read = front-read c.saturating_sub-left.result s.at c.u32_at.result s.src.now (omega arith)
+    (omega arith) c.u32_at.ensures inside in
     rw (read, c.if-not-contains.true)
 
 pub returns-then-left-size : goal.returns-then-left-size
@@ -34,8 +37,10 @@ unfolding ◌and◌
 returns-then-left-size c =
     let s = c.args.self in
     let inside : c.contains.result ≡ is_in least_record greatest_record c.u32_at.result =
-    rw (c.contains.ensures.value, c.new.ensures.start, c.new.ensures.end, c.new.ensures.exhausted) (search (rules, tests)) in
-    let read = front-read c.saturating_sub-left.result s.at c.u32_at.result s.src.now (omega arith) (omega arith) c.u32_at.ensures inside in
+    rw (c.contains.ensures.value, c.new.ensures.start, c.new.ensures.end, c.new.ensures.exhausted)
+    (search (rules, tests)) in
+    let read = front-read c.saturating_sub-left.result s.at c.u32_at.result s.src.now (omega arith)
+    (omega arith) c.u32_at.ensures inside in
     rw (read, c.if-not-contains.false, lt-ltb _ _ c.if-left-size.true)
 
 pub returns : goal.returns
@@ -43,6 +48,8 @@ unfolding ◌and◌
 returns c =
     let s = c.args.self in
     let inside : c.contains.result ≡ is_in least_record greatest_record c.u32_at.result =
-    rw (c.contains.ensures.value, c.new.ensures.start, c.new.ensures.end, c.new.ensures.exhausted) (search (rules, tests)) in
-    let read = front-read c.saturating_sub-left.result s.at c.u32_at.result s.src.now (omega arith) (omega arith) c.u32_at.ensures inside in
+    rw (c.contains.ensures.value, c.new.ensures.start, c.new.ensures.end, c.new.ensures.exhausted)
+    (search (rules, tests)) in
+    let read = front-read c.saturating_sub-left.result s.at c.u32_at.result s.src.now (omega arith)
+    (omega arith) c.u32_at.ensures inside in
     rw (read, c.if-not-contains.false, le-ltb c.saturating_sub-left.result c.u32_at.result (omega arith))

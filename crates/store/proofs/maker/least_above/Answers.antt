@@ -19,8 +19,10 @@ pub loop-i-preserved : goal.loop-i-preserved
 loop-i-preserved c =
     let a = c.u32_at.result in
     let n = c.loop-i.next in
-    let turn = rw (← c.u32_at.ensures, ← c.loop-i.invariant) at (least-turn c.args.openings.now c.loop-i.i (omega arith) (omega arith)) in
-    let most = of-pick (λ (k : ℕ). max n (a + 1) ≡ k) (ltb a n) n (a + 1) (λ e. omega (arith, ltb-true a n e)) (λ e. omega (arith, ltb-false a n e)) in
+    let from = least-turn c.args.openings.now c.loop-i.i (omega arith) (omega arith) in
+    let turn = rw (← c.u32_at.ensures, ← c.loop-i.invariant) at from in
+    let most = of-pick (λ (k : ℕ). max n (a + 1) ≡ k) (ltb a n) n (a + 1)
+    (λ e. omega (arith, ltb-true a n e)) (λ e. omega (arith, ltb-false a n e)) in
     let next : c.max-next.result ≡ max n (a + 1) = grind (arith, common_steps) in
     next ∙ most ∙ sym turn
 
