@@ -82,7 +82,7 @@ fn plan_for(store: &[u8], datagram: &[u8], used: usize) -> Plan
     ensures effect { effect_by result.decision ≡ effect_in (store_in store.now) (datagram_in datagram.now) }
     ensures slots { Placed (store_in store.now) result }
 {
-    let kind = kind_in(datagram);
+    let kind = kind_in(datagram).unwrap();
     let number = channel_in(datagram, kind);
     let found = find_channel(store, number);
     let c = end_of(store, number, found);
