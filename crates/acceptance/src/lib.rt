@@ -82,7 +82,7 @@ fn plan_for(store: &[u8], datagram: &[u8], used: usize) -> Plan
     ensures effect { effect_by result.decision ≡ effect_in (store_in store.now) (datagram_in datagram.now) }
     ensures slots { Placed (store_in store.now) result }
 {
-    let kind = kind_in(datagram);
+    let kind = kind_in(datagram).unwrap();
     let number = channel_in(datagram, kind);
     let found = find_channel(store, number);
     let c = end_of(store, number, found);
@@ -98,9 +98,11 @@ fn plan_for(store: &[u8], datagram: &[u8], used: usize) -> Plan
     }
 }
 
-// The end that changes or is added is stored at its slot.
+// The end that changes or is added is stored at its slot, and the bytes then tell that store. Each variant has an arm of
+// its own: in an arm of both the check does not know that the end's numbers fit their types.
 fn put_end(store: &mut [u8], at: Option<usize>, ends: EndEdit)
-    requires { Exact store.old × (entries_fit (store_in store.old) ≡ true) × ((j : ℕ) → at ≡ Some j → j < channel_limit) }
+    requires { Exact store.old × (entries_fit (store_in store.old) ≡ true) ×
+        ((j : ℕ) → at ≡ Some j → j < channel_limit) }
     ensures bytes { store.new ≡ bytes_of (with_end (store_in store.old) at (ends_by ends)) }
     ensures told { store_in store.new ≡ with_end (store_in store.old) at (ends_by ends) }
 {

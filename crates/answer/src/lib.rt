@@ -1,42 +1,37 @@
 // The answer to a datagram on a fit store: the number of the first line of the table that applies, 0 where none does.
-// Lines 2 to 4 are for every kind, 5 and 7 for those about an end, 6 for the kinds 1 to 4. They stand here in their
-// order.
+// Lines 2 to 4 are for every kind, 5 and 7 for those about an end, 6 for those that need it OPEN. They stand here in
+// their order.
 #![tactic(auto)]
 
-ghost use Rattle.std.specs.Prelude.{◌≡◌, true, false, ◌≤◌, length};
+ghost use Rattle.std.specs.Prelude.{◌≡◌, true, false, [], ◌∷◌, ◌≤◌, length};
 ghost use Rattle.std.proofs.Math.Option.{some};
 ghost use Rattle.slots.specs.declared.Channel.{Channel};
 ghost use Rattle.slots.specs.Layout.{records_from, store_in};
 ghost use Rattle.slots.specs.Fit.{is_fit};
-ghost use Rattle.datagram.specs.Kind.{open_try, kind_of, size_of};
-ghost use Rattle.datagram.specs.Datagram.{context_in, datagram_of, datagram_in, is_sound};
+ghost use Rattle.datagram.specs.Kind.{send, receive, write, acknowledge, open_try, kind_of, kind_by, only, size_of};
+ghost use Rattle.datagram.specs.Datagram.{kind_in, context_in, datagram_of, datagram_in, is_sound};
 ghost use Rattle.rules.specs.Refusals.{first_given, makes_end, refusals, or_none, end_for};
 ghost use Rattle.verdicts.specs.Lines.{number_behind};
 ghost use Rattle.answer.specs.Known.{Known};
 
 use closing::{close_confirm_row, close_init_row, time_out_on_close_row};
 use datagram::Context;
+use datagram::kind::Kind;
 use datagram::place::version_place;
 use datagram::read::{
     channel_in, context_in, counterparty_channel_in, counterparty_port_in, digest_in,
-    end_verdict_in, kind_in, order_in, packet_in, sequence_in, timeout_in, verdict_in,
+    end_verdict_in, order_in, packet_in, sequence_in, timeout_in, verdict_in,
 };
 use handshake::no_channel;
 use heights::goes_back;
 use rows::{acknowledge_row, receive_row, send_row, time_out_row, write_row};
 use slots::slot::channel_at;
 use slots::{Channel, Layout, OwnHeight, OwnTime, PortChannel, VERSION};
-use sound::is_sound;
+use sound::sound_kind;
 use steps::{open_acknowledge_row, open_confirm_row, open_init_row, open_try_row};
 use tables::scan::find_channel;
 use versions::{version_fits, version_from};
-use wire::{Frame, frame_in, u64_at};
-
-const ACKNOWLEDGE: u16 = 4;
-
-const OPEN_INIT: u16 = 6;
-
-const OPEN_TRY: u16 = 7;
+use wire::u64_at;
 
 // Lines 2 and 3, behind a fit store (1): room for every record that is emitted, a sound datagram.
 pub fn answer(store: &[u8], room: usize, datagram: &[u8]) -> u8
@@ -48,18 +43,33 @@ pub fn answer(store: &[u8], room: usize, datagram: &[u8]) -> u8
     if room < Layout::OUTPUT {
         return 2;
     }
-    let Frame::Whole { kind, length } = frame_in(datagram) else {
+    let Some(kind) = sound_kind(datagram) else {
         return 3;
     };
-    if !is_sound(datagram, kind, length) {
-        return 3;
-    }
-    answer_sound(store, datagram)
+    answer_sound(store, datagram, kind)
 }
 
-// Line 4: the clock. An open init (6) and an open try (7) make an end, and are about none.
-fn answer_sound(store: &[u8], datagram: &[u8]) -> u8
-    requires { (is_fit store.now ≡ true) × (is_sound datagram.now ≡ true) }
+// An open init and an open try make an end, and are about none.
+fn makes_end(kind: Kind) -> bool
+    ensures { result ≡ makes_end (some (kind_by kind)) }
+{
+    matches!(kind, Kind::OpenInit | Kind::OpenTry)
+}
+
+// The kinds that need an OPEN end.
+fn needs_open(kind: Kind) -> bool
+    ensures { result ≡ only (send ∷ receive ∷ write ∷ acknowledge ∷ []) (some (kind_by kind)) }
+{
+    matches!(
+        kind,
+        Kind::Send | Kind::Receive | Kind::Write | Kind::Acknowledge
+    )
+}
+
+// Line 4: the clock.
+fn answer_sound(store: &[u8], datagram: &[u8], kind: Kind) -> u8
+    requires { (is_fit store.now ≡ true) × (is_sound datagram.now ≡ true) ×
+        (kind_of (kind_in datagram.now) ≡ some (kind_by kind)) }
     ensures { result ≡
         number_behind 3 (datagram_in datagram.now).kind (store_in store.now)
         (datagram_in datagram.now)
@@ -69,26 +79,25 @@ fn answer_sound(store: &[u8], datagram: &[u8]) -> u8
     if goes_back(OwnHeight(u64_at(store, 8)), OwnTime(u64_at(store, 16)), x) {
         return 4;
     }
-    let kind = kind_in(datagram);
     let count = (store.len() - Layout::RECORDS_FROM) / Layout::SLOT;
-    if (kind == OPEN_INIT) | (kind == OPEN_TRY) {
+    if makes_end(kind) {
         return answer_by_kind(store, count, datagram, kind, x, no_channel());
     }
     answer_on(store, count, datagram, kind, x)
 }
 
-// Lines 5 to 7: the channel end that the datagram is about, in state OPEN for the kinds 1 to 4, and its port.
-fn answer_on(store: &[u8], count: usize, datagram: &[u8], kind: u16, x: Context) -> u8
-    requires { Known store.now count datagram.now kind x × (makes_end (kind_of kind) ≡ false) }
+// Lines 5 to 7: the channel end that the datagram is about, in state OPEN for those that need it, and its port.
+fn answer_on(store: &[u8], count: usize, datagram: &[u8], kind: Kind, x: Context) -> u8
+    requires { Known store.now count datagram.now kind x × (makes_end (some (kind_by kind)) ≡ false) }
     ensures { result ≡
-        number_behind 4 (kind_of kind) (store_in store.now) (datagram_of (kind_of kind) datagram.now)
-        (or_none (end_for (store_in store.now) (datagram_of (kind_of kind) datagram.now))) }
+        number_behind 4 (some (kind_by kind)) (store_in store.now) (datagram_of (some (kind_by kind)) datagram.now)
+        (or_none (end_for (store_in store.now) (datagram_of (some (kind_by kind)) datagram.now))) }
 {
     let Some(j) = find_channel(store, channel_in(datagram, kind)) else {
         return 5;
     };
     let c = channel_at(store, Layout::HEADER + Layout::SLOT * j);
-    if (kind <= ACKNOWLEDGE) & (c.state != Channel::OPEN) {
+    if needs_open(kind) & (c.state != Channel::OPEN) {
         return 6;
     }
     if x.port != c.own.port {
@@ -97,30 +106,48 @@ fn answer_on(store: &[u8], count: usize, datagram: &[u8], kind: u16, x: Context)
     answer_by_kind(store, count, datagram, kind, x, c)
 }
 
-// Lines 8 to 27: those of the datagram's own kind. Unknown kinds were refused with 3.
-fn answer_by_kind(store: &[u8], count: usize, d: &[u8], kind: u16, x: Context, c: Channel) -> u8
+// Lines 8 to 27: those of the datagram's own kind.
+fn answer_by_kind(store: &[u8], count: usize, d: &[u8], kind: Kind, x: Context, c: Channel) -> u8
     requires { Known store.now count d.now kind x }
-    ensures { result ≡ number_behind 7 (kind_of kind) (store_in store.now) (datagram_of (kind_of kind) d.now) c }
+    ensures { result ≡
+        number_behind 7 (some (kind_by kind)) (store_in store.now) (datagram_of (some (kind_by kind)) d.now) c }
 {
     match kind {
-        0 | 13..=65535 => 3,
-        1 => send_row(store, count, x, timeout_in(d), c),
-        2 => receive_row(store, count, x, packet_in(d), verdict_in(d, 2), c),
-        3 => write_row(store, count, sequence_in(d), digest_in(d, 3), c),
-        4 => {
+        Kind::Send => send_row(store, count, x, timeout_in(d), c),
+        Kind::Receive => receive_row(store, count, x, packet_in(d), verdict_in(d, kind), c),
+        Kind::Write => write_row(store, count, sequence_in(d), digest_in(d, kind), c),
+        Kind::Acknowledge => {
             let p = packet_in(d);
-            acknowledge_row(store, count, x, p, digest_in(d, 4), verdict_in(d, 4), c)
+            acknowledge_row(
+                store,
+                count,
+                x,
+                p,
+                digest_in(d, kind),
+                verdict_in(d, kind),
+                c,
+            )
         }
-        5 => time_out_row(store, count, packet_in(d), verdict_in(d, 5), c),
-        6 => open_init_row(store, version_fits(d, version_place(6))),
-        7 => answer_try(store, d, x),
-        8 => open_acknowledge_row(x, counterparty_channel_in(d, 8), end_verdict_in(d, 8), c),
-        9 => open_confirm_row(x, end_verdict_in(d, 9), c),
-        10 => close_init_row(x, c),
-        11 => close_confirm_row(x, end_verdict_in(d, 11), c),
-        12 => {
+        Kind::TimeOut => time_out_row(store, count, packet_in(d), verdict_in(d, kind), c),
+        Kind::OpenInit => open_init_row(store, version_fits(d, version_place(kind))),
+        Kind::OpenTry => answer_try(store, d, x),
+        Kind::OpenAcknowledge => {
+            let channel = counterparty_channel_in(d, kind);
+            open_acknowledge_row(x, channel, end_verdict_in(d, kind), c)
+        }
+        Kind::OpenConfirm => open_confirm_row(x, end_verdict_in(d, kind), c),
+        Kind::CloseInit => close_init_row(x, c),
+        Kind::CloseConfirm => close_confirm_row(x, end_verdict_in(d, kind), c),
+        Kind::TimeOutOnClose => {
             let p = packet_in(d);
-            time_out_on_close_row(store, count, p, end_verdict_in(d, 12), verdict_in(d, 12), c)
+            time_out_on_close_row(
+                store,
+                count,
+                p,
+                end_verdict_in(d, kind),
+                verdict_in(d, kind),
+                c,
+            )
         }
     }
 }
@@ -134,13 +161,13 @@ fn answer_try(store: &[u8], datagram: &[u8], x: Context) -> u8
         number_behind 7 (some open_try) (store_in store.now)
         (datagram_of (some open_try) datagram.now) c }
 {
-    let order = order_in(datagram, OPEN_TRY);
+    let order = order_in(datagram, Kind::OpenTry);
     let counterparty = PortChannel {
         port: counterparty_port_in(datagram),
-        channel: counterparty_channel_in(datagram, OPEN_TRY),
+        channel: counterparty_channel_in(datagram, Kind::OpenTry),
     };
-    let v = end_verdict_in(datagram, OPEN_TRY);
-    let at = version_place(OPEN_TRY);
+    let v = end_verdict_in(datagram, Kind::OpenTry);
+    let at = version_place(Kind::OpenTry);
     if !version_fits(datagram, at) {
         return open_try_row(store, x, order, counterparty, v, false, [0u8; VERSION]);
     }

@@ -1,8 +1,12 @@
 -- Kinds and parts by their numbers, and the room of a part in a body. Assumes nothing.
 use Rattle.wire.proofs.Prelude.{◌≡◌, refl, sym, ap, ◌∙◌, Bool, true, false, List, [], ◌∷◌, Option, some, none}
+use Rattle.std.specs.Prelude.{Result, Ok, Err, IsOk}
 use Rattle.wire.proofs.Prelude.{inl, inr, ℕ, ◌+◌, ◌≤◌, arith, eqb, eqb-true, eqb-false, eq-eqb}
-use Rattle.wire.specs.Names.{pick, with_number, Every}
+use Rattle.wire.specs.Names.{pick, is_some, with_number, Every}
 use Rattle.wire.proofs.Laws.{or-either, clash, cases, some_is, with-number, same-number}
+use Rattle.datagram.specs.declared.kind.Kind.{Kind as Named}
+use Rattle.datagram.specs.declared.kind.UnknownKind.{UnknownKind}
+use Rattle.datagram.specs.Kind.{Decodes, kind_by}
 use Rattle.datagram.specs.Names.{Kind, send, receive, write, acknowledge, time_out}
 use Rattle.datagram.specs.Names.{open_init, open_try, open_acknowledge, open_confirm}
 use Rattle.datagram.specs.Names.{close_init, close_confirm, time_out_on_close, kinds, kind_number, kind_of}
@@ -44,6 +48,14 @@ of_number j n =
     (λ e.
     cases (is_of j (kind_of n))
     (λ f. absurd (eqb-false n (kind_number j) e (number_of n j (is-of j (kind_of n) f)))) (λ f. f ∙ sym e))
+
+-- what is read of a number: its kind, and a kind where there is one
+pub decoded : (n : ℕ) (r : Result Named UnknownKind) (k : Named) → Decodes n r → r ≡ Ok k → kind_of n ≡ some (kind_by k)
+decoded n r k h e = rw e at h
+
+pub decodes : (n : ℕ) (r : Result Named UnknownKind) → Decodes n r → is_some (kind_of n) ≡ true → IsOk r
+decodes n (Ok k) h q = refl
+decodes n (Err e) h q = clash {b = false} (rw h.1 at q) refl
 
 -- a datagram is not of two kinds
 pub kinds-apart {ℓ} : {A : Type ℓ} {x : Option Kind} (j k : Kind) → x ≡ some j → x ≡ some k → is_kind j k ≡ false → A

@@ -1,10 +1,15 @@
 -- The kinds of datagrams: their numbers, and the parts of their bodies. A new kind is a constructor and a line of each.
-use Rattle.std.specs.Prelude.{Bool, false, List, [], ◌∷◌, ℕ, ◌+◌, leb, eqb}
+use Rattle.std.specs.Prelude.{◌≡◌, Bool, false, List, [], ◌∷◌, ℕ, ◌+◌, leb, eqb, Result, MatchResult}
 use Rattle.std.proofs.Math.Option.{Option, none, some}
 use Rattle.wire.specs.Choice.{◌or◌, pick, with_number}
 use Rattle.wire.specs.Bytes.{digest_size}
 use Rattle.wire.specs.Frame.{frame_size}
 use Rattle.slots.specs.Layout.{slot_size}
+use Rattle.datagram.specs.declared.kind.Kind as declared
+use Rattle.datagram.specs.declared.kind.Kind.TheVariants.{Send, Receive, Write, Acknowledge, TimeOut}
+use Rattle.datagram.specs.declared.kind.Kind.TheVariants.{OpenInit, OpenTry, OpenAcknowledge, OpenConfirm}
+use Rattle.datagram.specs.declared.kind.Kind.TheVariants.{CloseInit, CloseConfirm, TimeOutOnClose}
+use Rattle.datagram.specs.declared.kind.UnknownKind.{UnknownKind}
 
 pub data Kind : Type 0 where
   send receive write acknowledge time_out : Kind
@@ -33,6 +38,24 @@ kind_number time_out_on_close = 12
 -- THE KIND of a number: none where no datagram has it
 abbrev pub kind_of : ℕ → Option Kind
 kind_of n = with_number kind_number n kinds
+
+-- the kind that the code names, and what it makes of a number: its kind, or an error where no kind has it
+abbrev pub kind_by : declared.Kind → Kind
+kind_by Send = send
+kind_by Receive = receive
+kind_by Write = write
+kind_by Acknowledge = acknowledge
+kind_by TimeOut = time_out
+kind_by OpenInit = open_init
+kind_by OpenTry = open_try
+kind_by OpenAcknowledge = open_acknowledge
+kind_by OpenConfirm = open_confirm
+kind_by CloseInit = close_init
+kind_by CloseConfirm = close_confirm
+kind_by TimeOutOnClose = time_out_on_close
+
+abbrev pub Decodes : ℕ → Result declared.Kind UnknownKind → Type 0
+Decodes n r = MatchResult r (λ k. kind_of n ≡ some (kind_by k)) (λ e. (e.0 ≡ n) × (kind_of n ≡ none))
 
 -- whether a kind is this one, or one of these; an unknown one is none
 abbrev pub is_kind : Kind → Kind → Bool

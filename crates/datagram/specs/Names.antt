@@ -2,7 +2,7 @@
 unfoldable pub use Rattle.datagram.specs.Kind.{only, body, has_part, parts_size, size_before, is_sized}
 pub use Rattle.datagram.specs.Kind.{Kind, send, receive, write, acknowledge, time_out}
 pub use Rattle.datagram.specs.Kind.{open_init, open_try, open_acknowledge, open_confirm}
-pub use Rattle.datagram.specs.Kind.{close_init, close_confirm, time_out_on_close, kinds, kind_number, kind_of}
+pub use Rattle.datagram.specs.Kind.{close_init, close_confirm, time_out_on_close, kinds, kind_number, kind_of, kind_by}
 pub use Rattle.wire.specs.Frame.{frame_size}
 pub use Rattle.datagram.specs.Kind.{is_kind, is_of, context_size, packet_size, verdict_size, end_verdict_size, body_from}
 pub use Rattle.datagram.specs.Kind.{Part, channel_part, sequence_part, timeout_part, digest_part, packet_part}

@@ -1,6 +1,7 @@
 // Datagrams and the records that are handed out, in lent bytes. Their types; specs/ says what they mean.
 #![tactic(auto)]
 
+pub mod kind; // the kinds
 pub mod place; // where the parts of a body lie
 pub mod read; // the parts, read by value
 

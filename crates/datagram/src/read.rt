@@ -1,20 +1,22 @@
 // What a datagram holds, read into structs by value. A part that lies at one place in every kind that has it is read
 // there; of another the kind tells the place.
 ghost use Rattle.std.specs.Prelude.{◌≡◌, true, ◌+◌, ◌≤◌, length};
+ghost use Rattle.std.proofs.Math.Option.{some};
 ghost use Rattle.wire.specs.Bytes.{field};
 ghost use Rattle.slots.specs.Part.{timeout_in};
 ghost use Rattle.wire.specs.Frame.{frame_size};
-ghost use Rattle.datagram.specs.Kind.{kind_of, body_from, packet_size, verdict_size, end_verdict_size};
+ghost use Rattle.datagram.specs.Kind.{Decodes, kind_by, body_from, packet_size, verdict_size, end_verdict_size};
 ghost use Rattle.datagram.specs.Kind.{digest_part, verdict_part, counterparty_part, order_part, end_verdict_part};
-ghost use Rattle.datagram.specs.Kind.{body_of, has_part, size_of};
+ghost use Rattle.datagram.specs.Kind.{body, has_part, size_of};
 ghost use Rattle.datagram.specs.Datagram.{kind_in, context_in, packet_in, block_in, verdict_in, end_verdict_in};
 ghost use Rattle.datagram.specs.Datagram.{digest_from, verdict_from, end_verdict_from, counterparty_from, order_from};
 ghost use Rattle.datagram.specs.Datagram.{channel_from};
 
-use super::place::{
+use crate::kind::{Kind, UnknownKind};
+use crate::place::{
     BODY, counterparty_place, digest_place, end_verdict_place, order_place, verdict_place,
 };
-use super::{Block, Context, EndVerdict, Packet, Verdict};
+use crate::{Block, Context, EndVerdict, Packet, Verdict};
 use slots::part::{port_channel_at, timeout_at};
 use slots::slot::channel_at;
 use slots::{OtherHeight, OtherTime, OwnHeight, OwnTime, Timeout};
@@ -78,12 +80,13 @@ fn end_verdict_at(d: &[u8], at: usize) -> EndVerdict
     }
 }
 
+// The kind that the frame names.
 #[tactic(auto, unfolding(crate::specs::Datagram::kind_in))]
-pub fn kind_in(d: &[u8]) -> u16
+pub fn kind_in(d: &[u8]) -> Result<Kind, UnknownKind>
     requires { frame_size ≤ length d.now }
-    ensures { result ≡ kind_in d.now }
+    ensures { Decodes (kind_in d.now) result }
 {
-    u16_at(d, 4)
+    Kind::try_from(u16_at(d, 4))
 }
 
 pub fn timeout_in(d: &[u8]) -> Timeout
@@ -114,7 +117,7 @@ pub fn packet_in(d: &[u8]) -> Packet
     }
 }
 
-// The port of the counterparty, in the kinds 6 and 7.
+// The port of the counterparty, in an open init and an open try.
 pub fn counterparty_port_in(d: &[u8]) -> u16
     requires { body_from + 2 ≤ length d.now }
     ensures { result ≡ field body_from 2 d.now }
@@ -122,56 +125,68 @@ pub fn counterparty_port_in(d: &[u8]) -> u16
     u16_at(d, BODY)
 }
 
-// BY KIND, each for the kinds that have the part: the digest of 1, 3 and 4.
-pub fn digest_in(d: &[u8], kind: u16) -> [u8; 32]
-    requires { (has_part digest_part (body_of (kind_of kind)) ≡ true) × (size_of (kind_of kind) ≤ length d.now) }
-    ensures { result ≡ digest_from (kind_of kind) d.now }
+// BY KIND, each for the kinds that have the part: the digest of a send, a write and an acknowledge.
+#[tactic(auto, using(crate::proofs::KindLaws::part_room), unfolding(crate::specs::Datagram::digest_from))]
+pub fn digest_in(d: &[u8], kind: Kind) -> [u8; 32]
+    requires { (has_part digest_part (body (kind_by kind)) ≡ true) × (size_of (some (kind_by kind)) ≤ length d.now) }
+    ensures { result ≡ digest_from (some (kind_by kind)) d.now }
 {
     array_at(d, digest_place(kind))
 }
 
-// The verdict of 2, 4, 5 and 12.
-pub fn verdict_in(d: &[u8], kind: u16) -> Verdict
-    requires { (has_part verdict_part (body_of (kind_of kind)) ≡ true) × (size_of (kind_of kind) ≤ length d.now) }
-    ensures { result ≡ verdict_from (kind_of kind) d.now }
+// The verdict of a receive, an acknowledge, a time-out and a time-out on close.
+#[tactic(auto, using(crate::proofs::KindLaws::part_room), unfolding(crate::specs::Datagram::verdict_from))]
+pub fn verdict_in(d: &[u8], kind: Kind) -> Verdict
+    requires { (has_part verdict_part (body (kind_by kind)) ≡ true) × (size_of (some (kind_by kind)) ≤ length d.now) }
+    ensures { result ≡ verdict_from (some (kind_by kind)) d.now }
 {
     verdict_at(d, verdict_place(kind))
 }
 
-// The end verdict of 7, 8, 9, 11 and 12.
-pub fn end_verdict_in(d: &[u8], kind: u16) -> EndVerdict
-    requires { (has_part end_verdict_part (body_of (kind_of kind)) ≡ true) × (size_of (kind_of kind) ≤ length d.now) }
-    ensures { result ≡ end_verdict_from (kind_of kind) d.now }
+// The end verdict of an open try, acknowledge and confirm, of a close confirm and a time-out on close.
+#[tactic(auto, using(crate::proofs::KindLaws::part_room), unfolding(crate::specs::Datagram::end_verdict_from))]
+pub fn end_verdict_in(d: &[u8], kind: Kind) -> EndVerdict
+    requires { (has_part end_verdict_part (body (kind_by kind)) ≡ true) ×
+        (size_of (some (kind_by kind)) ≤ length d.now) }
+    ensures { result ≡ end_verdict_from (some (kind_by kind)) d.now }
 {
     end_verdict_at(d, end_verdict_place(kind))
 }
 
-// The channel of the counterparty, in 7 and 8.
-pub fn counterparty_channel_in(d: &[u8], kind: u16) -> u32
-    requires { (has_part counterparty_part (body_of (kind_of kind)) ≡ true) × (size_of (kind_of kind) ≤ length d.now) }
-    ensures { result ≡ (counterparty_from (kind_of kind) d.now).channel }
+// The channel of the counterparty, in an open try and an open acknowledge.
+#[tactic(auto, using(crate::proofs::KindLaws::part_room), unfolding(crate::specs::Datagram::counterparty_from))]
+pub fn counterparty_channel_in(d: &[u8], kind: Kind) -> u32
+    requires { (has_part counterparty_part (body (kind_by kind)) ≡ true) ×
+        (size_of (some (kind_by kind)) ≤ length d.now) }
+    ensures { result ≡ (counterparty_from (some (kind_by kind)) d.now).channel }
 {
     u32_at(d, counterparty_place(kind))
 }
 
-// The order of 6 and 7.
-pub fn order_in(d: &[u8], kind: u16) -> u8
-    requires { (has_part order_part (body_of (kind_of kind)) ≡ true) × (size_of (kind_of kind) ≤ length d.now) }
-    ensures { result ≡ order_from (kind_of kind) d.now }
+// The order of an open init and an open try.
+#[tactic(auto, using(crate::proofs::KindLaws::part_room), unfolding(crate::specs::Datagram::order_from))]
+pub fn order_in(d: &[u8], kind: Kind) -> u8
+    requires { (has_part order_part (body (kind_by kind)) ≡ true) × (size_of (some (kind_by kind)) ≤ length d.now) }
+    ensures { result ≡ order_from (some (kind_by kind)) d.now }
 {
     d[order_place(kind)]
 }
 
-// The channel that it is about: its own for 1, 3 and 8 to 11, the destination for 2, the source for 4, 5 and 12. The
-// others make an end, or are unknown, and are about none.
-pub fn channel_in(d: &[u8], kind: u16) -> u32
-    requires { size_of (kind_of kind) ≤ length d.now }
-    ensures { result ≡ channel_from (kind_of kind) d.now }
+// The channel that it is about: its own part, or the packet's destination for a receive, its source for the others. An
+// open init and an open try make an end, and are about none.
+pub fn channel_in(d: &[u8], kind: Kind) -> u32
+    requires { size_of (some (kind_by kind)) ≤ length d.now }
+    ensures { result ≡ channel_from (some (kind_by kind)) d.now }
 {
     match kind {
-        1 | 3 | 8 | 9 | 10 | 11 => u32_at(d, BODY),
-        2 => u32_at(d, BODY + 32),
-        4 | 5 | 12 => u32_at(d, BODY + 26),
-        _ => 0,
+        Kind::Receive => u32_at(d, BODY + 32),
+        Kind::Acknowledge | Kind::TimeOut | Kind::TimeOutOnClose => u32_at(d, BODY + 26),
+        Kind::OpenInit | Kind::OpenTry => 0,
+        Kind::Send
+        | Kind::Write
+        | Kind::OpenAcknowledge
+        | Kind::OpenConfirm
+        | Kind::CloseInit
+        | Kind::CloseConfirm => u32_at(d, BODY),
     }
 }

@@ -3,10 +3,9 @@
 // is about a packet.
 #![tactic(auto)]
 
-ghost use Rattle.std.specs.Prelude.{◌≡◌, true, false, ◌+◌, ◌≤◌, length};
+ghost use Rattle.std.specs.Prelude.{◌≡◌, false, ◌+◌, ◌≤◌, length};
 ghost use Rattle.std.proofs.Math.Option.{some};
-ghost use Rattle.wire.specs.Choice.{is_some};
-ghost use Rattle.datagram.specs.Kind.{send, receive, write, acknowledge, kind_of, body_from, packet_size, size_of};
+ghost use Rattle.datagram.specs.Kind.{send, receive, write, acknowledge, kind_by, body_from, packet_size, size_of};
 ghost use Rattle.datagram.specs.Datagram.{packet_in, packet_from, sequence_from, digest_from, datagram_of};
 ghost use Rattle.rules.specs.Ordering.{received_kind, is_send_at_top, is_receive_at_top, is_acknowledge_at_top, is_timeout_at_top};
 ghost use Rattle.rules.specs.Refusals.{comes_late};
@@ -16,6 +15,7 @@ ghost use Rattle.emit.specs.Output.{packet_record, emitted_by};
 ghost use Rattle.effects.specs.Decided.{effect_by, Left};
 
 use datagram::Packet;
+use datagram::kind::Kind;
 use datagram::read::{context_in, digest_in, packet_in, sequence_in, timeout_in};
 use emit::Emission;
 use ends::{acknowledged_end, received_end, sent_end, timed_out_end};
@@ -50,7 +50,7 @@ fn sent_packet(d: &[u8], c: Channel) -> Packet
         timeout: timeout_in(d),
         source: c.own,
         destination: c.counterparty,
-        digest: digest_in(d, 1),
+        digest: digest_in(d, Kind::Send),
     }
 }
 
@@ -114,7 +114,7 @@ fn decide_write(d: &[u8], c: Channel) -> Decision
         writes_acknowledgement c (sequence_from (some write) d.now) (digest_from (some write) d.now) }
 {
     let sequence = sequence_in(d);
-    let digest = digest_in(d, 3);
+    let digest = digest_in(d, Kind::Write);
     Decision {
         ends: EndEdit::Leaves,
         edit: RecordEdit::Writes(plain_record(
@@ -143,7 +143,7 @@ fn decide_acknowledge(d: &[u8], c: Channel) -> Decision
         edit: freed_commitment(c, packet.sequence),
         emission: Emission::Acknowledged {
             packet,
-            digest: digest_in(d, 4),
+            digest: digest_in(d, Kind::Acknowledge),
         },
     }
 }
@@ -186,22 +186,23 @@ fn decide_moved(end: Channel) -> Decision
     }
 }
 
-// An accepted datagram's kind is known, and what it needs is left: a counter below its top, or a channel number.
-pub fn decide(d: &[u8], kind: u16, next: u64, c: Channel) -> Decision
-    requires { (is_some (kind_of kind) ≡ true) × (size_of (kind_of kind) ≤ length d.now) ×
-        Left (kind_of kind) next c (datagram_of (kind_of kind) d.now) }
-    ensures { effect_by result ≡ effect_for (kind_of kind) next c (datagram_of (kind_of kind) d.now) }
+// What an accepted datagram needs is left: a counter below its top, or a channel number.
+#[tactic(auto, unfolding(rules::specs::Acceptance::effect_for, rules::specs::Acceptance::effect_of))]
+pub fn decide(d: &[u8], kind: Kind, next: u64, c: Channel) -> Decision
+    requires { (size_of (some (kind_by kind)) ≤ length d.now) ×
+        Left (some (kind_by kind)) next c (datagram_of (some (kind_by kind)) d.now) }
+    ensures { effect_by result ≡ effect_for (some (kind_by kind)) next c (datagram_of (some (kind_by kind)) d.now) }
 {
     match kind {
-        1 => decide_send(d, c),
-        2 => decide_receive(d, c),
-        3 => decide_write(d, c),
-        4 => decide_acknowledge(d, c),
-        5 | 12 => decide_time_out(d, c),
-        6 => decide_made(init_end(d, next)),
-        7 => decide_made(tried_end(d, next)),
-        8 => decide_moved(answered_end(d, c)),
-        9 => decide_moved(opened_end(c)),
-        _ => decide_moved(closed_end(c)),
+        Kind::Send => decide_send(d, c),
+        Kind::Receive => decide_receive(d, c),
+        Kind::Write => decide_write(d, c),
+        Kind::Acknowledge => decide_acknowledge(d, c),
+        Kind::TimeOut | Kind::TimeOutOnClose => decide_time_out(d, c),
+        Kind::OpenInit => decide_made(init_end(d, next)),
+        Kind::OpenTry => decide_made(tried_end(d, next)),
+        Kind::OpenAcknowledge => decide_moved(answered_end(d, c)),
+        Kind::OpenConfirm => decide_moved(opened_end(c)),
+        Kind::CloseInit | Kind::CloseConfirm => decide_moved(closed_end(c)),
     }
 }

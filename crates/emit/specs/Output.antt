@@ -4,9 +4,10 @@ use Rattle.wire.specs.Bytes.{little}
 use Rattle.slots.specs.declared.PortChannel.{PortChannel}
 use Rattle.datagram.specs.declared.Packet.{Packet}
 use Rattle.emit.specs.declared.Emission.{Emission}
-use Rattle.emit.specs.declared.Emission.TheVariants.{Sent, Delivered, TimedOut, Lapsed, Written, Acknowledged, Made, Nothing}
-use Rattle.datagram.specs.Emitted.{sent_kind, delivered_kind, written_kind, acknowledged_kind, timed_out_kind, lapsed_kind}
-use Rattle.datagram.specs.Emitted.{made_kind, framed, packet_bytes}
+use Rattle.emit.specs.declared.Emission.TheVariants.{Sent, Delivered, TimedOut, Lapsed, Written, Acknowledged}
+use Rattle.emit.specs.declared.Emission.TheVariants.{Made, Nothing}
+use Rattle.datagram.specs.Emitted.{sent_kind, delivered_kind, written_kind, acknowledged_kind, timed_out_kind}
+use Rattle.datagram.specs.Emitted.{lapsed_kind, made_kind, framed, packet_bytes}
 
 abbrev pub at_front : (emitted output : List ℕ) → List ℕ
 at_front e o = e ++ drop (length e) o

@@ -41,8 +41,8 @@ const LAPSED: u16 = 0x0106;
 const MADE: u16 = 0x0107;
 
 // A record that is emitted, or nothing: a packet alone under one of four kinds, a written acknowledgement's digest with
-// the destination and the sequence of its packet, an acknowledged packet with the digest, or the port and the channel of
-// a new end.
+// its packet's destination and sequence, an acknowledged packet with the digest, or the port and the channel of a new
+// end.
 #[derive(Clone, Copy)]
 pub enum Emission {
     Sent(Packet),

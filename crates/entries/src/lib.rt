@@ -16,7 +16,7 @@ use slots::{Channel, Key, Layout, Record, Timeout};
 use tables::ordering::{is_received, may_have_receipt, may_have_timeout_receipt};
 use tables::scan::{find_channel, first_record};
 use versions::is_padded;
-use wire::{is_zero_digest, u32_at, u64_at};
+use wire::{DIGEST, u32_at, u64_at};
 
 // INIT, TRYOPEN, OPEN or CLOSED, a known order, counters at least 1, a version with zeros behind it; an INIT end
 // names no counterparty's channel. The channel record from `at` on, field by field; the version and the counterparty's
@@ -41,7 +41,7 @@ pub fn channel_fits(s: &[u8], at: usize) -> bool
 fn has_zero_timeouts_and_digest(r: Record) -> bool
     ensures { result ≡ has_zero_timeouts_and_digest r }
 {
-    r.timeout == Timeout::NONE && is_zero_digest(r.digest)
+    r.timeout == Timeout::NONE && r.digest == [0; DIGEST]
 }
 
 // A packet record of this key, wherever it stands.

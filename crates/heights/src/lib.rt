@@ -40,7 +40,7 @@ fn time_at_receiver(t: Timeout) -> OwnTime
 pub fn no_timeout() -> Timeout
     ensures { result ≡ no_timeout }
 {
-    Timeout::default()
+    Timeout::NONE
 }
 
 #[tactic(auto, using(slots::proofs::FieldLaws::by_fields))]
@@ -55,7 +55,7 @@ pub fn same_timeout(t: Timeout, u: Timeout) -> bool
 pub fn is_no_timeout(t: Timeout) -> bool
     ensures { result ≡ same_timeout t no_timeout }
 {
-    t == no_timeout()
+    t == Timeout::NONE
 }
 
 // At or above a limit, of a height or a time. The default limit, 0, is none.

@@ -51,7 +51,7 @@ pub fn has_free(store: &[u8], count: usize) -> bool
     )
 }
 
-#[tactic(auto, using(slots::proofs::FieldLaws::by_fields, wire::proofs::ZeroLaws::equal_arrays), unfolding(rules::specs::Verdict::has_values))]
+#[tactic(auto, using(slots::proofs::FieldLaws::by_fields), unfolding(rules::specs::Verdict::has_values))]
 fn has_values(timeout: Timeout, digest: [u8; 32], r: Record) -> bool
     ensures { result ≡ has_values timeout digest (some r) }
 {

@@ -28,7 +28,7 @@ use tables::halves::has_record;
 use verdicts::{
     absence_difference, acknowledgement_difference, claims_taken, commitment_difference,
 };
-use wire::is_zero_digest;
+use wire::DIGEST;
 
 // Send (1): lines 10, 11, 19 and 20.
 pub fn send_row(store: &[u8], count: usize, x: Context, t: Timeout, c: Channel) -> u8
@@ -124,7 +124,7 @@ pub fn write_row(store: &[u8], count: usize, sequence: u64, digest: [u8; 32], c:
     if !is_received(store, count, c, sequence) {
         return 17;
     }
-    if is_zero_digest(digest) {
+    if digest == [0; DIGEST] {
         return 18;
     }
     if !has_free(store, count) {

@@ -7,6 +7,7 @@ use Rattle.wire.proofs.Prelude.{ltb-true, ltb-false, eqb-true, eqb-false, ne_eqb
 use borrow.Author.Tests.{lt-leb}
 use Rattle.wire.specs.Names.{◌and◌, ◌or◌, pick}
 use Rattle.wire.proofs.Laws.{cases}
+use Rattle.wire.proofs.ZeroLaws.{pointwise-same}
 use Rattle.slots.specs.declared.Timeout.{Timeout}
 use Rattle.slots.specs.declared.PortChannel.{PortChannel}
 use Rattle.slots.specs.declared.Record.{Record}
@@ -86,4 +87,4 @@ before-fields a b =
     (below-first a.kind b.kind _ ∙
     ap (λ (z : Bool). pick (eqb a.kind b.kind) z (ltb a.kind b.kind)) (below-last a.sequence b.sequence))
 
-pub ruleset by_fields = (and-both, or-either, same-timeout, same-port-channel, below-last, before-fields)
+pub ruleset by_fields = (pointwise-same, and-both, or-either, same-timeout, same-port-channel, below-last, before-fields)

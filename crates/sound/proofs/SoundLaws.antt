@@ -1,4 +1,6 @@
 -- A sound datagram by its frame, its length, its context and its body. Assumes nothing.
+use Rattle.std.specs.Prelude.{Some, None, IsSome}
+use mathlib.Core.Option.{none}
 use mathlib.Core.Path.{◌≡◌, refl, sym, ap, ◌∙◌}
 use mathlib.Core.Bool.{Bool, true, false}
 use mathlib.Core.List.{List, [], ◌∷◌}
@@ -9,7 +11,7 @@ use lib.ListN.{length, get_or}
 use borrow.Author.Tests.{eqb-true, eqb-false, ne_eqb, leb-true, leb-false, le-leb, lt-leb, lt-ltb, le-ltb}
 use Rattle.wire.specs.Choice.{◌and◌, is_some, is_in, with_number}
 use Rattle.wire.specs.Bytes.{Bytes, are_zero, part, field}
-use Rattle.wire.specs.declared.Frame.TheVariants.{Whole, Malformed}
+use Rattle.wire.specs.declared.Frame.{Frame}
 use Rattle.wire.specs.Frame.{frame_in}
 use Rattle.wire.proofs.ChoiceLaws.{and_both, and_assoc, and-false, clash, cases}
 use Rattle.wire.proofs.BytesLaws.{field_below, bytes-part}
@@ -83,19 +85,14 @@ arranged true false size context parts e = rw (and-false context, and-false size
 arranged false known size context parts e = clash {b = false} e refl
 
 -- THE FRAME
-clash-frame {ℓ} : {A : Type ℓ} {k n : ℕ} → Whole k n ≡ Malformed → A
-clash-frame p =
-    let z : ◌≡◌ {A = ℕ} 0 1 = cc in
-    absurd (omega arith)
-
 module _ (d : List ℕ) where
   abbrev framed : Bool
   framed = leb frame_size (length d) and eqb (field 0 4 d) (length d)
 
   -- bytes that are no frame
-  pub malformed : frame_in d ≡ Malformed → is_sound d ≡ false
+  pub malformed : frame_in d ≡ None → is_sound d ≡ false
   unfolding frame_in is_sound ◌and◌
-  malformed h = cases framed (λ e. clash-frame (rw e at h)) (λ e. rw e)
+  malformed h = cases framed (λ e. let no = rw e at h in cc) (λ e. rw e)
 
   by_parts : framed ≡ true →
       is_sound d ≡
@@ -103,17 +100,18 @@ module _ (d : List ℕ) where
   unfolding is_sound is_body_sound datagram_in
   by_parts e = arranged framed _ _ _ _ e
 
-  -- a frame of some kind and length
-  pub whole : {k n : ℕ} → frame_in d ≡ Whole k n →
-      (n ≡ length d) ×
-      (is_sound d ≡ (is_sized (kind_of k) n and (is_context_sound d and is_body_sound (kind_of k) d)))
+  -- a frame that is whole
+  pub whole : IsSome (frame_in d) →
+      is_sound d ≡
+      (is_sized (kind_of (kind_in d)) (length d) and (is_context_sound d and is_body_sound (kind_of (kind_in d)) d))
+  unfolding frame_in
+  whole h = cases framed by_parts (λ e. let no = rw e at h in cc)
+
+  pub kind-framed : {f : Frame} → frame_in d ≡ Some f → f.kind ≡ kind_in d
   unfolding frame_in kind_in
-  whole {k} {n} h = cases framed (λ e. by-frame e (rw e at h)) (λ e. clash-frame (sym (rw e at h))) where
-    by-frame : framed ≡ true → Whole (kind_in d) (field 0 4 d) ≡ Whole k n →
-        (n ≡ length d) ×
-        (is_sound d ≡ (is_sized (kind_of k) n and (is_context_sound d and is_body_sound (kind_of k) d)))
-    by-frame e same =
-        let size : field 0 4 d ≡ length d = eqb-true (field 0 4 d) (length d) (and_both e).1 in
-        let kind : k ≡ kind_in d = cc in
-        let long : n ≡ length d = cc in
-        (long, rw (kind, long) (by_parts e))
+  kind-framed {f} h = cases framed (λ e. let same = rw e at h in cc) (λ e. let no = rw e at h in cc)
+
+  -- bytes of no kind
+  pub unknown : kind_of (kind_in d) ≡ none → is_sound d ≡ false
+  unfolding is_sound ◌and◌
+  unknown h = cases framed (λ e. rw (e, h)) (λ e. rw e)

@@ -20,13 +20,17 @@ pub fn key_at(s: &[u8], at: usize) -> Key
     }
 }
 
-// A free slot has no key.
+// A free slot has no key. The sequence is what most records differ in, so it is compared first.
 #[tactic(auto, using(slots::proofs::FieldLaws::by_fields, slots::proofs::SlotTestLaws::held))]
 pub(crate) fn has_key(s: &[u8], at: usize, k: Key) -> bool
     requires { at + slot_size ≤ length s.now }
     ensures { result ≡ holds (has_key k) (slot_in record_in (part at slot_size s.now)) }
 {
-    key_at(s, at) == k && !are_zero(s, at, Layout::SLOT)
+    let own = key_at(s, at);
+    if own.sequence != k.sequence {
+        return false;
+    }
+    own == k && !are_zero(s, at, Layout::SLOT)
 }
 
 // A free slot stands behind every key.

@@ -12,7 +12,6 @@ use datagram::{Block, Packet, Verdict};
 use heights::{no_timeout, same_timeout};
 use ordering::absence_claim;
 use slots::{Channel, PortChannel, Timeout};
-use wire::same_digest;
 
 fn first_difference(
     v: Verdict,
@@ -40,8 +39,7 @@ fn first_difference(
     if !same_timeout(found, timeout) {
         return 144;
     }
-    let stored = v.digest;
-    if !same_digest(stored, digest) {
+    if v.digest != digest {
         return 145;
     }
     0

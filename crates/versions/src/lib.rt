@@ -3,7 +3,7 @@
 #![tactic(auto)]
 
 ghost use Rattle.std.specs.Prelude.{◌≡◌, true, ◌+◌, ◌≤◌, length, drop};
-ghost use Rattle.wire.specs.Bytes.{part, same};
+ghost use Rattle.wire.specs.Bytes.{part};
 ghost use Rattle.slots.specs.Limits.{version_size};
 ghost use Rattle.slots.specs.Version.{version_fits, padded, is_padded};
 ghost use Rattle.versions.specs.Leading.{before_zero};
@@ -54,11 +54,4 @@ pub fn version_from(d: &[u8], at: usize) -> [u8; VERSION]
     let mut v = [0u8; VERSION];
     put_part(&mut v, 0, d, at, d.len() - at);
     v
-}
-
-#[tactic(auto, using(wire::proofs::ZeroLaws::equal_arrays))]
-pub fn same_version(a: [u8; VERSION], b: [u8; VERSION]) -> bool
-    ensures { result ≡ same a b }
-{
-    a == b
 }

@@ -45,11 +45,6 @@ pub part-drop : (i : ℕ) (bs : List ℕ) → part i (length bs - i) bs ≡ drop
 unfolding part
 part-drop i bs = take_all (length bs - i) (drop i bs) (omega (arith, length-drop i bs))
 
--- one byte more
-pub part-more : (i n : ℕ) (bs : List ℕ) → i + n < length bs
-    → part i (n + 1) bs ≡ part i n bs ++ (get_or bs (i + n) 0 ∷ [])
-part-more i n bs h = rw (part-split n 1 i bs, part-one (i + n) bs h)
-
 -- NUMBERS
 pub number_of-append : (xs ys : List ℕ) → number_of (xs ++ ys) ≡ number_of xs + 256 ^ length xs * number_of ys
 unfolding number_of

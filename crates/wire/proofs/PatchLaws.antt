@@ -6,7 +6,7 @@ use native.Mathlib.Nat.{add-suc, suc-add, add-zero, zero-add}
 use native.Mathlib.Omega.{arith}
 use lib.ListN.{length, set, take, drop, replicate, length-set, length-drop, take-append-drop, length-append, length-replicate, replicate-append-replicate}
 use lib.Seq.{set_comm, set-append_left, length-take-le, sets, sets-eq, length-sets, drop_at}
-use Rattle.wire.specs.Bytes.{little, part, patch}
+use Rattle.wire.specs.Bytes.{part, patch}
 use Rattle.wire.proofs.BytesLaws.{length-little, length_part}
 
 -- as the library says it
@@ -38,13 +38,6 @@ pub patch-more : (i n x : ℕ) (xs bs : List ℕ) → length xs ≡ n
     → set (patch i xs bs) (i + n) x ≡ patch i (xs ++ (x ∷ [])) bs
 unfolding patch
 patch-more i n x xs bs l = patch-then i n xs (x ∷ []) bs l
-
--- two numbers, of n and m bytes, are stored one behind the other
-pub patch-two : (i n m x y : ℕ) (bs : List ℕ) {mid all : List ℕ}
-    → mid ≡ patch i (little n x) bs → all ≡ patch (i + n) (little m y) mid
-    → all ≡ patch i (little n x ++ little m y) bs
-patch-two i n m x y bs {mid} {all} p q =
-    rw (q, p) (patch-then i n (little n x) (little m y) bs (length-little n x))
 
 -- so a row of them is stored one by one
 pub ruleset one_by_one = (patch-append, length-append, length-little)

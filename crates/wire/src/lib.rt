@@ -117,42 +117,29 @@ pub fn put_part(s: &mut [u8], at: usize, from: &[u8], start: usize, size: usize)
     s[at..at + size].copy_from_slice(&from[start..start + size]);
 }
 
-#[tactic(auto, using(crate::proofs::ZeroLaws::equal_arrays))]
-pub fn same_digest(a: [u8; DIGEST], b: [u8; DIGEST]) -> bool
-    ensures { result ≡ same a b }
-{
-    a == b
-}
-
-pub fn is_zero_digest(d: [u8; DIGEST]) -> bool
-    ensures { result ≡ are_zero d }
-{
-    d == [0; DIGEST]
-}
-
-// What a slice is as a framed record: whole, or malformed, as where its length field is another.
+// What a framed record says of itself.
 #[derive(Clone, Copy)]
-pub enum Frame {
-    Whole { kind: u16, length: u32 },
-    Malformed,
+pub struct Frame {
+    pub kind: u16,
+    pub length: u32,
 }
 
-// The length field is compared as a usize: a slice can be longer than any length field says.
-pub fn frame_in(s: &[u8]) -> Frame
+// The frame of a slice that is a whole record, and none where it is another, as where its length field is. That field is
+// compared as a usize: a slice can be longer than any length field says.
+pub fn frame_in(s: &[u8]) -> Option<Frame>
     ensures { result ≡ frame_in s.now }
 {
     if s.len() < FRAME {
-        return Frame::Malformed;
+        return None;
     }
     let length = u32_at(s, 0);
-    if length as usize == s.len() {
-        Frame::Whole {
-            kind: u16_at(s, 4),
-            length,
-        }
-    } else {
-        Frame::Malformed
+    if length as usize != s.len() {
+        return None;
     }
+    Some(Frame {
+        kind: u16_at(s, 4),
+        length,
+    })
 }
 
 // A record's frame at the front of a slice.

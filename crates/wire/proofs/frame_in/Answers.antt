@@ -12,6 +12,6 @@ pub returns-then-length-s : goal.returns-then-length-s
 unfolding frame_in ◌and◌
 returns-then-length-s c = grind (arith, nat_tests)
 
-pub returns-else-length-s : goal.returns-else-length-s
+pub returns : goal.returns
 unfolding frame_in ◌and◌
-returns-else-length-s c = grind (arith, nat_tests)
+returns c = grind (arith, nat_tests)

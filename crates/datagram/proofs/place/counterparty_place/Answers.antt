@@ -1,0 +1,16 @@
+use Rattle.std.proofs.Common.{◌≡◌, refl, ◌+◌}
+use Rattle.std.proofs.Math.Option.{some}
+use Rattle.wire.specs.Choice.{◌or◌}
+use Rattle.datagram.specs.declared.kind.Kind.TheVariants.{OpenTry}
+use Rattle.datagram.specs.Kind.{kind_by, body_from, counterparty_part, body, has_part, size_before, place_of}
+use Rattle.datagram.proofs.MatchLaws.{by_part}
+use Rattle.datagram.proofs.place.counterparty_place.Goals as goal
+
+-- of the kinds that have it, one is not an open try
+pub returns-in_default : goal.returns-in_default
+unfolding body has_part size_before ◌or◌
+returns-in_default c =
+    by_part counterparty_part
+    (λ k. (k ≡ OpenTry → ⊥) → body_from + 4 ≡ place_of counterparty_part (some (kind_by k)))
+    (λ e0. absurd (e0 refl), (λ e0. refl, tt))
+    c.args.kind c.requires c.in_default.not-OpenTry
