@@ -1,10 +1,11 @@
-// The answer to a datagram on a fit store: the number of the first line of the table that applies, 0 where none does.
+// The answer to a datagram on a fit store: the refusal of the first line of the table that applies, if one does.
 // Lines 2 to 4 are for every kind, 5 and 7 for those about an end, 6 for those that need it OPEN. They stand here in
 // their order.
 #![tactic(auto)]
 
 ghost use Rattle.std.specs.Prelude.{◌≡◌, true, false, [], ◌∷◌, ◌≤◌, length};
 ghost use Rattle.std.proofs.Math.Option.{some};
+ghost use Rattle.refusal.specs.Number.{answer_of};
 ghost use Rattle.slots.specs.declared.Channel.{Channel};
 ghost use Rattle.slots.specs.Layout.{records_from, store_in};
 ghost use Rattle.slots.specs.Fit.{is_fit};
@@ -24,6 +25,7 @@ use datagram::read::{
 };
 use handshake::no_channel;
 use heights::goes_back;
+use refusal::Refusal;
 use rows::{acknowledge_row, receive_row, send_row, time_out_row, write_row};
 use slots::slot::channel_at;
 use slots::{Channel, Layout, OwnHeight, OwnTime, PortChannel, VERSION};
@@ -34,17 +36,17 @@ use versions::{version_fits, version_from};
 use wire::u64_at;
 
 // Lines 2 and 3, behind a fit store (1): room for every record that is emitted, a sound datagram.
-pub fn answer(store: &[u8], room: usize, datagram: &[u8]) -> u8
+pub fn answer(store: &[u8], room: usize, datagram: &[u8]) -> Result<(), Refusal>
     requires { is_fit store.now ≡ true }
-    ensures { result ≡
+    ensures { answer_of result ≡
         first_given (datagram_in datagram.now).kind
         (refusals store.now room datagram.now) }
 {
     if room < Layout::OUTPUT {
-        return 2;
+        return Err(Refusal::OutputShort);
     }
     let Some(kind) = sound_kind(datagram) else {
-        return 3;
+        return Err(Refusal::Malformed);
     };
     answer_sound(store, datagram, kind)
 }
@@ -67,17 +69,17 @@ fn needs_open(kind: Kind) -> bool
 }
 
 // Line 4: the clock.
-fn answer_sound(store: &[u8], datagram: &[u8], kind: Kind) -> u8
+fn answer_sound(store: &[u8], datagram: &[u8], kind: Kind) -> Result<(), Refusal>
     requires { (is_fit store.now ≡ true) × (is_sound datagram.now ≡ true) ×
         (kind_of (kind_in datagram.now) ≡ some (kind_by kind)) }
-    ensures { result ≡
+    ensures { answer_of result ≡
         number_behind 3 (datagram_in datagram.now).kind (store_in store.now)
         (datagram_in datagram.now)
         (or_none (end_for (store_in store.now) (datagram_in datagram.now))) }
 {
     let x = context_in(datagram);
     if goes_back(OwnHeight(u64_at(store, 8)), OwnTime(u64_at(store, 16)), x) {
-        return 4;
+        return Err(Refusal::GoesBack);
     }
     let count = (store.len() - Layout::RECORDS_FROM) / Layout::SLOT;
     if makes_end(kind) {
@@ -87,29 +89,42 @@ fn answer_sound(store: &[u8], datagram: &[u8], kind: Kind) -> u8
 }
 
 // Lines 5 to 7: the channel end that the datagram is about, in state OPEN for those that need it, and its port.
-fn answer_on(store: &[u8], count: usize, datagram: &[u8], kind: Kind, x: Context) -> u8
+fn answer_on(
+    store: &[u8],
+    count: usize,
+    datagram: &[u8],
+    kind: Kind,
+    x: Context,
+) -> Result<(), Refusal>
     requires { Known store.now count datagram.now kind x × (makes_end (some (kind_by kind)) ≡ false) }
-    ensures { result ≡
+    ensures { answer_of result ≡
         number_behind 4 (some (kind_by kind)) (store_in store.now) (datagram_of (some (kind_by kind)) datagram.now)
         (or_none (end_for (store_in store.now) (datagram_of (some (kind_by kind)) datagram.now))) }
 {
     let Some(j) = find_channel(store, channel_in(datagram, kind)) else {
-        return 5;
+        return Err(Refusal::NoChannel);
     };
     let c = channel_at(store, Layout::HEADER + Layout::SLOT * j);
     if needs_open(kind) & (c.state != Channel::OPEN) {
-        return 6;
+        return Err(Refusal::NotOpen);
     }
     if x.port != c.own.port {
-        return 7;
+        return Err(Refusal::NotOwner);
     }
     answer_by_kind(store, count, datagram, kind, x, c)
 }
 
 // Lines 8 to 27: those of the datagram's own kind.
-fn answer_by_kind(store: &[u8], count: usize, d: &[u8], kind: Kind, x: Context, c: Channel) -> u8
+fn answer_by_kind(
+    store: &[u8],
+    count: usize,
+    d: &[u8],
+    kind: Kind,
+    x: Context,
+    c: Channel,
+) -> Result<(), Refusal>
     requires { Known store.now count d.now kind x }
-    ensures { result ≡
+    ensures { answer_of result ≡
         number_behind 7 (some (kind_by kind)) (store_in store.now) (datagram_of (some (kind_by kind)) d.now) c }
 {
     match kind {
@@ -153,11 +168,11 @@ fn answer_by_kind(store: &[u8], count: usize, d: &[u8], kind: Kind, x: Context, 
 }
 
 // The row of an open try, on the parts that are read for it: its version where that fits.
-fn answer_try(store: &[u8], datagram: &[u8], x: Context) -> u8
+fn answer_try(store: &[u8], datagram: &[u8], x: Context) -> Result<(), Refusal>
     requires { (records_from ≤ length store.now) × (size_of (some open_try) ≤ length datagram.now) ×
         (context_in datagram.now ≡ x) }
     ensures { (c : Channel) →
-        result ≡
+        answer_of result ≡
         number_behind 7 (some open_try) (store_in store.now)
         (datagram_of (some open_try) datagram.now) c }
 {

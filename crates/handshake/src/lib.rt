@@ -3,6 +3,7 @@
 #![tactic(auto)]
 
 ghost use Rattle.std.specs.Prelude.{◌≡◌};
+ghost use Rattle.refusal.specs.Number.{answer_of};
 ghost use Rattle.slots.specs.Codes.{state_init, state_try_open};
 ghost use Rattle.slots.specs.Version.{padded};
 ghost use Rattle.datagram.specs.Datagram.{Datagram};
@@ -12,33 +13,33 @@ ghost use Rattle.rules.specs.Refusals.{no_channel};
 ghost use Rattle.rules.specs.Handshake.{port_only, new_end, needed_end, needed_peer};
 
 use datagram::EndVerdict;
+use refusal::{Refusal, VerdictPart};
 use slots::{Channel, Counters, PortChannel, VERSION};
 
+#[tactic(auto, using(slots::proofs::FieldLaws::by_fields), unfolding(rules::specs::Verdict::same_but_version, rules::specs::Verdict::same_counters))]
 fn same_but_version(a: Channel, b: Channel) -> bool
     ensures { result ≡ same_but_version a b }
 {
-    (a.state == b.state)
-        & (a.order == b.order)
-        & ((a.own.port == b.own.port) & (a.own.channel == b.own.channel))
-        & ((a.counterparty.port == b.counterparty.port)
-            & (a.counterparty.channel == b.counterparty.channel))
-        & ((a.next.send == b.next.send)
-            & (a.next.receive == b.next.receive)
-            & (a.next.acknowledge == b.next.acknowledge))
+    a.state == b.state
+        && a.order == b.order
+        && a.own == b.own
+        && a.counterparty == b.counterparty
+        && a.next == b.next
 }
 
 // For 7 to 9, 11 and 12: 140 the claim, 145 the record but for its version; 0 where none of them differs.
-pub fn end_difference(v: EndVerdict, needed: Channel) -> u8
-    ensures { result ≡ first_end_difference v needed }
+#[tactic(auto, using(slots::proofs::FieldLaws::by_fields), unfolding(rules::specs::Verdict::first_end_difference))]
+pub fn end_difference(v: EndVerdict, needed: Channel) -> Result<(), Refusal>
+    ensures { answer_of result ≡ first_end_difference v needed }
 {
     if v.claim != EndVerdict::END_IS {
-        return 140;
+        return Err(Refusal::Verdict(VerdictPart::Claim));
     }
     let end = v.end;
-    if (v.kind == Channel::KIND) & same_but_version(end, needed) {
-        return 0;
+    if v.kind != Channel::KIND || !same_but_version(end, needed) {
+        return Err(Refusal::Verdict(VerdictPart::Digest));
     }
-    145
+    Ok(())
 }
 
 // 27, for 7 to 9, 11 and 12.

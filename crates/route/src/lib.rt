@@ -9,6 +9,7 @@ ghost use Rattle.store.specs.Convert.{convert_told, convert_store};
 ghost use Rattle.rules.specs.Call.{call_told, call_store, call_output};
 
 use handler::handle;
+use refusal::answer_of;
 use store::Store;
 
 // One call. Answers its number, and leaves the length of the emitted record in `size`: 0 for a refusal.
@@ -24,9 +25,16 @@ pub extern "C" fn route_handle(
     ensures store { store.new ≡ call_store store.old output.old datagram.now }
     ensures output { output.new ≡ call_output store.old output.old datagram.now }
 {
-    let told = handle(store, output, datagram);
-    *size = told.size;
-    told.number
+    match handle(store, output, datagram) {
+        Ok(emitted) => {
+            *size = emitted;
+            0
+        }
+        Err(refusal) => {
+            *size = 0;
+            refusal.number()
+        }
+    }
 }
 
 // Makes a fresh store of the whole slice. Answers 0, or why not: 21 to 24.
@@ -35,7 +43,7 @@ pub extern "C" fn route_make_store(store: &mut [u8], openings: &[u8]) -> u8
     ensures told { result ≡ make_told store.old openings.now }
     ensures left { store.new ≡ make_store store.old openings.now }
 {
-    Store::make(store, openings)
+    answer_of(Store::make(store, openings))
 }
 
 // Puts the packet records of a store in order. Answers 0, or 1 where it is not fit but for the order.
@@ -44,7 +52,7 @@ pub extern "C" fn route_convert_store(store: &mut [u8]) -> u8
     ensures told { result ≡ convert_told store.old }
     ensures left { store.new ≡ convert_store store.old }
 {
-    Store::convert(store)
+    answer_of(Store::convert(store))
 }
 
 // The length of a store with so many packet records, or 0 where no store has so many.

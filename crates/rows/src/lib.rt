@@ -5,7 +5,9 @@
 
 ghost use Rattle.std.specs.Prelude.{◌≡◌, not};
 ghost use Rattle.std.proofs.Math.Option.{some};
+ghost use Rattle.refusal.specs.Number.{answer_of};
 ghost use Rattle.wire.specs.Choice.{◌and◌};
+ghost use Rattle.wire.specs.Bytes.{are_zero};
 ghost use Rattle.slots.specs.Table.{has_free};
 ghost use Rattle.slots.specs.Layout.{Store, store_in};
 ghost use Rattle.slots.specs.Scan.{RecordsInOrder};
@@ -23,6 +25,7 @@ use ordering::{
     times_out_in_order,
 };
 use packets::{fits_destination, fits_source, has_free, is_committed, lacks_connection};
+use refusal::Refusal;
 use slots::{Channel, Key, Record, Timeout};
 use tables::halves::has_record;
 use verdicts::{
@@ -31,87 +34,118 @@ use verdicts::{
 use wire::DIGEST;
 
 // Send (1): lines 10, 11, 19 and 20.
-pub fn send_row(store: &[u8], count: usize, x: Context, t: Timeout, c: Channel) -> u8
+#[tactic(auto, using(verdicts::proofs::RowLines::send_lines))]
+pub fn send_row(
+    store: &[u8],
+    count: usize,
+    x: Context,
+    t: Timeout,
+    c: Channel,
+) -> Result<(), Refusal>
     requires { RecordsInOrder store.now count }
     ensures { (d : Datagram) → d.context ≡ x → d.timeout ≡ t →
-        result ≡ number_behind 7 (some send) (store_in store.now) d c }
+        answer_of result ≡ number_behind 7 (some send) (store_in store.now) d c }
 {
     if is_no_timeout(t) {
-        return 10;
+        return Err(Refusal::NoTimeout);
     }
     if is_late_at_sender(x, t) {
-        return 11;
+        return Err(Refusal::TimeoutPassed);
     }
     if is_send_at_top(c) {
-        return 19;
+        return Err(Refusal::CounterAtEnd);
     }
     if !has_free(store, count) {
-        return 20;
+        return Err(Refusal::NoFreeRecord);
     }
-    0
+    Ok(())
 }
 
 // Receive (2): lines 8, 9, 11 and 14, then those of `delivery_row`.
-pub fn receive_row(store: &[u8], count: usize, x: Context, p: Packet, v: Verdict, c: Channel) -> u8
+#[tactic(auto, using(verdicts::proofs::RowLines::receive_lines))]
+pub fn receive_row(
+    store: &[u8],
+    count: usize,
+    x: Context,
+    p: Packet,
+    v: Verdict,
+    c: Channel,
+) -> Result<(), Refusal>
     requires { RecordsInOrder store.now count }
     ensures { (d : Datagram) → d.context ≡ x → d.packet ≡ p → d.verdict ≡ v →
-        result ≡ number_behind 7 (some receive) (store_in store.now) d c }
+        answer_of result ≡ number_behind 7 (some receive) (store_in store.now) d c }
 {
     if lacks_connection(x) {
-        return 8;
+        return Err(Refusal::NoConnection);
     }
     if !fits_destination(c, p) {
-        return 9;
+        return Err(Refusal::WrongEnd);
     }
     let timeout = p.timeout;
     let late = is_late_at_receiver(x, timeout);
     if refuses_late(c, late) {
-        return 11;
+        return Err(Refusal::TimeoutPassed);
     }
-    let number = commitment_difference(p, v);
-    if number != 0 {
-        return number;
-    }
+    commitment_difference(p, v)?;
     delivery_row(store, count, p, late, c)
 }
 
 // 20, for 2: a record is needed, and there is no room for it.
+#[tactic(auto, using(slots::proofs::FieldLaws::by_fields))]
 fn lacks_record(store: &[u8], count: usize, c: Channel, late: bool) -> bool
     requires { RecordsInOrder store.now count }
     ensures { result ≡ (needs_record c late and not (has_free (store_in store.now).records)) }
 {
-    if !needs_record(c, late) {
-        return false;
-    }
-    !has_free(store, count)
+    needs_record(c, late) && !has_free(store, count)
 }
 
 // Lines 15, 16, 19 and 20 of a receive: behind the verdict, what the channel end and the packet records say.
-fn delivery_row(store: &[u8], count: usize, p: Packet, late: bool, c: Channel) -> u8
+#[tactic(auto, using(verdicts::proofs::RowLines::delivery_lines))]
+fn delivery_row(
+    store: &[u8],
+    count: usize,
+    p: Packet,
+    late: bool,
+    c: Channel,
+) -> Result<(), Refusal>
     requires { RecordsInOrder store.now count }
     ensures { (d : Datagram) → d.packet ≡ p → comes_late d ≡ late →
-        result ≡ number_behind 14 (some receive) (store_in store.now) d c }
+        answer_of result ≡ number_behind 14 (some receive) (store_in store.now) d c }
 {
     if !receives_in_order(c, p.sequence) {
-        return 15;
+        return Err(Refusal::OutOfOrder);
     }
     if is_receipt_there(store, count, c, p.sequence) {
-        return 16;
+        return Err(Refusal::AlreadyThere);
     }
     if is_receive_at_top(c) {
-        return 19;
+        return Err(Refusal::CounterAtEnd);
     }
     if lacks_record(store, count, c, late) {
-        return 20;
+        return Err(Refusal::NoFreeRecord);
     }
-    0
+    Ok(())
+}
+
+// 18: a digest of zeros stands for an empty acknowledgement.
+fn is_empty(digest: [u8; DIGEST]) -> bool
+    ensures { result ≡ are_zero digest }
+{
+    digest == [0; DIGEST]
 }
 
 // Write acknowledgement (3): lines 16, 17, 18 and 20.
-pub fn write_row(store: &[u8], count: usize, sequence: u64, digest: [u8; 32], c: Channel) -> u8
+#[tactic(auto, using(verdicts::proofs::RowLines::write_lines))]
+pub fn write_row(
+    store: &[u8],
+    count: usize,
+    sequence: u64,
+    digest: [u8; 32],
+    c: Channel,
+) -> Result<(), Refusal>
     requires { RecordsInOrder store.now count }
     ensures { (d : Datagram) → d.sequence ≡ sequence → d.digest ≡ digest →
-        result ≡ number_behind 7 (some write) (store_in store.now) d c }
+        answer_of result ≡ number_behind 7 (some write) (store_in store.now) d c }
 {
     let k = Key {
         kind: Record::ACKNOWLEDGEMENT,
@@ -119,21 +153,22 @@ pub fn write_row(store: &[u8], count: usize, sequence: u64, digest: [u8; 32], c:
         sequence: sequence,
     };
     if has_record(store, count, k) {
-        return 16;
+        return Err(Refusal::AlreadyThere);
     }
     if !is_received(store, count, c, sequence) {
-        return 17;
+        return Err(Refusal::NotReceived);
     }
-    if digest == [0; DIGEST] {
-        return 18;
+    if is_empty(digest) {
+        return Err(Refusal::EmptyAcknowledgement);
     }
     if !has_free(store, count) {
-        return 20;
+        return Err(Refusal::NoFreeRecord);
     }
-    0
+    Ok(())
 }
 
 // Acknowledge (4): lines 8, 9, 13 and 14, then those of `acknowledgement_row`.
+#[tactic(auto, using(verdicts::proofs::RowLines::acknowledge_lines))]
 pub fn acknowledge_row(
     store: &[u8],
     count: usize,
@@ -142,76 +177,80 @@ pub fn acknowledge_row(
     digest: [u8; 32],
     v: Verdict,
     c: Channel,
-) -> u8
+) -> Result<(), Refusal>
     requires { RecordsInOrder store.now count }
     ensures { (d : Datagram) → d.context ≡ x → d.packet ≡ p → d.digest ≡ digest → d.verdict ≡ v →
-        result ≡ number_behind 7 (some acknowledge) (store_in store.now) d c }
+        answer_of result ≡ number_behind 7 (some acknowledge) (store_in store.now) d c }
 {
     if lacks_connection(x) {
-        return 8;
+        return Err(Refusal::NoConnection);
     }
     if !fits_source(c, p) {
-        return 9;
+        return Err(Refusal::WrongEnd);
     }
     if !is_committed(store, count, p) {
-        return 13;
+        return Err(Refusal::NoCommitment);
     }
-    let number = acknowledgement_difference(p, digest, v);
-    if number != 0 {
-        return number;
-    }
+    acknowledgement_difference(p, digest, v)?;
     acknowledgement_row(p, c)
 }
 
 // Lines 15 and 19 of an acknowledge: behind the verdict, what the channel end says.
-fn acknowledgement_row(p: Packet, c: Channel) -> u8
-    ensures { (s : Store) (d : Datagram) → d.packet ≡ p → result ≡ number_behind 14 (some acknowledge) s d c }
+#[tactic(auto, using(verdicts::proofs::RowLines::acknowledgement_lines))]
+fn acknowledgement_row(p: Packet, c: Channel) -> Result<(), Refusal>
+    ensures { (s : Store) (d : Datagram) → d.packet ≡ p → answer_of result ≡ number_behind 14 (some acknowledge) s d c }
 {
     if !acknowledges_in_order(c, p.sequence) {
-        return 15;
+        return Err(Refusal::OutOfOrder);
     }
     if is_acknowledge_at_top(c) {
-        return 19;
+        return Err(Refusal::CounterAtEnd);
     }
-    0
+    Ok(())
 }
 
 // Time out (5): lines 9, 12, 13 and 14, then those of `timed_out_row`.
-pub fn time_out_row(store: &[u8], count: usize, p: Packet, v: Verdict, c: Channel) -> u8
+#[tactic(auto, using(verdicts::proofs::RowLines::time_out_lines))]
+pub fn time_out_row(
+    store: &[u8],
+    count: usize,
+    p: Packet,
+    v: Verdict,
+    c: Channel,
+) -> Result<(), Refusal>
     requires { RecordsInOrder store.now count }
     ensures { (d : Datagram) → d.packet ≡ p → d.verdict ≡ v →
-        result ≡ number_behind 7 (some time_out) (store_in store.now) d c }
+        answer_of result ≡ number_behind 7 (some time_out) (store_in store.now) d c }
 {
     if !fits_source(c, p) {
-        return 9;
+        return Err(Refusal::WrongEnd);
     }
     let timeout = p.timeout;
     if !is_proved_late(timeout, v) {
-        return 12;
+        return Err(Refusal::TimeoutNotPassed);
     }
     if !is_committed(store, count, p) {
-        return 13;
+        return Err(Refusal::NoCommitment);
     }
-    let number = absence_difference(false, c, p, v);
-    if number != 0 {
-        return number;
-    }
+    absence_difference(false, c, p, v)?;
     timed_out_row(p, v, c)
 }
 
 // Lines 15 and 19 of a time-out, and of one on close (12), which has these before its last: behind the verdict, whether
 // it shows that the packet was taken, and what the channel end says.
-pub fn timed_out_row(p: Packet, v: Verdict, c: Channel) -> u8
-    ensures { (s : Store) (d : Datagram) → d.packet ≡ p → d.verdict ≡ v → result ≡ number_behind 14 (some time_out) s d c }
+#[tactic(auto, using(verdicts::proofs::RowLines::timed_out_lines))]
+pub fn timed_out_row(p: Packet, v: Verdict, c: Channel) -> Result<(), Refusal>
+    ensures { (s : Store) (d : Datagram) → d.packet ≡ p → d.verdict ≡ v →
+        answer_of result ≡ number_behind 14 (some time_out) s d c }
 {
     if claims_taken(v, p.sequence) {
-        return 15;
+        return Err(Refusal::OutOfOrder);
     }
     if !times_out_in_order(c, p.sequence) {
-        return 15;
+        return Err(Refusal::OutOfOrder);
     }
     if is_timeout_at_top(c) {
-        return 19;
+        return Err(Refusal::CounterAtEnd);
     }
-    0
+    Ok(())
 }

@@ -5,9 +5,8 @@ use Rattle.wire.proofs.Laws.{cases}
 use Rattle.slots.specs.declared.Channel.{Channel}
 use Rattle.slots.specs.Names.{store_in, allows_timeouts}
 use Rattle.datagram.specs.Names.{only, Kind, Datagram, framed, delivered_kind, lapsed_kind, made_kind}
-use Rattle.rules.specs.declared.Told.{Told}
 use Rattle.rules.specs.Names.{new_end, makes_end, or_none, refusals, sent_packet, makes, moves, effect_of, effect_for}
-use Rattle.rules.specs.Names.{answer_to, effect_in, called, Call, datagram_got, Met, end_of, Recorded, Answered}
+use Rattle.rules.specs.Names.{Told, answer_to, effect_in, called, Call, datagram_got, Met, end_of, Recorded, Answered}
 use Rattle.rules.specs.Names.{Demand3Holds, comes_late}
 use Rattle.rules.proofs.RefusalLaws.{first-given-zero}
 use Rattle.rules.proofs.KindLaws.{of-kinds, moves_end, packets-record}

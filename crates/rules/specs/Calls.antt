@@ -11,8 +11,7 @@ use Rattle.openings.specs.Maker.{make_told, make_store}
 use Rattle.datagram.specs.declared.Packet.{Packet}
 use Rattle.datagram.specs.Datagram.{Datagram, kind_in, datagram_in}
 use Rattle.datagram.specs.Emitted.{sent_kind, delivered_kind, acknowledged_kind, timed_out_kind, emitted_packet}
-use Rattle.rules.specs.declared.Told.{Told}
-use Rattle.rules.specs.Call.{call_told, call_store, call_output}
+use Rattle.rules.specs.Call.{Told, call_told, call_store, call_output}
 
 -- THE TWO LEDGERS
 pub data Side : Type 0 where

@@ -1,6 +1,11 @@
 -- Laws of a replay: the store at the front of its room. Assumes nothing.
-use Rattle.std.proofs.Common.{◌≡◌, ℕ, ◌≤◌, true, false, List, ◌++◌, length, take, drop, sym, ap, ◌∙◌, length-take-le, eq-eqb, ne_eqb, leb-true}
-use Rattle.wire.proofs.ChoiceLaws.{and_both}
+use Rattle.std.proofs.Common.{◌≡◌, ℕ, ◌≤◌, true, false, List, ◌++◌, length, take, drop, sym, ap, ◌∙◌, length-take-le, leb-true, refl}
+use Rattle.std.specs.Prelude.{Result, Ok, Err, is_ok}
+use Rattle.wire.proofs.ChoiceLaws.{and_both, clash}
+use Rattle.refusal.specs.declared.Refusal.{Refusal}
+use Rattle.refusal.specs.Number.{answer_of}
+use Rattle.refusal.proofs.NumberLaws.{number_above}
+use Rattle.rules.specs.Call.{told_of}
 use Rattle.openings.specs.Maker.{make_told, make_store}
 use Rattle.emit.specs.Output.{at_front}
 use Rattle.trace.specs.declared.Phase.TheVariants.{Running}
@@ -14,16 +19,25 @@ front-back e room {new} {left} h l q =
     let k : e ≡ length new = sym (length-take-le e room h) ∙ sym l ∙ ap length q in
     rw (← k, q)
 
--- THE FIRST RECORD, by what the maker told
-pub opened-zero : (t k : ℕ) → t ≡ 0
-    → (opened_text t ≡ line_of open_word t) × (opened_replay t k ≡ record { phase = Running; count = 0; size = k })
-unfolding opened_text opened_replay
-opened-zero t k h = let e = eq-eqb t 0 h in (rw e, rw e)
+-- THE NUMBER of what the handler answers
+pub told-number : (told : Result ℕ Refusal) → answer_of told ≡ (told_of told).number
+told-number (Ok n) = refl
+told-number (Err r) = refl
 
-pub opened-refused : (t k : ℕ) → (t ≡ 0 → ⊥)
-    → (opened_text t ≡ line_of open_word t ++ line_of end_word 0) × (opened_replay t k ≡ over 0 k)
+-- THE FIRST RECORD, by what the maker told
+pub opened-made : (told : Result Unit Refusal) (t k : ℕ) → t ≡ answer_of told → is_ok told ≡ true →
+    (opened_text (answer_of told) ≡ line_of open_word t) ×
+    (opened_replay (answer_of told) k ≡ record { phase = Running; count = 0; size = k })
 unfolding opened_text opened_replay
-opened-refused t k h = let e = ne_eqb t 0 h in (rw e, rw e)
+opened-made (Ok u) t k e h = (rw e, refl)
+opened-made (Err r) t k e h = clash {b = false} h refl
+
+pub opened-refused : (told : Result Unit Refusal) (t k : ℕ) → t ≡ answer_of told → is_ok told ≡ false →
+    (opened_text (answer_of told) ≡ line_of open_word t ++ line_of end_word 0) ×
+    (opened_replay (answer_of told) k ≡ over 0 k)
+unfolding opened_text opened_replay
+opened-refused (Ok u) t k e h = clash {b = true} refl h
+opened-refused (Err r) t k e h = let n = number_above r in (rw (e, n), rw n)
 
 -- and by whether it is an opening
 pub opening-room : (r : List ℕ) → is_opening r ≡ true → 8 ≤ length r

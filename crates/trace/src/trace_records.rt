@@ -1,8 +1,9 @@
 // What a record does, by how the replay stands. The store stands at the front of its room.
 ghost use Rattle.std.specs.Prelude.{◌≡◌, ◌+◌, ◌≤◌, length, take};
+ghost use Rattle.refusal.specs.Number.{answer_of};
 ghost use Rattle.openings.specs.Maker.{make_told, make_store};
 ghost use Rattle.emit.specs.Output.{at_front};
-ghost use Rattle.rules.specs.Call.{call_told, call_store};
+ghost use Rattle.rules.specs.Call.{told_of, call_told, call_store};
 ghost use Rattle.text.specs.Lines.{Stores};
 ghost use Rattle.trace.specs.Trace.{is_opening, fresh_output, opened_text, opened_replay, opens, answers, stepped};
 ghost use Rattle.trace.specs.Stepped.{Leaves};
@@ -10,6 +11,7 @@ ghost use Rattle.trace.specs.Stepped.{Leaves};
 use super::{Phase, Replay};
 use handler::handle;
 use input::end_within;
+use refusal::{Refusal, answer_of};
 use store::Store;
 use text::Lines;
 use wire::u16_at;
@@ -17,8 +19,8 @@ use wire::u16_at;
 // The kind of a trace's first record.
 const FIRST: u16 = 0x0020;
 
-fn make_store(room: &mut [u8], size: usize, openings: &[u8]) -> u8
-    ensures told { result ≡ make_told (take size room.old) openings.now }
+fn make_store(room: &mut [u8], size: usize, openings: &[u8]) -> Result<(), Refusal>
+    ensures told { answer_of result ≡ make_told (take size room.old) openings.now }
     ensures room { room.new ≡
         at_front (make_store (take size room.old) openings.now) room.old }
 {
@@ -26,14 +28,14 @@ fn make_store(room: &mut [u8], size: usize, openings: &[u8]) -> u8
     Store::make(&mut room[..end], openings)
 }
 
-fn answer_datagram(room: &mut [u8], size: usize, datagram: &[u8]) -> u8
-    ensures told { result ≡ (call_told (take size room.old) fresh_output datagram.now).number }
+fn answer_datagram(room: &mut [u8], size: usize, datagram: &[u8]) -> Result<u32, Refusal>
+    ensures told { told_of result ≡ call_told (take size room.old) fresh_output datagram.now }
     ensures room { room.new ≡
         at_front (call_store (take size room.old) fresh_output datagram.now) room.old }
 {
     let end = end_within(room, size);
     let mut output = [0u8; Store::OUTPUT];
-    handle(&mut room[..end], &mut output, datagram).number
+    handle(&mut room[..end], &mut output, datagram)
 }
 
 // Length, kind and P are there, and the kind is that of an opening.
@@ -44,13 +46,13 @@ fn is_opening(bytes: &[u8]) -> bool
 }
 
 // The lines of an opening, by what the maker told. An opening refused ends the replay.
-fn told_opening(lines: &mut Lines, told: u8, size: usize) -> Replay
+fn told_opening(lines: &mut Lines, told: Result<(), Refusal>, size: usize) -> Replay
     requires { lines.old.at + 64 ≤ length lines.old.text.now }
-    ensures replay { result ≡ opened_replay told size }
-    ensures lines { Stores (opened_text told) lines.old lines.new }
+    ensures replay { result ≡ opened_replay (answer_of told) size }
+    ensures lines { Stores (opened_text (answer_of told)) lines.old lines.new }
 {
-    lines.put_word_line(b"open", u64::from(told));
-    if told == 0 {
+    lines.put_word_line(b"open", u64::from(answer_of(told)));
+    if told.is_ok() {
         return Replay {
             phase: Phase::Running,
             count: 0,
@@ -81,7 +83,7 @@ fn answer_line(room: &mut [u8], datagram: &[u8], lines: &mut Lines, replay: Repl
     ensures { Leaves (answers replay room.old datagram.now) lines.old lines.new result room.new }
 {
     let count = replay.count.wrapping_add(1);
-    let number = answer_datagram(room, replay.size, datagram);
+    let number = answer_of(answer_datagram(room, replay.size, datagram));
     lines.put_number_line(count, u64::from(number));
     Replay {
         phase: Phase::Running,

@@ -1,1 +1,1 @@
-pub mod TestedLaws
+pub mod RowLines

@@ -3,6 +3,7 @@
 #![tactic(auto)]
 
 ghost use Rattle.std.specs.Prelude.{◌≡◌};
+ghost use Rattle.refusal.specs.Number.{answer_of};
 ghost use Rattle.wire.specs.Choice.{pick};
 ghost use Rattle.rules.specs.Verdict.{first_difference, block_difference};
 ghost use Rattle.rules.specs.Refusals.{commitment_difference, acknowledgement_difference, claims_next, absence_difference};
@@ -11,8 +12,10 @@ ghost use Rattle.rules.specs.Refusals.{claims_taken};
 use datagram::{Block, Packet, Verdict};
 use heights::{no_timeout, same_timeout};
 use ordering::absence_claim;
+use refusal::{Refusal, VerdictPart};
 use slots::{Channel, PortChannel, Timeout};
 
+#[tactic(auto, unfolding(rules::specs::Verdict::first_difference))]
 fn first_difference(
     v: Verdict,
     claim: u16,
@@ -20,34 +23,34 @@ fn first_difference(
     sequence: u64,
     timeout: Timeout,
     digest: [u8; 32],
-) -> u8
-    ensures { result ≡ first_difference v claim about sequence timeout digest }
+) -> Result<(), Refusal>
+    ensures { answer_of result ≡ first_difference v claim about sequence timeout digest }
 {
     if v.claim != claim {
-        return 140;
+        return Err(Refusal::Verdict(VerdictPart::Claim));
     }
     if v.about.port != about.port {
-        return 141;
+        return Err(Refusal::Verdict(VerdictPart::Port));
     }
     if v.about.channel != about.channel {
-        return 142;
+        return Err(Refusal::Verdict(VerdictPart::Channel));
     }
     if v.sequence != sequence {
-        return 143;
+        return Err(Refusal::Verdict(VerdictPart::Sequence));
     }
-    let found = v.timeout;
-    if !same_timeout(found, timeout) {
-        return 144;
+    if !same_timeout(v.timeout, timeout) {
+        return Err(Refusal::Verdict(VerdictPart::Timeouts));
     }
     if v.digest != digest {
-        return 145;
+        return Err(Refusal::Verdict(VerdictPart::Digest));
     }
-    0
+    Ok(())
 }
 
 // For 2: the commitment at the packet's source.
-pub fn commitment_difference(p: Packet, v: Verdict) -> u8
-    ensures { result ≡ commitment_difference p v }
+#[tactic(auto, unfolding(rules::specs::Refusals::commitment_difference))]
+pub fn commitment_difference(p: Packet, v: Verdict) -> Result<(), Refusal>
+    ensures { answer_of result ≡ commitment_difference p v }
 {
     let claim = Verdict::COMMITMENT_PRESENT;
     let source = p.source;
@@ -57,8 +60,9 @@ pub fn commitment_difference(p: Packet, v: Verdict) -> u8
 }
 
 // For 4: the acknowledgement at the packet's destination.
-pub fn acknowledgement_difference(p: Packet, digest: [u8; 32], v: Verdict) -> u8
-    ensures { result ≡ acknowledgement_difference p digest v }
+#[tactic(auto, unfolding(rules::specs::Refusals::acknowledgement_difference))]
+pub fn acknowledgement_difference(p: Packet, digest: [u8; 32], v: Verdict) -> Result<(), Refusal>
+    ensures { answer_of result ≡ acknowledgement_difference p digest v }
 {
     let claim = Verdict::ACKNOWLEDGEMENT_PRESENT;
     let destination = p.destination;
@@ -76,8 +80,9 @@ fn absence_sequence(v: Verdict, sequence: u64) -> u64
 }
 
 // For 5 and, by the other end's close, for 12: at the packet's destination, that it was not received.
-pub fn absence_difference(on_close: bool, c: Channel, p: Packet, v: Verdict) -> u8
-    ensures { result ≡ absence_difference on_close c p v }
+#[tactic(auto, unfolding(rules::specs::Refusals::absence_difference))]
+pub fn absence_difference(on_close: bool, c: Channel, p: Packet, v: Verdict) -> Result<(), Refusal>
+    ensures { answer_of result ≡ absence_difference on_close c p v }
 {
     let claim = absence_claim(on_close, c, v.claim);
     let destination = p.destination;
@@ -86,22 +91,20 @@ pub fn absence_difference(on_close: bool, c: Channel, p: Packet, v: Verdict) -> 
 }
 
 // 15, for 5 and 12: the next receive that the verdict claims is above the sequence, so the packet was taken.
+#[tactic(auto, using(slots::proofs::FieldLaws::by_fields), unfolding(rules::specs::Refusals::claims_taken))]
 pub fn claims_taken(v: Verdict, sequence: u64) -> bool
     ensures { result ≡ claims_taken v sequence }
 {
     (v.claim == Verdict::NEXT_RECEIVE_IS) & (sequence < v.sequence)
 }
 
-// For 12: 146 where the blocks of two verdicts are not one.
-pub fn block_difference(a: Block, b: Block) -> u8
-    ensures { result ≡ block_difference a b }
+// For 12: the blocks of two verdicts are one.
+#[tactic(auto, using(slots::proofs::FieldLaws::by_fields), unfolding(rules::specs::Verdict::block_difference))]
+pub fn block_difference(a: Block, b: Block) -> Result<(), Refusal>
+    ensures { answer_of result ≡ block_difference a b }
 {
-    let height = a.height;
-    let time = a.time;
-    let other = b.height;
-    let other_time = b.time;
-    if (height.0 == other.0) & (time.0 == other_time.0) {
-        return 0;
+    if a != b {
+        return Err(Refusal::Verdict(VerdictPart::Blocks));
     }
-    146
+    Ok(())
 }

@@ -5,7 +5,6 @@ use Rattle.wire.proofs.ChoiceLaws.{clash}
 use Rattle.slots.specs.Version.{version_fits, padded}
 use Rattle.datagram.specs.Kind.{open_try, version_part, body, has_part, parts_size, size_before, place_of}
 use Rattle.datagram.specs.Datagram.{counterparty_from, version_from, datagram_of}
-use Rattle.verdicts.proofs.TestedLaws.{holds, fails}
 use Rattle.answer.proofs.answer_try.Goals as goal
 
 -- the version is the rest of the datagram
@@ -44,7 +43,7 @@ version_fits-requires c = omega (arith, c.version_place-at.ensures, c.requires.1
 pub version_from-requires : goal.version_from-requires
 unfolding body size_before parts_size
 version_from-requires c =
-    (omega (arith, c.version_place-at.ensures, c.requires.1), holds c.version_fits.ensures c.if-not-version_fits.false)
+    (omega (arith, c.version_place-at.ensures, c.requires.1), sym c.version_fits.ensures ∙ c.if-not-version_fits.false)
 
 pub returns-then-not-version_fits : goal.returns-then-not-version_fits
 unfolding counterparty_from body size_before
@@ -53,7 +52,7 @@ returns-then-not-version_fits c =
     λ e. c.open_try_row.ensures (datagram_of (some open_try) d) e c.requires.2 (sym c.order_in-order.ensures)
     (λ i. record { port = sym c.counterparty_port_in.ensures i; channel = sym c.counterparty_channel_in.ensures i })
     (sym c.end_verdict_in-v.ensures)
-    (fails (fits d _ _ c.version_place-at.ensures c.version_fits.ensures) c.if-not-version_fits.true)
+    (sym (fits d _ _ c.version_place-at.ensures c.version_fits.ensures) ∙ c.if-not-version_fits.true)
     (λ h. clash {b = false} h refl)
 
 pub returns : goal.returns
@@ -63,5 +62,5 @@ returns c =
     λ e. c.open_try_row-2.ensures (datagram_of (some open_try) d) e c.requires.2 (sym c.order_in-order.ensures)
     (λ i. record { port = sym c.counterparty_port_in.ensures i; channel = sym c.counterparty_channel_in.ensures i })
     (sym c.end_verdict_in-v.ensures)
-    (holds (fits d _ _ c.version_place-at.ensures c.version_fits.ensures) c.if-not-version_fits.false)
+    (sym (fits d _ _ c.version_place-at.ensures c.version_fits.ensures) ∙ c.if-not-version_fits.false)
     (λ h. sym (c.version_from.ensures ∙ ap padded (version d _ c.version_place-at.ensures)))
