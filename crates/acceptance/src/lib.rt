@@ -18,6 +18,7 @@ ghost use Rattle.acceptance.specs.Planned.{Ready, slot_by, with_end, Placed};
 
 use changes::{set_channel, set_next, set_times};
 use datagram::Context;
+use datagram::kind::Kind;
 use datagram::read::{channel_in, context_in, kind_in};
 use effects::{Decision, EndEdit, decide};
 use emit::emit_record;
@@ -83,7 +84,7 @@ fn plan_for(store: &[u8], datagram: &[u8], used: usize) -> Plan
     ensures effect { effect_by result.decision ≡ effect_in (store_in store.now) (datagram_in datagram.now) }
     ensures slots { Placed (store_in store.now) result }
 {
-    let kind = kind_in(datagram).unwrap();
+    let kind = Kind::try_from(kind_in(datagram)).unwrap();
     let number = channel_in(datagram, kind);
     let found = find_channel(store, number);
     let c = end_of(store, number, found);

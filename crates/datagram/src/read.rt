@@ -5,14 +5,14 @@ ghost use Rattle.std.proofs.Math.Option.{some};
 ghost use Rattle.wire.specs.Bytes.{field};
 ghost use Rattle.slots.specs.Part.{timeout_in};
 ghost use Rattle.wire.specs.Frame.{frame_size};
-ghost use Rattle.datagram.specs.Kind.{Decodes, kind_by, body_from, packet_size, verdict_size, end_verdict_size};
+ghost use Rattle.datagram.specs.Kind.{kind_by, body_from, packet_size, verdict_size, end_verdict_size};
 ghost use Rattle.datagram.specs.Kind.{digest_part, verdict_part, counterparty_part, order_part, end_verdict_part};
 ghost use Rattle.datagram.specs.Kind.{body, has_part, size_of};
 ghost use Rattle.datagram.specs.Datagram.{kind_in, context_in, packet_in, block_in, verdict_in, end_verdict_in};
 ghost use Rattle.datagram.specs.Datagram.{digest_from, verdict_from, end_verdict_from, counterparty_from, order_from};
 ghost use Rattle.datagram.specs.Datagram.{channel_from};
 
-use crate::kind::{Kind, UnknownKind};
+use crate::kind::Kind;
 use crate::place::{
     BODY, counterparty_place, digest_place, end_verdict_place, order_place, verdict_place,
 };
@@ -82,11 +82,11 @@ fn end_verdict_at(d: &[u8], at: usize) -> EndVerdict
 
 // The kind that the frame names.
 #[tactic(auto, unfolding(crate::specs::Datagram::kind_in))]
-pub fn kind_in(d: &[u8]) -> Result<Kind, UnknownKind>
+pub fn kind_in(d: &[u8]) -> u16
     requires { frame_size ≤ length d.now }
-    ensures { Decodes (kind_in d.now) result }
+    ensures { result ≡ kind_in d.now }
 {
-    Kind::try_from(u16_at(d, 4))
+    u16_at(d, 4)
 }
 
 pub fn timeout_in(d: &[u8]) -> Timeout

@@ -45,11 +45,11 @@ pub kind_in-requires : goal.kind_in-requires
 kind_in-requires c = omega (arith, (sound-is c.args.datagram.now c.requires.0.sound).size)
 
 pub unwrap-kind-requires : goal.unwrap-kind-requires
-unwrap-kind-requires c = decodes _ _ c.kind_in.ensures (sound-is c.args.datagram.now c.requires.0.sound).known
+unwrap-kind-requires c = decodes _ _ (rw c.kind_in.ensures at c.try_from.ensures) (sound-is c.args.datagram.now c.requires.0.sound).known
 
 pub channel_in-number-requires : goal.channel_in-number-requires
 channel_in-number-requires c =
-    long _ (sound-is c.args.datagram.now c.requires.0.sound) (decoded _ _ _ c.kind_in.ensures c.unwrap-kind.ensures)
+    long _ (sound-is c.args.datagram.now c.requires.0.sound) (decoded _ _ _ (rw c.kind_in.ensures at c.try_from.ensures) c.unwrap-kind.ensures)
 
 pub find_channel-found-requires : goal.find_channel-found-requires
 find_channel-found-requires c = room c.args.store.now c.requires.0.fit
@@ -65,7 +65,7 @@ decide-decision-requires c =
     let s = c.args.store.now in
     let d = c.args.datagram.now in
     let sound = sound-is d c.requires.0.sound in
-    let kind = decoded _ _ _ c.kind_in.ensures c.unwrap-kind.ensures in (
+    let kind = decoded _ _ _ (rw c.kind_in.ensures at c.try_from.ensures) c.unwrap-kind.ensures in (
       long d sound kind,
       planned-left s d kind (next s c.u64_at-next.ensures)
           (end s d (number d kind c.channel_in-number.ensures) c.end_of-c.ensures) c.requires.0,
@@ -78,7 +78,7 @@ pub number_after-requires : goal.number_after-requires
 number_after-requires c =
     let s = c.args.store.now in
     let d = c.args.datagram.now in
-    let kind = decoded _ _ _ c.kind_in.ensures c.unwrap-kind.ensures in
+    let kind = decoded _ _ _ (rw c.kind_in.ensures at c.try_from.ensures) c.unwrap-kind.ensures in
     let below : c.u64_at-next.result ≤ top = omega arith in
     planned-number s d kind (next s c.u64_at-next.ensures)
     (end s d (number d kind c.channel_in-number.ensures) c.end_of-c.ensures) c.decide-decision.ensures below c.requires.0
@@ -91,7 +91,7 @@ unfolding datagram_in
 returns c =
     let s = c.args.store.now in
     let d = c.args.datagram.now in
-    let kind = decoded _ _ _ c.kind_in.ensures c.unwrap-kind.ensures in
+    let kind = decoded _ _ _ (rw c.kind_in.ensures at c.try_from.ensures) c.unwrap-kind.ensures in
     let channel = number d kind c.channel_in-number.ensures in
     let after = next s c.u64_at-next.ensures in
     let about = end s d channel c.end_of-c.ensures in

@@ -11,7 +11,8 @@ use Rattle.sound.proofs.SoundLaws.{malformed, unknown, kind-framed}
 use Rattle.sound.proofs.sound_kind.Goals as goal
 
 -- the kind that is read, or none
-known : (r : Result Kind UnknownKind) (n : ℕ) (k : Kind) → Decodes n r → result_ok r ≡ Some k → kind_of n ≡ some (kind_by k)
+known : (r : Result Kind UnknownKind) (n : ℕ) (k : Kind) → Decodes n r → result_ok r ≡ Some k →
+    kind_of n ≡ some (kind_by k)
 known (Ok j) n k h e = let same : j ≡ k = cc in rw (← same) h
 known (Err e) n k h q = cc
 
@@ -52,7 +53,8 @@ returns-clause-sound c =
     let frame = sym c.frame_in.ensures ∙ c.in_ok-frame.was in
     let kind = known _ _ _ c.try_from.ensures (sym c.ok.ensures.value ∙ c.in_ok-kind.was) in
     rw c.then_some.ensures
-    (told _ _ _ (λ k. kind_of (kind_in d) ≡ some (kind_by k)) c.is_sound.ensures (ap kind_of (sym (kind-framed d frame)) ∙ kind))
+    (told _ _ _ (λ k. kind_of (kind_in d) ≡ some (kind_by k)) c.is_sound.ensures
+    (ap kind_of (sym (kind-framed d frame)) ∙ kind))
 
 pub returns-clause-unsound : goal.returns-clause-unsound
 returns-clause-unsound c = rw c.then_some.ensures (untold _ _ _ c.is_sound.ensures)

@@ -11,6 +11,9 @@ pub returns-in_default : goal.returns-in_default
 unfolding body has_part size_before ◌or◌
 returns-in_default c =
     by_part end_verdict_part
-    (λ k. (k ≡ OpenTry → ⊥) → (k ≡ OpenAcknowledge → ⊥) → (k ≡ TimeOutOnClose → ⊥) → body_from + 4 ≡ place_of end_verdict_part (some (kind_by k)))
-    (λ e0 e1 e2. absurd (e0 refl), (λ e0 e1 e2. absurd (e1 refl), (λ e0 e1 e2. refl, (λ e0 e1 e2. refl, (λ e0 e1 e2. absurd (e2 refl), tt)))))
+    (λ k. (k ≡ OpenTry → ⊥) → (k ≡ OpenAcknowledge → ⊥) → (k ≡ TimeOutOnClose → ⊥) →
+    body_from + 4 ≡ place_of end_verdict_part (some (kind_by k))) (
+      λ p q r. absurd (p refl),
+      (λ p q r. absurd (q refl), (λ p q r. refl, (λ p q r. refl, (λ p q r. absurd (r refl), tt)))),
+    )
     c.args.kind c.requires c.in_default.not-OpenTry c.in_default.not-OpenAcknowledge c.in_default.not-TimeOutOnClose

@@ -11,6 +11,7 @@ pub returns-in_default : goal.returns-in_default
 unfolding body has_part size_before ◌or◌
 returns-in_default c =
     by_part verdict_part
-    (λ k. (k ≡ Acknowledge → ⊥) → (k ≡ TimeOutOnClose → ⊥) → body_from + packet_size ≡ place_of verdict_part (some (kind_by k)))
+    (λ k. (k ≡ Acknowledge → ⊥) → (k ≡ TimeOutOnClose → ⊥) →
+    body_from + packet_size ≡ place_of verdict_part (some (kind_by k)))
     (λ e0 e1. refl, (λ e0 e1. absurd (e0 refl), (λ e0 e1. refl, (λ e0 e1. absurd (e1 refl), tt))))
     c.args.kind c.requires c.in_default.not-Acknowledge c.in_default.not-TimeOutOnClose

@@ -2,7 +2,8 @@ use Rattle.std.proofs.Common.{◌≡◌, refl, ◌+◌}
 use Rattle.std.proofs.Math.Option.{some}
 use Rattle.wire.specs.Choice.{◌or◌}
 use Rattle.datagram.specs.declared.kind.Kind.TheVariants.{OpenInit}
-use Rattle.datagram.specs.Kind.{kind_by, body_from, end_verdict_size, version_part, body, has_part, size_before, place_of}
+use Rattle.datagram.specs.Kind.{kind_by, body_from, end_verdict_size, version_part, body, has_part, size_before}
+use Rattle.datagram.specs.Kind.{place_of}
 use Rattle.datagram.proofs.MatchLaws.{by_part}
 use Rattle.datagram.proofs.place.version_place.Goals as goal
 
