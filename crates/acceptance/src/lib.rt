@@ -42,7 +42,8 @@ struct Plan {
 
 // The channel end of this number, which was found at a slot, or zeros: a datagram that makes an end is about none.
 fn end_of(store: &[u8], number: u32, at: Option<usize>) -> Channel
-    requires { (records_from ≤ length store.now) × (at ≡ first_that (is_numbered number) (store_in store.now).channels) }
+    requires { (records_from ≤ length store.now) ×
+        (at ≡ first_that (is_numbered number) (store_in store.now).channels) }
     ensures { result ≡ or_none (channel_at number (store_in store.now).channels) }
 {
     let Some(j) = at else {
@@ -98,8 +99,8 @@ fn plan_for(store: &[u8], datagram: &[u8], used: usize) -> Plan
     }
 }
 
-// The end that changes or is added is stored at its slot, and the bytes then tell that store. Each variant has an arm of
-// its own: in an arm of both the check does not know that the end's numbers fit their types.
+// The end that changes or is added is stored at its slot, and the bytes then tell that store. Each variant has an arm
+// of its own: in an arm of both the check does not know that the end's numbers fit their types.
 fn put_end(store: &mut [u8], at: Option<usize>, ends: EndEdit)
     requires { Exact store.old × (entries_fit (store_in store.old) ≡ true) ×
         ((j : ℕ) → at ≡ Some j → j < channel_limit) }

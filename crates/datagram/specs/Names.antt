@@ -4,7 +4,8 @@ pub use Rattle.datagram.specs.Kind.{Kind, send, receive, write, acknowledge, tim
 pub use Rattle.datagram.specs.Kind.{open_init, open_try, open_acknowledge, open_confirm}
 pub use Rattle.datagram.specs.Kind.{close_init, close_confirm, time_out_on_close, kinds, kind_number, kind_of, kind_by}
 pub use Rattle.wire.specs.Frame.{frame_size}
-pub use Rattle.datagram.specs.Kind.{is_kind, is_of, context_size, packet_size, verdict_size, end_verdict_size, body_from}
+pub use Rattle.datagram.specs.Kind.{is_kind, is_of, context_size, packet_size, verdict_size}
+pub use Rattle.datagram.specs.Kind.{end_verdict_size, body_from}
 pub use Rattle.datagram.specs.Kind.{Part, channel_part, sequence_part, timeout_part, digest_part, packet_part}
 pub use Rattle.datagram.specs.Kind.{port_part, counterparty_part, order_part, end_verdict_part, version_part}
 pub use Rattle.datagram.specs.Kind.{verdict_part, part_size, body_of, part_number, is_part, place_of, size_of}

@@ -7,7 +7,8 @@ ghost use Rattle.std.specs.Prelude.{◌≡◌, false, ◌+◌, ◌≤◌, length
 ghost use Rattle.std.proofs.Math.Option.{some};
 ghost use Rattle.datagram.specs.Kind.{send, receive, write, acknowledge, kind_by, body_from, packet_size, size_of};
 ghost use Rattle.datagram.specs.Datagram.{packet_in, packet_from, sequence_from, digest_from, datagram_of};
-ghost use Rattle.rules.specs.Ordering.{received_kind, is_send_at_top, is_receive_at_top, is_acknowledge_at_top, is_timeout_at_top};
+ghost use Rattle.rules.specs.Ordering.{received_kind, is_send_at_top, is_receive_at_top};
+ghost use Rattle.rules.specs.Ordering.{is_acknowledge_at_top, is_timeout_at_top};
 ghost use Rattle.rules.specs.Refusals.{comes_late};
 ghost use Rattle.rules.specs.Acceptance.{sent_packet, commitment, sends, receives};
 ghost use Rattle.rules.specs.Acceptance.{writes_acknowledgement, acknowledges, times_out, makes, moves, effect_for};

@@ -4,7 +4,8 @@
 ghost use Rattle.std.specs.Prelude.{◌≡◌, false, ◌+◌, eqb};
 ghost use Rattle.wire.specs.Choice.{◌and◌, pick};
 ghost use Rattle.slots.specs.Limits.{top};
-ghost use Rattle.rules.specs.Ordering.{is_send_at_top, is_receive_at_top, is_acknowledge_at_top, is_timeout_at_top, counted};
+ghost use Rattle.rules.specs.Ordering.{is_send_at_top, is_receive_at_top, is_acknowledge_at_top};
+ghost use Rattle.rules.specs.Ordering.{is_timeout_at_top, counted};
 ghost use Rattle.rules.specs.Ordering.{raised_send, raised_acknowledge, received_end, acknowledged_end, timed_out_end};
 
 use lifecycle::closed_end;

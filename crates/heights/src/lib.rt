@@ -8,7 +8,8 @@ ghost use Rattle.slots.specs.declared.Timeout.{Timeout};
 ghost use Rattle.slots.specs.Layout.{Store};
 ghost use Rattle.slots.specs.Height.{height_at_sender, time_at_sender, height_at_receiver, time_at_receiver};
 ghost use Rattle.slots.specs.Height.{no_timeout, same_timeout};
-ghost use Rattle.rules.specs.Refusals.{goes_back, has_passed_at, is_late_at_sender, is_late_at_receiver, is_proved_late};
+ghost use Rattle.rules.specs.Refusals.{goes_back, has_passed_at, is_late_at_sender};
+ghost use Rattle.rules.specs.Refusals.{is_late_at_receiver, is_proved_late};
 
 use datagram::{Block, Context, Verdict};
 use slots::{OtherHeight, OtherTime, OwnHeight, OwnTime, Timeout};

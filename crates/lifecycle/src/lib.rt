@@ -19,7 +19,8 @@ use versions::version_from;
 
 // The end that a datagram makes, by what it says of it.
 fn end_made(d: &[u8], kind: Kind, next: u64, state: u8, counterparty: PortChannel) -> Channel
-    requires { (has_part order_part (body (kind_by kind)) ≡ true) × (has_part version_part (body (kind_by kind)) ≡ true) ×
+    requires { (has_part order_part (body (kind_by kind)) ≡ true) ×
+        (has_part version_part (body (kind_by kind)) ≡ true) ×
         (size_of (some (kind_by kind)) ≤ length d.now) × NumberLeft next (datagram_of (some (kind_by kind)) d.now) }
     ensures { result ≡ new_end state counterparty next (datagram_of (some (kind_by kind)) d.now) }
 {

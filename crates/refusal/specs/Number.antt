@@ -3,11 +3,11 @@ use Rattle.std.specs.Prelude.{Result, Ok, Err, ℕ}
 use Rattle.refusal.specs.declared.VerdictPart.{VerdictPart}
 use Rattle.refusal.specs.declared.VerdictPart.TheVariants.{Claim, Port, Channel, Sequence, Timeouts, Digest, Blocks}
 use Rattle.refusal.specs.declared.Refusal.{Refusal}
-use Rattle.refusal.specs.declared.Refusal.TheVariants.{StoreNotFit, OutputShort, Malformed, GoesBack, NoChannel, NotOpen}
-use Rattle.refusal.specs.declared.Refusal.TheVariants.{NotOwner, NoConnection, WrongEnd, NoTimeout, TimeoutPassed}
-use Rattle.refusal.specs.declared.Refusal.TheVariants.{TimeoutNotPassed, NoCommitment, Verdict, OutOfOrder, AlreadyThere}
-use Rattle.refusal.specs.declared.Refusal.TheVariants.{NotReceived, EmptyAcknowledgement, CounterAtEnd, NoFreeRecord}
-use Rattle.refusal.specs.declared.Refusal.TheVariants.{LengthUnfit, OpeningsMalformed, TooManyOpenings, ChannelTwice}
+use Rattle.refusal.specs.declared.Refusal.TheVariants.{StoreNotFit, OutputShort, Malformed, GoesBack, NoChannel}
+use Rattle.refusal.specs.declared.Refusal.TheVariants.{NotOpen, NotOwner, NoConnection, WrongEnd, NoTimeout, TimeoutPassed}
+use Rattle.refusal.specs.declared.Refusal.TheVariants.{TimeoutNotPassed, NoCommitment, Verdict, OutOfOrder}
+use Rattle.refusal.specs.declared.Refusal.TheVariants.{AlreadyThere, NotReceived, EmptyAcknowledgement, CounterAtEnd}
+use Rattle.refusal.specs.declared.Refusal.TheVariants.{NoFreeRecord, LengthUnfit, OpeningsMalformed, TooManyOpenings, ChannelTwice}
 use Rattle.refusal.specs.declared.Refusal.TheVariants.{NoFreeChannel, WrongState, WrongVersion}
 
 abbrev pub part_number : VerdictPart → ℕ

@@ -34,7 +34,7 @@ impl VerdictPart {
     }
 }
 
-// A refusal. A refused call has changed nothing. docs/TABLE.md says when each is given.
+// A refusal. A refused call has changed nothing. docs/ANSWERS.md says when each is given.
 #[derive(Clone, Copy, Debug, PartialEq, Eq)]
 pub enum Refusal {
     StoreNotFit,

@@ -24,7 +24,8 @@ has_receipt rs c n = is_some (lookup (receipt_key c.own.channel n) rs)
 abbrev pub has_timeout_receipt : List (Option Record) → Channel → (sequence : ℕ) → Bool
 has_timeout_receipt rs c n = is_some (lookup (timeout_receipt_key c.own.channel n) rs)
 
--- a test tells of a key of this channel and sequence, of any kind, whether a record has it: all that it may answer is so
+-- a test tells of a key of this channel and sequence, of any kind, whether a record has it: all that it may answer is
+-- so
 abbrev pub TellsOf : (Key → Bool → Type 0) → List (Option Record) → Channel → (sequence : ℕ) → Type 0
 TellsOf answers rs c n =
     (kind : ℕ) (b : Bool) → kind < 65536 →

@@ -6,7 +6,8 @@ ghost use Rattle.std.specs.Prelude.{◌≡◌};
 ghost use Rattle.refusal.specs.Number.{answer_of};
 ghost use Rattle.wire.specs.Choice.{pick};
 ghost use Rattle.rules.specs.Verdict.{first_difference, block_difference};
-ghost use Rattle.rules.specs.Refusals.{commitment_difference, acknowledgement_difference, claims_next, absence_difference};
+ghost use Rattle.rules.specs.Refusals.{commitment_difference, acknowledgement_difference};
+ghost use Rattle.rules.specs.Refusals.{claims_next, absence_difference};
 ghost use Rattle.rules.specs.Refusals.{claims_taken};
 
 use datagram::{Block, Packet, Verdict};

@@ -1,6 +1,6 @@
-// Numbers, digests and frames in lent bytes. What they mean is in specs/: `field` and `part` of a list
-// of bytes, `patch` for what a store of bytes leaves. A number is read and stored as the array of its bytes, whatever its
-// width: the compiler makes one load or one store of it.
+// Numbers, digests and frames in lent bytes. What they mean is in specs/: `field` and `part` of a list of bytes, `patch`
+// for what a store of bytes leaves. A number is read and stored as the array of its bytes, whatever its width: the
+// compiler makes one load or one store of it.
 #![tactic(auto)]
 
 ghost use Rattle.std.specs.Prelude.{◌≡◌, ◌++◌, ◌+◌, ◌≤◌, length, replicate};
@@ -124,8 +124,8 @@ pub struct Frame {
     pub length: u32,
 }
 
-// The frame of a slice that is a whole record, and none where it is another, as where its length field is. That field is
-// compared as a usize: a slice can be longer than any length field says.
+// The frame of a slice that is a whole record, and none where it is another, as where its length field is. That field
+// is compared as a usize: a slice can be longer than any length field says.
 pub fn frame_in(s: &[u8]) -> Option<Frame>
     ensures { result ≡ frame_in s.now }
 {

@@ -29,7 +29,8 @@ number d p q = q ∙ ap (λ x. channel_from x d) (sym p)
 long : (d : List ℕ) {k : Kind} → Sound d → kind_of (kind_in d) ≡ some k → size_of (some k) ≤ length d
 long d h p = rw p at h.size
 
-end : (s d : List ℕ) {n : ℕ} {c : Channel} → n ≡ (datagram_in d).channel → c ≡ or_none (channel_at n (store_in s).channels) →
+end : (s d : List ℕ) {n : ℕ} {c : Channel} → n ≡ (datagram_in d).channel →
+    c ≡ or_none (channel_at n (store_in s).channels) →
     c ≡ or_none (end_for (store_in s) (datagram_in d))
 end s d p q = q ∙ ap (λ (n : ℕ). or_none (channel_at n (store_in s).channels)) p
 

@@ -38,7 +38,8 @@ module _ (s : List ℕ) (d : Datagram) (found : Option ℕ) (number : ℕ) (p : 
 -- the answer is that of the lines behind the first n, on the channel end that is found
 abbrev Left : ℕ → Kind → List ℕ → Datagram → Channel → Type 0
 Left n k s d c =
-    number_behind 4 (some k) (store_in s) d (or_none (end_for (store_in s) d)) ≡ number_behind n (some k) (store_in s) d c
+    number_behind 4 (some k) (store_in s) d (or_none (end_for (store_in s) d)) ≡
+    number_behind n (some k) (store_in s) d c
 
 past-5 : (k : Kind) (s : List ℕ) (d : Datagram) (c : Channel) → makes_end (some k) ≡ false →
     find (is_numbered d.channel) (store_in s).channels ≡ some c → Left 5 k s d c

@@ -51,8 +51,8 @@ returns-then-goes_back c =
     c.goes_back.result c.context_in-x.ensures c.u64_at.ensures c.u64_at-2.ensures c.goes_back.ensures in
     rw (at, c.if-goes_back.true)
 
--- THE KIND: the answer is that of the lines behind the fourth, and for a kind that makes an end that of those behind the
--- seventh, on whatever end
+-- THE KIND: the answer is that of the lines behind the fourth, and for a kind that makes an end that of those behind
+-- the seventh, on whatever end
 module _ (s d : List ℕ) (k : Kind) (p : kind_of (kind_in d) ≡ some k) where
   past-4 : goes_back (store_in s) (context_in d) ≡ false → (c : Channel) →
       number_behind 3 (datagram_in d).kind (store_in s) (datagram_in d) c ≡

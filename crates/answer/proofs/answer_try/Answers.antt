@@ -8,7 +8,8 @@ use Rattle.datagram.specs.Datagram.{counterparty_from, version_from, datagram_of
 use Rattle.answer.proofs.answer_try.Goals as goal
 
 -- the version is the rest of the datagram
-version : (d : List ℕ) (at : ℕ) → at ≡ place_of version_part (some open_try) → drop at d ≡ version_from (some open_try) d
+version : (d : List ℕ) (at : ℕ) → at ≡ place_of version_part (some open_try) →
+    drop at d ≡ version_from (some open_try) d
 unfolding version_from
 version d at e = ap (λ (n : ℕ). drop n d) e
 

@@ -29,4 +29,4 @@ unfolding only ◌or◌
 returns-in-OpenInit c = search rules
 
 pub returns-in_default : goal.returns-in_default
-returns-in_default c = other c.args.kind c.in_default.not-OpenInit c.in_default.not-OpenTry
+returns-in_default c = search (rules, other c.args.kind)
