@@ -138,29 +138,29 @@ slot-stays k m cs c r there (adds e) h = refl
 
 -- WHAT IS READ: the kind, the next channel number and the end of the datagram's channel. What is left for the call is
 -- left for them, and the effect that is decided on them is the call's
-module _ (s d : List ℕ) {k : Kind} {n : ℕ} {c : Channel} (p : kind_of (kind_in d) ≡ some k) (q : n ≡ (store_in s).next)
+module _ (s d : List ℕ) {k : Option Kind} {n : ℕ} {c : Channel} (p : k ≡ kind_of (kind_in d)) (q : n ≡ (store_in s).next)
     (r : c ≡ or_none (end_for (store_in s) (datagram_in d))) where
-  pub planned-left : Ready s d → Left (some k) n c (datagram_of (some k) d)
+  pub planned-left : Ready s d → Left k n c (datagram_of k d)
   unfolding datagram_in
-  planned-left h = rw (← p, q, r) h.left
+  planned-left h = rw (p, q, r) h.left
 
-  pub planned-number : {e : Effect} → e ≡ effect_for (some k) n c (datagram_of (some k) d) → n ≤ top → Ready s d →
+  pub planned-number : {e : Effect} → e ≡ effect_for k n c (datagram_of k d) → n ≤ top → Ready s d →
       number_after e.ends n ≤ top
-  planned-number h below o = rw h (number_fits (some k) n c (datagram_of (some k) d) below (planned-left o))
+  planned-number h below o = rw h (number_fits k n c (datagram_of k d) below (planned-left o))
 
-  pub planned-slot : (x : EndEdit) → x ≡ (effect_for (some k) n c (datagram_of (some k) d)).ends →
+  pub planned-slot : (x : EndEdit) → x ≡ (effect_for k n c (datagram_of k d)).ends →
       Ready s d → {at : Found ℕ} → at ≡ first_that (is_numbered (datagram_in d).channel) (store_in s).channels →
       slot_by x at (store_in s).channels ≡ end_slot x (store_in s).channels
   unfolding datagram_in
   planned-slot x h o at =
-      let stays = subst (Stays (some k) c) (sym h) (end_stays (some k) n c (datagram_of (some k) d)) in
+      let stays = subst (Stays k c) (sym h) (end_stays k n c (datagram_of k d)) in
       ap (λ (f : Found ℕ). slot_by x f (store_in s).channels) at ∙
-      slot-stays (some k) (datagram_in d).channel (store_in s).channels c r (rw (← p) o.there) x stays
+      slot-stays k (datagram_in d).channel (store_in s).channels c r (rw p o.there) x stays
 
-  pub planned-effect : {e : Effect} → e ≡ effect_for (some k) n c (datagram_of (some k) d) →
+  pub planned-effect : {e : Effect} → e ≡ effect_for k n c (datagram_of k d) →
       e ≡ effect_in (store_in s) (datagram_in d)
   unfolding effect_in datagram_in
-  planned-effect h = rw (← p, q, r) at h
+  planned-effect h = rw (p, q, r) at h
 
 -- THE ENTRIES of a fit store still fit once the times are others and the next channel number is no lower
 raised_after : (x : EndEdit) (n : ℕ) → n ≤ number_after x n

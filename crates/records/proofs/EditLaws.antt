@@ -45,23 +45,25 @@ spare rs low =
     (λ e. rw e (ltb-true (used_slots rs) (length rs) e, λ h. omega arith))
     (λ e. rw e (omega arith, λ h. absurd (omega arith)))
 
+pub spare-room : (k : Key) (rs : List (Option Record)) (i : ℕ) → slot_for k rs ≡ Some i →
+    let n = spare_slot (length rs) (used_slots rs) in (i ≤ n) × (n < length rs)
+spare-room k rs i h =
+    let at = slot-for k rs i h in
+    let low = place-used rs k in (
+      cases (ltb (used_slots rs) (length rs)) (λ e. rw e (omega arith)) (λ e. rw e (omega (arith, at.1))),
+      (spare rs (omega (arith, at.1))).0,
+    )
+
 -- n is where they end, in a store whose room gives the number of its slots
-pub spare-room : (bs : List ℕ) (r : Record) (i n u : ℕ) → Exact bs → slot_for (key_of r) (store_in bs).records ≡ Some i →
+pub spare-counted : (bs : List ℕ) (r : Record) (i n u : ℕ) → Exact bs → slot_for (key_of r) (store_in bs).records ≡ Some i →
     u ≡ used_slots (store_in bs).records → n ≡ spare_slot ((length bs - records_from) / slot_size) u →
     (n ≡ spare_slot (length (store_in bs).records) (used_slots (store_in bs).records)) × ((i ≤ n) ×
     (n < length (store_in bs).records))
-spare-room bs r i n u exact h used e =
+spare-counted bs r i n u exact h used e =
     let rs : List (Option Record) = (store_in bs).records in
     let count : (length bs - records_from) / slot_size ≡ length rs = omega (arith, exact-room bs exact) in
     let same : n ≡ spare_slot (length rs) (used_slots rs) = e ∙ ap₂ spare_slot count used in
-    let at = slot-for (key_of r) rs i h in
-    let low = place-used rs (key_of r) in (
-      same,
-      (
-        rw same (cases (ltb (used_slots rs) (length rs)) (λ e. rw e (omega arith)) (λ e. rw e (omega (arith, at.1)))),
-        rw same (spare rs (omega (arith, at.1))).0,
-      ),
-    )
+    (same, rw same (spare-room (key_of r) rs i h))
 
 -- the slot of a record that becomes free is in use
 pub used-above : (rs : List (Option Record)) (k : Key) (i u : ℕ) → Ordered rs → first_that (has_key k) rs ≡ Some i →

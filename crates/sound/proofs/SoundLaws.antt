@@ -100,16 +100,35 @@ module _ (d : List ℕ) where
   unfolding is_sound is_body_sound datagram_in
   by_parts e = arranged framed _ _ _ _ e
 
-  -- a frame that is whole
-  pub whole : IsSome (frame_in d) →
-      is_sound d ≡
-      (is_sized (kind_of (kind_in d)) (length d) and (is_context_sound d and is_body_sound (kind_of (kind_in d)) d))
-  unfolding frame_in
-  whole h = cases framed by_parts (λ e. let no = rw e at h in cc)
-
   pub kind-framed : {f : Frame} → frame_in d ≡ Some f → f.kind ≡ kind_in d
   unfolding frame_in kind_in
   kind-framed {f} h = cases framed (λ e. let same = rw e at h in cc) (λ e. let no = rw e at h in cc)
+
+  length-framed : {f : Frame} → frame_in d ≡ Some f → f.length ≡ length d
+  unfolding frame_in
+  length-framed {f} h =
+      cases framed
+      (λ e. let same = rw e at h in let size = eqb-true (field 0 4 d) (length d) (and_both e).1 in cc)
+      (λ e. let no = rw e at h in cc)
+
+  -- a frame of some kind and length
+  pub whole : {f : Frame} → frame_in d ≡ Some f →
+      (f.length ≡ length d) ×
+      (is_sound d ≡ (is_sized (kind_of f.kind) f.length and (is_context_sound d and is_body_sound (kind_of f.kind) d)))
+  unfolding frame_in
+  whole h =
+      let size = length-framed h in
+      (size, rw (kind-framed h, size) (cases framed by_parts (λ e. let no = rw e at h in cc)))
+
+  -- and of those that the bytes have
+  pub whole-bytes : IsSome (frame_in d) →
+      is_sound d ≡
+      (is_sized (kind_of (kind_in d)) (length d) and (is_context_sound d and is_body_sound (kind_of (kind_in d)) d))
+  unfolding frame_in kind_in
+  whole-bytes h =
+      cases framed
+      (λ e. let w = whole {f = record { kind = field 4 2 d; length = field 0 4 d }} (rw e refl) in rw (← w.0) w.1)
+      (λ e. let no = rw e at h in cc)
 
   -- bytes of no kind
   pub unknown : kind_of (kind_in d) ≡ none → is_sound d ≡ false

@@ -1,9 +1,10 @@
 -- Laws of a replay: the store at the front of its room. Assumes nothing.
-use Rattle.std.proofs.Common.{◌≡◌, ℕ, ◌≤◌, true, false, List, ◌++◌, length, take, drop, sym, ap, ◌∙◌, length-take-le, leb-true, refl}
+use Rattle.std.proofs.Common.{◌≡◌, ℕ, ◌≤◌, true, false, List, ◌++◌, length, take, drop, sym, ap, ◌∙◌, length-take-le, leb-true, ne_eqb, refl}
+use borrow.Author.Tests.{eqb-false}
 use Rattle.std.specs.Prelude.{Result, Ok, Err, is_ok}
 use Rattle.wire.proofs.ChoiceLaws.{and_both, clash}
 use Rattle.refusal.specs.declared.Refusal.{Refusal}
-use Rattle.refusal.specs.Number.{answer_of}
+use Rattle.refusal.specs.Number.{answer_of, refusal_number}
 use Rattle.refusal.proofs.NumberLaws.{number_above}
 use Rattle.rules.specs.Call.{told_of}
 use Rattle.openings.specs.Maker.{make_told, make_store}
@@ -32,12 +33,16 @@ unfolding opened_text opened_replay
 opened-made (Ok u) t k e h = (rw e, refl)
 opened-made (Err r) t k e h = clash {b = false} h refl
 
-pub opened-refused : (told : Result Unit Refusal) (t k : ℕ) → t ≡ answer_of told → is_ok told ≡ false →
+pub opened-refused : (t k : ℕ) → (t ≡ 0 → ⊥)
+    → (opened_text t ≡ line_of open_word t ++ line_of end_word 0) × (opened_replay t k ≡ over 0 k)
+unfolding opened_text opened_replay
+opened-refused t k h = let e = ne_eqb t 0 h in (rw e, rw e)
+
+pub opened-err : (told : Result Unit Refusal) (t k : ℕ) → t ≡ answer_of told → is_ok told ≡ false →
     (opened_text (answer_of told) ≡ line_of open_word t ++ line_of end_word 0) ×
     (opened_replay (answer_of told) k ≡ over 0 k)
-unfolding opened_text opened_replay
-opened-refused (Ok u) t k e h = clash {b = true} refl h
-opened-refused (Err r) t k e h = let n = number_above r in (rw (e, n), rw n)
+opened-err (Ok u) t k e h = clash {b = true} refl h
+opened-err (Err r) t k e h = rw e (opened-refused (refusal_number r) k (eqb-false (refusal_number r) 0 (number_above r)))
 
 -- and by whether it is an opening
 pub opening-room : (r : List ℕ) → is_opening r ≡ true → 8 ≤ length r

@@ -1,10 +1,10 @@
 -- Laws of parts of bytes and of the numbers in them, over the width. Assumes nothing.
-use mathlib.Core.Path.{◌≡◌, refl, sym}
+use mathlib.Core.Path.{◌≡◌, refl, sym, ap, ◌∙◌}
 use mathlib.Core.Bool.{Bool, true, false}
 use mathlib.Core.List.{List, [], ◌∷◌, ◌++◌}
-use Prim.Native.Nat.{ℕ, suc, ◌+◌, ◌*◌, ◌^◌, ◌-◌, ◌≤◌, ◌<◌}
-use native.Mathlib.Nat.{suc_inj, suc-ne-zero}
-use native.Mathlib.Nat.{mul_assoc, pow-succ'}
+use Prim.Native.Nat.{ℕ, zero, suc, ◌+◌, ◌*◌, ◌/◌, ◌%◌, ◌^◌, ◌-◌, ◌≤◌, ◌<◌}
+use native.Mathlib.Nat.{zero-add, suc-add, suc_inj, suc-ne-zero}
+use native.Mathlib.Nat.{mul_assoc, pow-succ', mod-add-div, mod-lt}
 use native.Mathlib.Omega.{arith}
 use lib.Dec.{eqb}
 use lib.ListN.{length, get_or, drop, length-drop}
@@ -14,7 +14,7 @@ use mir.Syntax.{w8}
 use mir.Val.{Fits}
 use borrow.Author.Tests.{eq-eqb, ne_eqb, eqb-true, eqb-false}
 use Rattle.wire.specs.Choice.{◌and◌}
-use Rattle.wire.specs.Bytes.{Bytes, same, are_zero, number_of, part, field}
+use Rattle.wire.specs.Bytes.{Bytes, same, are_zero, little, number_of, part, field}
 use Rattle.wire.proofs.ChoiceLaws.{and_assoc}
 use Rattle.wire.proofs.BytesLaws.{length_part}
 
@@ -63,6 +63,30 @@ unfolding field number_of
 field-one i bs h = rw (part-one i bs h) (omega arith)
 
 pub ruleset one_byte = (field-one)
+
+little-join : (n m a b : ℕ) → a < 256 ^ n → little (n + m) (a + 256 ^ n * b) ≡ little n a ++ little m b
+unfolding little
+little-join zero m a b h =
+    let z : a + 1 * b ≡ b = omega arith in
+    rw (zero-add m, z)
+little-join (suc n) m a b h =
+    let k : ℕ = 256 ^ n * b in
+    let low : (a + 256 * k) % 256 ≡ a % 256 = omega arith in
+    let high : (a + 256 * k) / 256 ≡ a / 256 + k = omega arith in
+    let rest = little-join n m (a / 256) b (omega (arith, pow-succ' 256 n)) in
+    rw (suc-add n m, pow-succ' 256 n, mul_assoc 256 (256 ^ n) b, low, high, rest)
+
+pow_pos : (n : ℕ) → 0 < 256 ^ n
+pow_pos zero = omega arith
+pow_pos (suc n) =
+    let h : 0 < 256 ^ n = pow_pos n in
+    omega (arith, pow-succ' 256 n)
+
+-- and stored as its low n and then its high m
+pub little-split : (n m x : ℕ) → little (n + m) x ≡ little n (x % 256 ^ n) ++ little m (x / 256 ^ n)
+little-split n m x =
+    ap (little (n + m)) (sym (mod-add-div x (256 ^ n)))
+    ∙ little-join n m (x % 256 ^ n) (x / 256 ^ n) (mod-lt x (pow_pos n))
 
 -- A PART OF A PART, for a number and for a byte in it
 pub part-part : (i n at m : ℕ) (bs : List ℕ) → i + n ≤ m → part i n (part at m bs) ≡ part (at + i) n bs

@@ -67,7 +67,7 @@ decide-decision-requires c =
     let sound = sound-is d c.requires.0.sound in
     let kind = decoded _ _ _ (rw c.kind_in.ensures at c.try_from.ensures) c.unwrap-kind.ensures in (
       long d sound kind,
-      planned-left s d kind (next s c.u64_at-next.ensures)
+      planned-left s d (sym kind) (next s c.u64_at-next.ensures)
           (end s d (number d kind c.channel_in-number.ensures) c.end_of-c.ensures) c.requires.0,
     )
 
@@ -80,7 +80,7 @@ number_after-requires c =
     let d = c.args.datagram.now in
     let kind = decoded _ _ _ (rw c.kind_in.ensures at c.try_from.ensures) c.unwrap-kind.ensures in
     let below : c.u64_at-next.result ≤ top = omega arith in
-    planned-number s d kind (next s c.u64_at-next.ensures)
+    planned-number s d (sym kind) (next s c.u64_at-next.ensures)
     (end s d (number d kind c.channel_in-number.ensures) c.end_of-c.ensures) c.decide-decision.ensures below c.requires.0
 
 pub end_slot-requires : goal.end_slot-requires
@@ -100,11 +100,11 @@ returns c =
     c.find_channel-found.ensures ∙ ap (λ (n : ℕ). first_that (is_numbered n) (store_in s).channels) channel in
     record {
       context = c.context_in.ensures;
-      effect = planned-effect s d kind after about c.decide-decision.ensures;
+      effect = planned-effect s d (sym kind) after about c.decide-decision.ensures;
       slots =
           record {
             end =
-                c.end_slot.ensures ∙ planned-slot s d kind after about (ends_by c.decide-decision.result.ends) ends
+                c.end_slot.ensures ∙ planned-slot s d (sym kind) after about (ends_by c.decide-decision.result.ends) ends
                 c.requires.0 found;
             next = c.number_after.ensures ∙ ap (number_after (ends_by c.decide-decision.result.ends)) after;
             edit = c.slot_of.ensures;

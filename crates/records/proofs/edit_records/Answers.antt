@@ -9,7 +9,7 @@ use Rattle.slots.specs.Effect.{with_records}
 use Rattle.slots.proofs.EffectLaws.{exact-room}
 use Rattle.records.specs.declared.RecordEdit.{RecordEdit}
 use Rattle.records.specs.Edited.{edit_by, slot_of, spare_slot, with_edit}
-use Rattle.records.proofs.EditLaws.{slot-below, spare-room, used-above, written, freed, unedited}
+use Rattle.records.proofs.EditLaws.{slot-below, spare-counted, used-above, written, freed, unedited}
 use Rattle.records.proofs.edit_records.Goals as goal
 
 -- the slot of the edit that is carried out
@@ -36,7 +36,7 @@ pub overflow_sub-spare : goal.overflow_sub-spare
 overflow_sub-spare c =
     let bs = c.args.store.now in
     let at = found (store_in bs).records c.requires.3 c.in-Some.is c.in-Writes.is in
-    let k = spare-room bs c.in-Writes.record c.in-Some.i c.spare_slot-spare.result c.args.used c.requires.0 at
+    let k = spare-counted bs c.in-Writes.record c.in-Some.i c.spare_slot-spare.result c.args.used c.requires.0 at
     c.requires.2 c.spare_slot-spare.ensures in
     k.1.0
 
@@ -44,7 +44,7 @@ pub insert_record-requires : goal.insert_record-requires
 insert_record-requires c =
     let bs = c.args.store.now in
     let at = found (store_in bs).records c.requires.3 c.in-Some.is c.in-Writes.is in
-    let k = spare-room bs c.in-Writes.record c.in-Some.i c.spare_slot-spare.result c.args.used c.requires.0 at
+    let k = spare-counted bs c.in-Writes.record c.in-Some.i c.spare_slot-spare.result c.args.used c.requires.0 at
     c.requires.2 c.spare_slot-spare.ensures in
     (c.requires.0, omega (arith, k.1.0, k.1.1))
 
@@ -76,7 +76,7 @@ returns-in-Writes c =
     let n = c.spare_slot-spare.result in
     let i = c.in-Some.i in
     let at = found s.records c.requires.3 c.in-Some.is c.in-Writes.is in
-    let k = spare-room bs c.in-Writes.record i n c.args.used c.requires.0 at c.requires.2 c.spare_slot-spare.ensures in
+    let k = spare-counted bs c.in-Writes.record i n c.args.used c.requires.0 at c.requires.2 c.spare_slot-spare.ensures in
     let ends : i + (n - i) ≡ spare_slot (length s.records) (used_slots s.records) = omega (arith, k.0, k.1.0) in
     c.insert_record.ensures ∙ written s i (n - i) c.in-Writes.record c.requires.1 at ends ∙
     ap (λ (e : RecordEdit). bytes_of (with_edit s (edit_by e))) (sym c.in-Writes.is)
