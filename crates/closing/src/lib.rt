@@ -1,5 +1,5 @@
 // The answer to a datagram that closes an end, and to a time-out by the other end's close, by the lines of the table
-// that are for its kind, in their order: 0 where none applies. Each function takes the parts of a datagram that its
+// that are for its kind, in their order: `Ok` where none applies. Each function takes the parts of a datagram that its
 // lines look at, and promises the answer for all that have them.
 #![tactic(auto)]
 

@@ -27,7 +27,7 @@ fn same_but_version(a: Channel, b: Channel) -> bool
         && a.next == b.next
 }
 
-// For 7 to 9, 11 and 12: 140 the claim, 145 the record but for its version; 0 where none of them differs.
+// For 7 to 9, 11 and 12: 140 the claim, 145 the record but for its version; `Ok` where none of them differs.
 #[tactic(auto, using(slots::proofs::FieldLaws::by_fields), unfolding(rules::specs::Verdict::first_end_difference))]
 pub fn end_difference(v: EndVerdict, needed: Channel) -> Result<(), Refusal>
     ensures { answer_of result ≡ first_end_difference v needed }

@@ -1,6 +1,6 @@
-// The answer to each kind of datagram about packets, by the lines of the table that are for it, in their order: 0 where
-// none applies. Each function takes the parts of a datagram that its lines look at, and promises the answer for all
-// that have them.
+// The answer to each kind of datagram about packets, by the lines of the table that are for it, in their order: `Ok`
+// where none applies. Each function takes the parts of a datagram that its lines look at, and promises the answer for
+// all that have them.
 #![tactic(auto)]
 
 ghost use Rattle.std.specs.Prelude.{◌≡◌, not};

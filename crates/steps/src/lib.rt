@@ -1,4 +1,4 @@
-// The answer to each step of the opening handshake, by the lines of the table that are for its kind, in their order: 0
+// The answer to each step of the opening handshake, by the lines of the table that are for its kind, in their order: `Ok`
 // where none applies. Each function takes the parts of a datagram that its lines look at, and promises the answer for
 // all that have them.
 #![tactic(auto)]
