@@ -1,5 +1,5 @@
-// Line 14, a verdict against what is needed of it: the refusal for the part that differs first, `Ok` where none does. And
-// of line 15, what a verdict says of the packet's turn.
+// Line 14, a verdict against what is needed of it: the refusal for the part that differs first, `Ok` where none does.
+// And of line 15, what a verdict says of the packet's turn.
 #![tactic(auto)]
 
 ghost use Rattle.std.specs.Prelude.{◌≡◌};
