@@ -49,7 +49,10 @@ fn is_plain(s: &[u8], at: usize, size: usize) -> bool
 
 // Where the run that starts at slot i ends, with so many zero bytes behind each key. The first eight bytes of a record
 // are its kind, two zero bytes and its channel: they are compared as one number. Where not even slot i passes, it ends
-// there. The loop goes by the place alone, so that the processor has one number less to keep.
+// there. The loop goes by the place alone, so that the processor has one number less to keep. It is the place behind the
+// slot: so each read stands at an offset from it, and is as many bytes of code in one register as in another. At the
+// place of the slot itself the first read is a byte shorter in some registers, the tests and jumps behind it then lie
+// across lines of code, and some processors decode such a jump anew in each turn.
 fn run_end(s: &[u8], count: usize, i: usize, size: usize) -> usize
     requires { ((length s.now ≡ size_for count) × (i < count)) × (16 + size ≤ slot_size) }
     ensures { RunEnd s.now count size i result }
@@ -58,8 +61,9 @@ fn run_end(s: &[u8], count: usize, i: usize, size: usize) -> usize
     let word = u64_at(s, first);
     let end = Layout::RECORDS_FROM + Layout::SLOT * count;
     let mut last: u64 = 0;
-    let mut at = first;
-    while at < end {
+    let mut behind = first + Layout::SLOT;
+    while behind <= end {
+        let at = behind - Layout::SLOT;
         if u64_at(s, at) != word {
             return (at - Layout::RECORDS_FROM) / Layout::SLOT;
         }
@@ -71,9 +75,9 @@ fn run_end(s: &[u8], count: usize, i: usize, size: usize) -> usize
             return (at - Layout::RECORDS_FROM) / Layout::SLOT;
         }
         last = next;
-        at += Layout::SLOT;
+        behind += Layout::SLOT;
     }
-    (at - Layout::RECORDS_FROM) / Layout::SLOT
+    (behind - Layout::SLOT - Layout::RECORDS_FROM) / Layout::SLOT
 }
 
 // The same by the kind of its first record: a loop for each number of zero bytes.
