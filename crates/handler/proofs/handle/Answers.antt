@@ -1,11 +1,11 @@
 -- An unfit store is line 1; else the answer decides: a refusal has written nothing, and acceptance is `accept`. Assumes
 -- nothing.
-use Rattle.std.specs.Prelude.{Err}
-use Rattle.std.proofs.Common.{◌≡◌, sym, ◌∙◌, arith}
+use Rattle.std.specs.Prelude.{Ok, Err}
+use Rattle.std.proofs.Common.{◌≡◌, ℕ, ap, sym, ◌∙◌, arith}
 use Rattle.slots.specs.Fit.{is_fit}
 use Rattle.fit.proofs.UsedLaws.{used-fit, used-unfit}
 use Rattle.refusal.specs.Number.{refusal_number}
-use Rattle.rules.specs.Call.{answer_to}
+use Rattle.rules.specs.Call.{told_of, answer_to}
 use Rattle.handler.proofs.CallLaws.{refused_call, unfit_call, accepted_call}
 use Rattle.handler.proofs.handle.Goals as goal
 
@@ -33,6 +33,10 @@ accept-requires c =
     let s = c.args.store.now in
     (grind arith, (used-fit (is_fit s) s c.in-Some.used (sym c.used_if_fit.ensures ∙ c.in-Some.is)).1)
 
+-- equal lengths are told alike
+told-same : (n m : ℕ) → n ≡ m → told_of (Ok n) ≡ told_of (Ok m)
+told-same n m h = ap (λ k. told_of (Ok k)) h
+
 pub returns : goal.returns
 unfolding answer_to
 returns c =
@@ -40,4 +44,8 @@ returns c =
     let zero : answer_to a.store.now a.output.now a.datagram.now ≡ 0 = grind arith in
     let call = accepted_call a.store.now a.output.now a.datagram.now zero in
     let left = c.accept.ensures in
-    record { told = rw left.size call.told; store = rw left.store call.store; output = rw left.output call.output }
+    record {
+      told = told-same _ c.accept.result (omega arith) ∙ rw left.size call.told;
+      store = rw left.store call.store;
+      output = rw left.output call.output;
+    }
